@@ -1,0 +1,2 @@
+pub mod Parts
+mod Moves

@@ -1,0 +1,4 @@
+pub mod Words
+pub mod Laws
+pub mod Runs
+pub mod Bytes
