@@ -1,0 +1,19 @@
+pub mod Base
+pub mod Concept
+pub mod Pool
+pub mod Normalize
+pub mod Inverse
+pub mod State
+pub mod Antecedents
+pub mod Heads
+pub mod Axioms
+pub mod Reflexive
+pub mod Branches
+pub mod Stats
+pub mod Text
+pub mod Deck
+pub mod Run
+pub mod Lister
+pub mod Ascii
+pub mod Compute
+mod Worked

@@ -1,0 +1,1 @@
+// The definition of each rule; there is no code here. See specs/.
