@@ -13,6 +13,8 @@ pub mod Stats
 pub mod Text
 pub mod Deck
 pub mod Run
+pub mod Post
+pub mod Invariants
 pub mod Lister
 pub mod Ascii
 pub mod Compute
