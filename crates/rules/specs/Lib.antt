@@ -15,7 +15,14 @@ pub mod Deck
 pub mod Run
 pub mod Post
 pub mod Invariants
+pub mod TextLaws
+pub mod DeckLaws
 pub mod Lister
 pub mod Ascii
 pub mod Compute
-mod Worked
+pub mod Semantics
+pub mod Decode
+pub mod Statements
+pub mod Decided
+pub mod Cases
+pub mod Tried

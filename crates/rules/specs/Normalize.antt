@@ -134,6 +134,4 @@ nnfAxiom (InverseObjectProperties r s) = return (InverseObjectProperties r s)
 nnfAxiom (SubObjectPropertyOf r s) = return (SubObjectPropertyOf r s)
 nnfAxiom (EquivalentObjectProperties l) = return (EquivalentObjectProperties l)
 nnfAxiom (ReflexiveRole r) = return (ReflexiveRole r)
-nnfAxiom (ClassAssertion c i) = do
-  d ← nnf c
-  return (ClassAssertion d i)
+nnfAxiom (ClassAssertion c i) = nnf c >>= (λ d. return (ClassAssertion d i))

@@ -1,6 +1,7 @@
 //! What the original clausifier answers to a deck: from its unmodified build and from its instrumented copy, which must
 //! agree.
 
+pub mod decided;
 mod listing;
 mod stages;
 
