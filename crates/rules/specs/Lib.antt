@@ -15,6 +15,10 @@ pub mod Deck
 pub mod Run
 pub mod Post
 pub mod Invariants
+pub mod JointLaws
+pub mod PoolLaws
+pub mod DepthLaws
+pub mod NormalizeLaws
 pub mod TextLaws
 pub mod DeckLaws
 pub mod Lister

@@ -1,0 +1,1 @@
+// What the rules mean; there is no code here. See specs/.
