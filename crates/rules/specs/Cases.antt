@@ -172,10 +172,10 @@ worked = record {
       "          9          0          1" ∷
       "         21          0          2" ∷ [];
   visits = 1000000;
-    clauses = 1024;
-    atoms = 2048;
-    deferred = 256;
-    listing =
+  clauses = 1024;
+  atoms = 2048;
+  deferred = 256;
+  listing =
       "         41          0          1          1" ∷
       "         42          1          0          1          0          0          0" ∷
       "         42          3          0          2          0          0          0" ∷

@@ -57,9 +57,12 @@ abbrev pub sameTruth : Bool → Bool → Bool
 sameTruth a b = implies a b && implies b a
 
 -- an inverse turns the pairs
+abbrev pub pairsOf : (ℕ → ℕ → ℕ → Bool) → Role → ℕ → ℕ → Bool
+pairsOf role (Named r) x y = role r x y
+pairsOf role (Inverse r) x y = role r y x
+
 abbrev pub related : Interpretation → Role → ℕ → ℕ → Bool
-related I (Named r) x y = I .role r x y
-related I (Inverse r) x y = I .role r y x
+related I r x y = pairsOf (I .role) r x y
 
 -- ---- class expressions, given what the ids in a record mean
 abbrev pub conceptMeans : Interpretation → (ℕ → ℕ → Bool) → Concept → ℕ → Bool
