@@ -3,17 +3,15 @@
 use mathlib.Core.Bool.{Bool, true, false}
 use mathlib.Core.List.{List, [], _∷_, _++_}
 use mathlib.Core.Option.{Option, none, some}
-use Prim.Native.Nat.{ℕ, zero, suc}
-use lib.ListN.{length}
-use lib.Dec.{leb, eqb}
+use Prim.Native.Nat.{ℕ, suc}
+use lib.Dec.{eqb}
 use Rattle.ir.specs.Pick.{pick}
 use Rattle.ir.specs.Roles.{roleCode}
 use Rattle.ir.specs.declared.role.Role.{Role}
 use Rattle.ir.specs.declared.atom.Atom.{Atom}
 use Rattle.ir.specs.declared.atom.Atom.the-variants.{Class, Role as RoleAtom}
-use Rattle.ir.specs.declared.deferral.Deferral.{Deferral}
 use Rattle.ir.specs.declared.deferral.Deferral.the-variants.{DisjointAntecedent, DisjointUnionMember, DisjointUnionCovering, RoleChainLenNe2, Antecedent}
-use Rattle.rules.specs.Base.{Res, ok, refused, M, then, _>>=_, _>>_, return, refuse, each, forEach}
+use Rattle.rules.specs.Base.{Res, ok, refused, M, _>>=_, _>>_, return, refuse, each, forEach}
 use Rattle.rules.specs.Concept.{Concept, Axiom}
 use Rattle.rules.specs.Concept.{Top, Bot, Atomic, Nominal, SelfRestriction, Not, And, Or, Some, All, Min, Max}
 use Rattle.rules.specs.Concept.{SubClassOf, EquivalentClasses, DisjointClasses, DisjointUnion, ObjectPropertyDomain, ObjectPropertyRange, SubChain, TransitiveRole, IrreflexiveRole, AsymmetricRole, DisjointObjectProperties, InverseObjectProperties, SubObjectPropertyOf, EquivalentObjectProperties, ReflexiveRole, ClassAssertion}

@@ -1,6 +1,6 @@
 -- Concepts over pool ids (ir.rs) and axioms (ontology.rs), with their rows: a kind and its numbers, as a deck has them.
 use mathlib.Core.Bool.{Bool}
-use mathlib.Core.List.{List, [], _∷_, map}
+use mathlib.Core.List.{List, [], _∷_}
 use Prim.Native.Nat.{ℕ}
 use Rattle.ir.specs.declared.role.Role.{Role}
 use Rattle.ir.specs.Roles.{roleCode}

@@ -1,7 +1,7 @@
 -- The deck: each line is checked for 3 to 9 in turn, from the lines before it. (2 is the text's.)
-use mathlib.Core.Bool.{Bool, true, false, not, _&&_, _||_}
+use mathlib.Core.Bool.{Bool, true, false, _&&_}
 use mathlib.Core.List.{List, [], _∷_, _++_, map}
-use Prim.Native.Nat.{ℕ, zero, suc, _+_, _-_, _/_}
+use Prim.Native.Nat.{ℕ, zero, suc, _+_}
 use lib.ListN.{length, getD, drop}
 use lib.Dec.{eqb, ltb, leb}
 use Rattle.ir.specs.Pick.{pick}

@@ -20,20 +20,13 @@ use Rattle.rules.specs.Concept.{SubClassOf, EquivalentClasses, DisjointC
 use Rattle.rules.specs.Pool.{Pool, at, width, members}
 use Rattle.rules.specs.Deck.{mostBytes, mostClasses, mostIndividuals, mostRoles, mostOptions, mostListed, mostConceptLines, mostAxioms, mostDepth, sections, sectionOf, listOf, roleAt, conceptOf, axiomOf, Header, headerOf, Known, known, inOrder, fieldsOk, shapeOk, headerOk, roomOk, limitsOk, roleOk, conceptNamesOk, axiomNamesOk, namesOk, partsOf, deepest, depthOf, nestOk, rising, Member, memberOf, underAnd, underOr, listOk, membersOk, boundOk, conceptVerdict, verdict, entered, Told, fine, refused, onVerdict, onRow, readBy, nothing, readLines, readDeck}
 use Rattle.rules.specs.Invariants.{Each, Bounds, RoleIn, Bounded, Wf, InAnd, InOr, RisingFrom, TwoRising, AxiomIn}
-use Rattle.rules.specs.TextLaws.{and-true, by-test, pick-by, each-append, each-getD, linesOf, RowRead, Reads, row-reads}
+use Rattle.rules.specs.TextLaws.{and-true, by-test, pick-by, each-getD, linesOf, RowRead, Reads, row-reads}
+use Rattle.rules.specs.EachLaws.{each-map, each-both, each-append}
 
 -- ---- tests and lists
 pub all-each : {A : Type 0} (p : A → Bool) (P : A → Type 0) → ((a : A) → p a ≡ true → P a) → (l : List A) → all p l ≡ true → Each P l
 all-each p P f [] h = tt
 all-each p P f (x ∷ l) h = let g = and-true (p x) (all p l) h in (f x (g .0), all-each p P f l (g .1))
-
-pub each-map : {A : Type 0} (P Q : A → Type 0) → ((a : A) → P a → Q a) → (l : List A) → Each P l → Each Q l
-each-map P Q f [] h = tt
-each-map P Q f (x ∷ l) h = (f x (h .0), each-map P Q f l (h .1))
-
-pub each-both : {A : Type 0} (P Q R : A → Type 0) → ((a : A) → P a → Q a → R a) → (l : List A) → Each P l → Each Q l → Each R l
-each-both P Q R f [] h g = tt
-each-both P Q R f (x ∷ l) h g = (f x (h .0) (g .0), each-both P Q R f l (h .1) (g .1))
 
 pub or-false : (a b : Bool) → (a || b) ≡ false → (a ≡ false) × (b ≡ false)
 or-false true b h = absurd (true≢false h)

@@ -14,8 +14,9 @@ use Rattle.rules.specs.Text.{mostNumber}
 use Rattle.rules.specs.Deck.{partsOf}
 use Rattle.rules.specs.Post.{Post, post-map}
 use Rattle.rules.specs.Invariants.{Each, Bounds, RoleIn, Bounded, Wf, Grown, TwoRising}
-use Rattle.rules.specs.JointLaws.{each-map, each-with, Joint, conj, disj, listOf, mkJoint, Offers, joint-post}
+use Rattle.rules.specs.JointLaws.{Joint, conj, disj, listOf, mkJoint, Offers, joint-post}
 use Rattle.rules.specs.PoolLaws.{post-both, grown-at, intern-made, intern-at, list-bounded, operand-below}
+use Rattle.rules.specs.EachLaws.{each-map, each-both}
 
 -- ---- the greatest of g over a list
 abbrev pub deepestOf : (ℕ → ℕ) → List ℕ → ℕ
@@ -92,7 +93,7 @@ module _ (B : Bounds) (p : Pool) (w : Wf B p) where
 
   pub joint-depth : (j : Joint) (args : List ℕ) → Each (λ a. a < length p) args → Post (λ i q. depth q i ≤ suc (deepestOf (depth p) args)) (mkJoint j args p)
   joint-depth j args h = joint-post Shallow (λ i q. depth q i ≤ suc m) p j args
-      (each-with (λ a. a < length p) (λ a. depth p a ≤ m) (Offers Shallow p j) offers args h (most-deepest (depth p) m args (omega arith)))
+      (each-both (λ a. a < length p) (λ a. depth p a ≤ m) (Offers Shallow p j) offers args h (most-deepest (depth p) m args (omega arith)))
       (post-map (intern-depth Top tt) (λ i q e. omega arith)) (post-map (intern-depth Bot tt) (λ i q e. omega arith)) (λ a k. omega arith) many
     where
       m : ℕ
@@ -105,7 +106,7 @@ module _ (B : Bounds) (p : Pool) (w : Wf B p) where
       offers a k i = (
         λ _. (k, i),
         λ l e.
-            each-with (λ c. c < a) (λ c. depth p c ≤ m) Shallow (λ c x y. (omega arith, y)) l (operand-below B p j a w k l e)
+            each-both (λ c. c < a) (λ c. depth p c ≤ m) Shallow (λ c x y. (omega arith, y)) l (operand-below B p j a w k l e)
             (most-deepest (depth p) m l (omega (arith, depth-record B p a w k, ap (λ z. deepestOf (depth p) (partsOf z)) e, list-deepest (depth p) j l))),
       )
 

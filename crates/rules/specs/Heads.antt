@@ -1,7 +1,7 @@
 -- clause.rs: emit_head, cardinality_qualifier, head_atom_for and atomic_name_of. Only emit_head calls itself, through
 -- whichever of the others, and on smaller ids; so they take it as an argument.
 use mathlib.Core.Bool.{Bool, true, false, not, _||_}
-use mathlib.Core.List.{List, [], _∷_, _++_}
+use mathlib.Core.List.{List, [], _∷_}
 use mathlib.Core.Option.{Option, none, some}
 use Prim.Native.Nat.{ℕ, zero, suc, _+_}
 use lib.Dec.{eqb}
@@ -11,11 +11,11 @@ use Rattle.ir.specs.declared.atom.Atom.the-variants.{Class, Exists, AtMost, AtL
 use Rattle.ir.specs.declared.atom.Qualifier.{Qualifier}
 use Rattle.ir.specs.declared.atom.Qualifier.the-variants.{Unqualified, Qualified}
 use Rattle.ir.specs.declared.deferral.Deferral.the-variants.{HeadOrDisjunct, HeadNotNonatomic}
-use Rattle.rules.specs.Base.{M, then, _>>=_, _>>_, return, refuse, forEach}
+use Rattle.rules.specs.Base.{return, refuse, forEach}
 use Rattle.rules.specs.Concept.{Concept}
 use Rattle.rules.specs.Concept.{Top, Bot, Atomic, Nominal, SelfRestriction, Not, And, Or, Some, All, Min, Max}
 use Rattle.rules.specs.Pool.{Pool, at}
-use Rattle.rules.specs.State.{Env, Out, E, canon, visit, freshVar, freshClass, with, push, defer, classIdOf, isDkey}
+use Rattle.rules.specs.State.{Env, E, canon, visit, freshVar, freshClass, with, push, defer, classIdOf, isDkey}
 
 -- body, concept, variable
 abbrev pub Emits : Type 0

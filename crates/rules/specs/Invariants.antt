@@ -1,7 +1,6 @@
 -- What holds of every run, as types: pools, normal forms, atoms and clauses within their bounds. The laws are proved in the
 -- files that are named for the rules' own (PoolLaws, NormalizeLaws, ..).
 use mathlib.Core.Path.{_≡_}
-use mathlib.Core.Bool.{Bool, true, false}
 use mathlib.Core.List.{List, [], _∷_, _++_}
 use Prim.Native.Nat.{ℕ, zero, suc, _+_, _<_, _≤_}
 use lib.ListN.{length}

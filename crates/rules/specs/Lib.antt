@@ -15,10 +15,17 @@ pub mod Deck
 pub mod Run
 pub mod Post
 pub mod Invariants
+pub mod EachLaws
+pub mod LinedPost
 pub mod JointLaws
 pub mod PoolLaws
 pub mod DepthLaws
 pub mod NormalizeLaws
+pub mod EmitLaws
+pub mod AntecedentLaws
+pub mod ShapeLaws
+pub mod HeadLaws
+pub mod AxiomLaws
 pub mod TextLaws
 pub mod DeckLaws
 pub mod Lister

@@ -1,7 +1,6 @@
 -- normalize.rs: negation normal form. A visit is an entry, with a concept, to to_nnf or push_negation_in; refusal 10 where
 -- one would begin beyond the limit.
 use mathlib.Core.Bool.{Bool, true, false}
-use mathlib.Core.List.{List, [], _∷_}
 use Prim.Native.Nat.{ℕ, zero, suc, _+_}
 use lib.Dec.{ltb}
 use Rattle.rules.specs.Base.{Res, ok, refused, then, M, _>>=_, return, refuse, each}

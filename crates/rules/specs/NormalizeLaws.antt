@@ -18,13 +18,15 @@ use Rattle.rules.specs.Concept.{Top, Bot, Atomic, Nominal, SelfRestricti
 use Rattle.rules.specs.Pool.{Pool, at, internRaw, mkMin}
 use Rattle.rules.specs.Deck.{partsOf}
 use Rattle.rules.specs.Normalize.{St, N, begun, visit, backIn, inPool, nnfStep, negationStep, toNnf, pushNegationIn, nnfAxiom}
-use Rattle.rules.specs.Run.{Lined, done, stopped, lined, linedThen, nnfAxioms}
+use Rattle.rules.specs.Run.{done, nnfAxioms}
 use Rattle.rules.specs.Post.{Post, gives, refuses, give, post-then, post-map}
 use Rattle.rules.specs.Invariants.{Each, Bounds, RoleIn, Bounded, Wf, Grown, Made, NormalStep, Normal, AxiomIn}
-use Rattle.rules.specs.JointLaws.{each-map, each-with, Joint, conj, disj, mkJoint}
+use Rattle.rules.specs.JointLaws.{Joint, conj, disj, mkJoint}
 use Rattle.rules.specs.PoolLaws.{post-both, grown-refl, grown-trans, grown-length, below-more, IsNormal, normal-grown, record-normal, Small}
 use Rattle.rules.specs.PoolLaws.{intern-made, intern-normal, small-kept, min-made, min-normal, min-small, joint-made, joint-normal, joint-small}
 use Rattle.rules.specs.DepthLaws.{deepestOf, deepest-most, most-deepest, depthIn, depth, depth-record, depth-grown, deepest-grown, intern-depth, min-depth, joint-depth}
+use Rattle.rules.specs.EachLaws.{each-map, each-both}
+use Rattle.rules.specs.LinedPost.{LinedPost, finish, lined-post, lined-then}
 
 -- ---- what a run of these rules does to its state
 pub record Ran (B : Bounds) (s t : St) : Type 0 where
@@ -268,9 +270,9 @@ AxiomShallow m p = AxiomEach (λ c. depthIn (suc c) p c ≤ m)
 
 pub axiom-map : (B : Bounds) (n : ℕ) (P Q : ℕ → Type 0) → ((c : ℕ) → c < n → P c → Q c) → (a : Axiom) → AxiomIn B n a → AxiomEach P a → AxiomEach Q a
 axiom-map B n P Q f (SubClassOf sub sup) b h = (f sub (b .0) (h .0), f sup (b .1) (h .1))
-axiom-map B n P Q f (EquivalentClasses l) b h = each-with (λ c. c < n) P Q f l b h
-axiom-map B n P Q f (DisjointClasses l) b h = each-with (λ c. c < n) P Q f l b h
-axiom-map B n P Q f (DisjointUnion a l) b h = each-with (λ c. c < n) P Q f l (b .1) h
+axiom-map B n P Q f (EquivalentClasses l) b h = each-both (λ c. c < n) P Q f l b h
+axiom-map B n P Q f (DisjointClasses l) b h = each-both (λ c. c < n) P Q f l b h
+axiom-map B n P Q f (DisjointUnion a l) b h = each-both (λ c. c < n) P Q f l (b .1) h
 axiom-map B n P Q f (ObjectPropertyDomain r c) b h = f c (b .1) h
 axiom-map B n P Q f (ObjectPropertyRange r c) b h = f c (b .1) h
 axiom-map B n P Q f (SubChain sup parts) b h = tt
@@ -358,24 +360,6 @@ module _ (B : Bounds) where
   nnf-axiom-made (ClassAssertion c i) s w h = post-then (nnf-done B (suc c) c s w (h .0) (omega arith)) (λ x t D.
       give (record { ran = D .ran; inside = (D .held, h .1); normal = D .normal; shallow = λ m d. omega (arith, D .shallow) }))
 
--- ---- all axioms, each over the last pool
--- what holds of an answer with a line, if it is one
-pub data LinedPost {S A : Type 0} (Q : A → S → Type 0) : Lined S A → Type 0 where
-  finishes : {a : A} {s : S} → Q a s → LinedPost Q (done a s)
-  stops : {k line : ℕ} → LinedPost Q (stopped k line)
-
-pub finish : {S A : Type 0} {Q : A → S → Type 0} {a : A} {s : S} → Q a s → LinedPost Q (done a s)
-finish h = finishes h
-
-pub lined-post : {S A : Type 0} {Q : A → S → Type 0} {r : Res S A} (line : ℕ) → Post Q r → LinedPost Q (lined line r)
-lined-post line (gives h) = finishes h
-lined-post line refuses = stops
-
-pub lined-then : {S T A B : Type 0} {P : A → S → Type 0} {Q : B → T → Type 0} {r : Lined S A} {f : A → S → Lined T B}
-    → LinedPost P r → ((a : A) (s : S) → P a s → LinedPost Q (f a s)) → LinedPost Q (linedThen r f)
-lined-then (finishes {a = a} {s = s} h) k = k a s h
-lined-then stops k = stops
-
 pub record AxiomsMade (B : Bounds) (s : St) (l k : List Axiom) (t : St) : Type 0 where
   pub ran : Ran B s t
   pub inside : Each (AxiomIn B (length (t .pool))) k
@@ -401,7 +385,7 @@ nnf-axioms-made B line (a ∷ l) s w h =
       normal = (axiom-normal-grown B (t .pool) (u .pool) (D .ran .wf) (E .ran .grows) b (D .inside) (D .normal), E .normal);
       shallow = λ m d. (
         axiom-shallow-grown B m (t .pool) (u .pool) (D .ran .wf) (E .ran .grows) b (D .inside) (D .shallow m (d .0)),
-        E .shallow m (each-with (AxiomIn B (length (s .pool))) (AxiomShallow m (s .pool)) (AxiomShallow m (t .pool))
+        E .shallow m (each-both (AxiomIn B (length (s .pool))) (AxiomShallow m (s .pool)) (AxiomShallow m (t .pool))
             (axiom-shallow-grown B m (s .pool) (t .pool) w (D .ran .grows)) l (h .1) (d .1)),
       );
     })))

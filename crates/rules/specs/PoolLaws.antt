@@ -23,7 +23,8 @@ use Rattle.rules.specs.Pool.{Pool, at, mostConcepts, mostMembers, foundI
 use Rattle.rules.specs.Deck.{conceptOf}
 use Rattle.rules.specs.Post.{Post, gives, refuses, give, post-map}
 use Rattle.rules.specs.Invariants.{Each, Bounds, RoleIn, Bounded, Wf, Grown, Made, IsLiteral, InAnd, InOr, TwoRising, NormalStep, Normal}
-use Rattle.rules.specs.JointLaws.{each-map, each-any, each-with, Joint, conj, disj, listOf, InList, mkJoint, Offers, joint-post}
+use Rattle.rules.specs.JointLaws.{Joint, conj, disj, listOf, InList, mkJoint, Offers, joint-post}
+use Rattle.rules.specs.EachLaws.{each-map, each-any, each-both}
 
 -- ---- two properties of one run
 pub post-both : {S A : Type 0} {P Q : A → S → Type 0} {r : Res S A} → Post P r → Post Q r → Post (λ a s. P a s × Q a s) r
@@ -87,13 +88,13 @@ normal-step B N O p q n same more (SelfRestriction _) b h = tt
 normal-step B N O p q n same more (Not c) b h = rw (same c b) h
 normal-step B N O p q n same more (And l) b h = (
   h .0,
-  each-with (λ c. c < n) (λ c. InAnd (at p c)) (λ c. InAnd (at q c)) (λ c k i. rw (same c k) i) l b (h .1),
-  each-with (λ c. c < n) N O more l b (h .2),
+  each-both (λ c. c < n) (λ c. InAnd (at p c)) (λ c. InAnd (at q c)) (λ c k i. rw (same c k) i) l b (h .1),
+  each-both (λ c. c < n) N O more l b (h .2),
 )
 normal-step B N O p q n same more (Or l) b h = (
   h .0,
-  each-with (λ c. c < n) (λ c. InOr (at p c)) (λ c. InOr (at q c)) (λ c k i. rw (same c k) i) l b (h .1),
-  each-with (λ c. c < n) N O more l b (h .2),
+  each-both (λ c. c < n) (λ c. InOr (at p c)) (λ c. InOr (at q c)) (λ c k i. rw (same c k) i) l b (h .1),
+  each-both (λ c. c < n) N O more l b (h .2),
 )
 normal-step B N O p q n same more (Some _ c) b h = more c (b .1) h
 normal-step B N O p q n same more (All _ c) b h = more c (b .1) h
@@ -313,7 +314,7 @@ module _ (B : Bounds) (p : Pool) (w : Wf B p) where
   InNormal j c = (c < length p) × InList j (at p c) × IsNormal p c
 
   pub joint-normal : (j : Joint) (args : List ℕ) → Each (λ a. a < length p) args → Each (IsNormal p) args → Post (λ i q. IsNormal q i) (mkJoint j args p)
-  joint-normal j args h n = joint-post (InNormal j) (λ i q. IsNormal q i) p j args (each-with (λ a. a < length p) (IsNormal p) (Offers (InNormal j) p j) offers args h n)
+  joint-normal j args h n = joint-post (InNormal j) (λ i q. IsNormal q i) p j args (each-both (λ a. a < length p) (IsNormal p) (Offers (InNormal j) p j) offers args h n)
       top-normal bot-normal (λ a k. k .2) many
     where
       offers : (a : ℕ) → a < length p → IsNormal p a → Offers (InNormal j) p j a
@@ -321,8 +322,8 @@ module _ (B : Bounds) (p : Pool) (w : Wf B p) where
         λ i. (k, i, m),
         λ l e.
             let t = normal-list (IsNormal p) p j l (rw e at (normal-record B p a w k m)) in
-            each-with (λ c. c < a) (λ c. InList j (at p c) × IsNormal p c) (InNormal j) (λ c x y. (omega arith, y .0, y .1)) l (operand-below B p j a w k l e)
-            (each-with (λ c. InList j (at p c)) (IsNormal p) (λ c. InList j (at p c) × IsNormal p c) (λ c x y. (x, y)) l (t .0) (t .1)),
+            each-both (λ c. c < a) (λ c. InList j (at p c) × IsNormal p c) (InNormal j) (λ c x y. (omega arith, y .0, y .1)) l (operand-below B p j a w k l e)
+            (each-both (λ c. InList j (at p c)) (IsNormal p) (λ c. InList j (at p c) × IsNormal p c) (λ c x y. (x, y)) l (t .0) (t .1)),
       )
 
       many : (l : List ℕ) → TwoRising l → Each (InNormal j) l → Post (λ i q. IsNormal q i) (internRaw (listOf j l) p)

@@ -1,23 +1,21 @@
 -- The run: from the deck's bytes and the lengths of the lent tables to the outcome, the reply and every byte of the tables.
-use mathlib.Core.Bool.{Bool, true, false, _&&_, _||_}
-use mathlib.Core.List.{List, [], _∷_, _++_, map}
-use Prim.Native.Nat.{ℕ, zero, suc, _+_, _*_, _-_, _/_, _%_}
+use mathlib.Core.Bool.{Bool, true, false, _&&_}
+use mathlib.Core.List.{List, [], _∷_, _++_}
+use Prim.Native.Nat.{ℕ, _+_, _*_, _-_, _/_, _%_}
 use lib.ListN.{length, replicate}
-use lib.Dec.{eqb, ltb, leb}
+use lib.Dec.{eqb, leb}
 use Rattle.words.specs.Words.{bytes}
-use Rattle.ir.specs.Pick.{pick}
 use Rattle.ir.specs.Records.{six}
 use Rattle.ir.specs.Deferrals.{deferralKind}
 use Rattle.ir.specs.Options.{bodyDecompose, cardDisjunctAtoms}
 use Rattle.ir.specs.declared.atom.Atom.{Atom}
-use Rattle.rules.specs.Base.{Res, ok, then, M, _>>=_, _>>_, return}
+use Rattle.rules.specs.Base.{Res, ok, then, return}
 use Rattle.rules.specs.Base as Base
 use Rattle.rules.specs.Concept.{Axiom}
-use Rattle.rules.specs.Pool.{Pool}
-use Rattle.rules.specs.Normalize.{St, N, nnfAxiom}
+use Rattle.rules.specs.Normalize.{St, nnfAxiom}
 use Rattle.rules.specs.Inverse.{buildInverseCanon}
 use Rattle.rules.specs.State.{Env, Rooms, Out, out, E, Clause, Deferred}
-use Rattle.rules.specs.Axioms.{Clausifier, C, clausifyAxiom}
+use Rattle.rules.specs.Axioms.{Clausifier, clausifyAxiom}
 use Rattle.rules.specs.Reflexive.{reflexiveRoleIds, applyReflexiveRoles, addCountedSelfLoops}
 use Rattle.rules.specs.Branches.{decomposeWideBodies}
 use Rattle.rules.specs.Stats.{ClauseStats, clauseStats, statsNumbers}

@@ -1,7 +1,7 @@
 -- Finite interpretations, and what concepts, axioms, atoms and clauses mean in them: OWL 2 Direct Semantics for concepts and
 -- axioms, document 01 for clauses. Everything is a test that computes.
 use mathlib.Core.Bool.{Bool, true, false, not, _&&_, _||_}
-use mathlib.Core.List.{List, [], _∷_, _++_, map}
+use mathlib.Core.List.{List, [], _∷_, _++_}
 use mathlib.Core.Option.{Option, none, some}
 use Prim.Native.Nat.{ℕ, zero, suc, _+_}
 use lib.ListN.{getD}

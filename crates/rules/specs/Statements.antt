@@ -2,10 +2,9 @@
 -- of the lent tables, and that normal form keeps the meaning.
 use mathlib.Core.Path.{_≡_}
 use mathlib.Core.Bool.{Bool, true, false, not, _&&_, _||_}
-use mathlib.Core.List.{List, [], _∷_, _++_, map}
+use mathlib.Core.List.{List, [], _++_, map}
 use mathlib.Core.Option.{Option, none, some}
-use Prim.Native.Nat.{ℕ, zero, suc, _+_, _<_, _≤_}
-use lib.ListN.{length}
+use Prim.Native.Nat.{ℕ, _+_, _<_}
 use lib.Dec.{eqb, ltb, leb}
 use Rattle.words.specs.Words.{words}
 use Rattle.ir.specs.declared.atom.Atom.{Atom}
@@ -18,7 +17,7 @@ use Rattle.rules.specs.Concept.{SubClassOf, EquivalentClasses, DisjointC
 use Rattle.rules.specs.Normalize.{St}
 use Rattle.rules.specs.State.{Clause}
 use Rattle.rules.specs.Deck.{Known, fine, readDeck, axiomLine}
-use Rattle.rules.specs.Run.{Lengths, Accepted, accepted, Run, runWith, Lined, done, nnfAxioms, firstFresh, clauseTable, atomTable}
+use Rattle.rules.specs.Run.{Lengths, Accepted, accepted, Run, done, nnfAxioms, firstFresh, clauseTable, atomTable}
 use Rattle.rules.specs.Decode.{decodeClauses}
 use Rattle.rules.specs.Semantics.{Interpretation, withClasses, satisfied, readHolds}
 

@@ -11,6 +11,7 @@ use lib.Seq.{length-take-le}
 use Rattle.ir.specs.Pick.{pick}
 use Rattle.rules.specs.Text.{mostNumber, columnsOfField, isDigit, Columns, spaces, digits, broken, capped, column, columns, numberIn, number, Row, row, brokenRow, rowEnded, rowField, rowByte, rowBy, rowOf}
 use Rattle.rules.specs.Invariants.{Each}
+use Rattle.rules.specs.EachLaws.{each-append}
 
 -- ---- tests and lists
 pub and-true : (a b : Bool) → (a && b) ≡ true → (a ≡ true) × (b ≡ true)
@@ -25,10 +26,6 @@ by-test false y n = n refl
 pub pick-by : {A : Type 0} (P : A → Type 0) (t : Bool) (a b : A) → (t ≡ true → P a) → (t ≡ false → P b) → P (pick t a b)
 pick-by P true a b f g = f refl
 pick-by P false a b f g = g refl
-
-pub each-append : {A : Type 0} (P : A → Type 0) (l m : List A) → Each P l → Each P m → Each P (l ++ m)
-each-append P [] m h k = k
-each-append P (x ∷ l) m h k = (h .0, each-append P l m (h .1) k)
 
 pub each-getD : {A : Type 0} (P : A → Type 0) (l : List A) (i : ℕ) (d : A) → Each P l → P d → P (getD l i d)
 each-getD P [] i d h k = k

@@ -1,15 +1,14 @@
 -- The statements tried on computed examples: true ones, and one for each proviso and each condition that is false without it.
 use mathlib.Core.Path.{_≡_, refl}
 use mathlib.Core.Bool.{Bool, true, false, _&&_, _||_}
-use mathlib.Core.List.{List, [], _∷_, map}
-use mathlib.Core.Option.{Option, some}
+use mathlib.Core.List.{List, [], _∷_}
 use Prim.Native.Nat.{ℕ, zero, suc}
 use Prim.Native.String.{String}
 use lib.Dec.{eqb}
 use Rattle.words.specs.Words.{words}
 use Rattle.ir.specs.Records.{readOf, classRead, roleRead, existsRead, atMostRead, atLeastRead, equalRead}
 use Rattle.rules.specs.Deck.{Known, Told, fine, refused, readDeck}
-use Rattle.rules.specs.Run.{Outcome, accepted, runWith, Run}
+use Rattle.rules.specs.Run.{Outcome, accepted, Run}
 use Rattle.rules.specs.Run as Run
 use Rattle.rules.specs.Decode.{decodeAtoms, decodeClause, decodeFrom}
 use Rattle.rules.specs.Semantics.{Interpretation, elementsBelow, meaningsFrom, means, chainRelated, inserted, varsOf, everyChoice, clauseHolds}

@@ -1,0 +1,28 @@
+-- What holds of each element of a list. Assumes nothing.
+use mathlib.Core.List.{List, [], _∷_, _++_}
+use Rattle.rules.specs.Invariants.{Each}
+
+module _ {A : Type 0} where
+  pub each-map : (P Q : A → Type 0) → ((a : A) → P a → Q a) → (l : List A) → Each P l → Each Q l
+  each-map P Q h [] u = tt
+  each-map P Q h (a ∷ l) u = (h a (u .0), each-map P Q h l (u .1))
+
+  pub each-any : (P : A → Type 0) → ((a : A) → P a) → (l : List A) → Each P l
+  each-any P h [] = tt
+  each-any P h (a ∷ l) = (h a, each-any P h l)
+
+  pub each-both : (P Q R : A → Type 0) → ((a : A) → P a → Q a → R a) → (l : List A) → Each P l → Each Q l → Each R l
+  each-both P Q R h [] u v = tt
+  each-both P Q R h (a ∷ l) u v = (h a (u .0) (v .0), each-both P Q R h l (u .1) (v .1))
+
+  pub each-append : (P : A → Type 0) (k l : List A) → Each P k → Each P l → Each P (k ++ l)
+  each-append P [] l u v = v
+  each-append P (a ∷ k) l u v = (u .0, each-append P k l (u .1) v)
+
+  pub each-left : (P : A → Type 0) (k l : List A) → Each P (k ++ l) → Each P k
+  each-left P [] l u = tt
+  each-left P (a ∷ k) l u = (u .0, each-left P k l (u .1))
+
+  pub each-right : (P : A → Type 0) (k l : List A) → Each P (k ++ l) → Each P l
+  each-right P [] l u = u
+  each-right P (a ∷ k) l u = each-right P k l (u .1)
