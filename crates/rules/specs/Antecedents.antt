@@ -8,7 +8,7 @@ use lib.ListN.{length}
 use lib.Dec.{leb}
 use Rattle.ir.specs.declared.atom.Atom.{Atom}
 use Rattle.ir.specs.declared.atom.Atom.the-variants.{Class, Role as RoleAtom}
-use Rattle.rules.specs.Base.{return, refuse, all}
+use Rattle.rules.specs.Base.{return, refuse, all, then, _>>=_, _>>_}
 use Rattle.rules.specs.Concept.{Concept}
 use Rattle.rules.specs.Concept.{Top, Bot, Atomic, Nominal, SelfRestriction, Not, And, Or, Some, All, Min, Max}
 use Rattle.rules.specs.Pool.{Pool, at}

@@ -11,7 +11,7 @@ use Rattle.ir.specs.declared.role.Role.{Role}
 use Rattle.ir.specs.declared.atom.Atom.{Atom}
 use Rattle.ir.specs.declared.atom.Atom.the-variants.{Class, Role as RoleAtom}
 use Rattle.ir.specs.declared.deferral.Deferral.the-variants.{DisjointAntecedent, DisjointUnionMember, DisjointUnionCovering, RoleChainLenNe2, Antecedent}
-use Rattle.rules.specs.Base.{Res, ok, refused, M, _>>=_, _>>_, return, refuse, each, forEach}
+use Rattle.rules.specs.Base.{Res, ok, refused, M, _>>=_, _>>_, return, refuse, each, forEach, then}
 use Rattle.rules.specs.Concept.{Concept, Axiom}
 use Rattle.rules.specs.Concept.{Top, Bot, Atomic, Nominal, SelfRestriction, Not, And, Or, Some, All, Min, Max}
 use Rattle.rules.specs.Concept.{SubClassOf, EquivalentClasses, DisjointClasses, DisjointUnion, ObjectPropertyDomain, ObjectPropertyRange, SubChain, TransitiveRole, IrreflexiveRole, AsymmetricRole, DisjointObjectProperties, InverseObjectProperties, SubObjectPropertyOf, EquivalentObjectProperties, ReflexiveRole, ClassAssertion}

@@ -9,7 +9,7 @@ use Rattle.ir.specs.Pick.{pick}
 use Rattle.ir.specs.Atoms.{atomVars}
 use Rattle.ir.specs.declared.atom.Atom.{Atom}
 use Rattle.ir.specs.declared.atom.Atom.the-variants.{Class, Exists, AtMost, AtLeast, Equal, Role as RoleAtom}
-use Rattle.rules.specs.Base.{Res, ok, refused, M, _>>=_, return, refuse, any, filter, contains}
+use Rattle.rules.specs.Base.{Res, ok, refused, M, _>>=_, return, refuse, any, filter, contains, then, _>>_}
 use Rattle.rules.specs.State.{Env, Out, out, E, Clause, clause, total}
 use Rattle.rules.specs.Reflexive.{sameAtoms}
 

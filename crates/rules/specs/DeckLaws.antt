@@ -12,7 +12,7 @@ use lib.Seq.{getD-append-seam}
 use Rattle.ir.specs.Pick.{pick}
 use Rattle.ir.specs.Records.{sameWords}
 use Rattle.ir.specs.Roles.{roleId, roleOf}
-use Rattle.rules.specs.Base.{all, any}
+use Rattle.rules.specs.Base.{all, any, then, _>>=_, _>>_}
 use Rattle.rules.specs.Text.{mostNumber, Row, row, brokenRow, rowOf}
 use Rattle.rules.specs.Concept.{Concept, Axiom, sameConcept, conceptRow}
 use Rattle.rules.specs.Concept.{Top, Bot, Atomic, Nominal, SelfRestriction, Not, And, Or, Some, All, Min, Max}

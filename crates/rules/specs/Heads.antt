@@ -11,7 +11,7 @@ use Rattle.ir.specs.declared.atom.Atom.the-variants.{Class, Exists, AtMost, AtL
 use Rattle.ir.specs.declared.atom.Qualifier.{Qualifier}
 use Rattle.ir.specs.declared.atom.Qualifier.the-variants.{Unqualified, Qualified}
 use Rattle.ir.specs.declared.deferral.Deferral.the-variants.{HeadOrDisjunct, HeadNotNonatomic}
-use Rattle.rules.specs.Base.{return, refuse, forEach}
+use Rattle.rules.specs.Base.{return, refuse, forEach, then, _>>=_, _>>_}
 use Rattle.rules.specs.Concept.{Concept}
 use Rattle.rules.specs.Concept.{Top, Bot, Atomic, Nominal, SelfRestriction, Not, And, Or, Some, All, Min, Max}
 use Rattle.rules.specs.Pool.{Pool, at}

@@ -12,7 +12,7 @@ use Rattle.ir.specs.declared.role.Role.{Role}
 use Rattle.ir.specs.declared.atom.Atom.{Atom}
 use Rattle.ir.specs.declared.atom.Atom.the-variants.{Class, Exists, AtMost, AtLeast, Equal, Role as RoleAtom}
 use Rattle.ir.specs.declared.deferral.Deferral.the-variants.{ReflexiveDerivedCap}
-use Rattle.rules.specs.Base.{then, _>>=_, return, refuse, forEach, any, contains}
+use Rattle.rules.specs.Base.{then, _>>=_, return, refuse, forEach, any, contains, _>>_}
 use Rattle.rules.specs.Concept.{Axiom}
 use Rattle.rules.specs.Concept.{SubClassOf, EquivalentClasses, DisjointClasses, DisjointUnion, ObjectPropertyDomain, ObjectPropertyRange, SubChain, TransitiveRole, IrreflexiveRole, AsymmetricRole, DisjointObjectProperties, InverseObjectProperties, SubObjectPropertyOf, EquivalentObjectProperties, ReflexiveRole, ClassAssertion}
 use Rattle.rules.specs.State.{Env, E, Clause, clause, canon, with, push, defer}

@@ -9,7 +9,7 @@ use Rattle.ir.specs.Records.{six}
 use Rattle.ir.specs.Deferrals.{deferralKind}
 use Rattle.ir.specs.Options.{bodyDecompose, cardDisjunctAtoms}
 use Rattle.ir.specs.declared.atom.Atom.{Atom}
-use Rattle.rules.specs.Base.{Res, ok, then, return}
+use Rattle.rules.specs.Base.{Res, ok, then, return, _>>=_, _>>_}
 use Rattle.rules.specs.Base as Base
 use Rattle.rules.specs.Concept.{Axiom}
 use Rattle.rules.specs.Normalize.{St, nnfAxiom}

@@ -7,7 +7,8 @@ use Prim.Native.Nat.{ℕ, zero, suc, _+_}
 use lib.ListN.{length, length-append, length-map}
 use lib.Dec.{leb}
 use Rattle.ir.specs.declared.atom.Atom.{Atom}
-use Rattle.rules.specs.Base.{ok, all}
+use Rattle.ir.specs.declared.atom.Atom.the-variants.{Role as RoleAtom}
+use Rattle.rules.specs.Base.{ok, all, then, _>>=_, _>>_}
 use Rattle.rules.specs.Concept.{Concept}
 use Rattle.rules.specs.Concept.{Top, Bot, Atomic, Nominal, SelfRestriction, Not, And, Or, Some, All, Min, Max}
 use Rattle.rules.specs.Pool.{Pool, at}
