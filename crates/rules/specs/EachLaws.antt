@@ -1,5 +1,6 @@
 -- What holds of each element of a list. Assumes nothing.
-use mathlib.Core.List.{List, [], _∷_, _++_}
+use mathlib.Core.Path.{sym, subst}
+use mathlib.Core.List.{List, [], _∷_, _++_, map, List·Memᴰ, List·Memᴰ·head, List·Memᴰ·tail}
 use Rattle.rules.specs.Invariants.{Each}
 
 module _ {A : Type 0} where
@@ -26,3 +27,18 @@ module _ {A : Type 0} where
   pub each-right : (P : A → Type 0) (k l : List A) → Each P (k ++ l) → Each P l
   each-right P [] l u = u
   each-right P (a ∷ k) l u = each-right P k l (u .1)
+
+  -- one element more at the end
+  pub each-snoc : (P : A → Type 0) (l : List A) (x : A) → Each P l → P x → Each P (l ++ (x ∷ []))
+  each-snoc P l x p q = each-append P l (x ∷ []) p (q, tt)
+
+  pub each-unit : (l : List A) → Each (λ (_ : A). Unit {0}) l
+  each-unit l = each-any (λ (_ : A). Unit {0}) (λ _. tt) l
+
+  pub each-member : (P : A → Type 0) {x : A} {l : List A} → Each P l → List·Memᴰ x l → P x
+  each-member P p (List·Memᴰ·head e) = subst P (sym e) (p .0)
+  each-member P p (List·Memᴰ·tail m) = each-member P (p .1) m
+
+pub each-mapped : {A B : Type 0} (P : A → Type 0) (Q : B → Type 0) (f : A → B) → ((x : A) → P x → Q (f x)) → (l : List A) → Each P l → Each Q (map f l)
+each-mapped P Q f g [] p = tt
+each-mapped P Q f g (x ∷ l) p = (g x (p .0), each-mapped P Q f g l (p .1))

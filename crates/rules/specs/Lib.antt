@@ -26,6 +26,12 @@ pub mod AntecedentLaws
 pub mod ShapeLaws
 pub mod HeadLaws
 pub mod AxiomLaws
+pub mod Ends
+pub mod BoundLaws
+pub mod Added
+pub mod ReflexiveLaws
+pub mod BranchLaws
+pub mod LateLaws
 pub mod TextLaws
 pub mod DeckLaws
 pub mod Lister
@@ -33,6 +39,7 @@ pub mod Ascii
 pub mod Compute
 pub mod Semantics
 pub mod Decode
+pub mod DecodeLaws
 pub mod Statements
 pub mod Decided
 pub mod Cases
