@@ -3,3 +3,13 @@ pub mod Meanings
 pub mod Choices
 pub mod Valuations
 pub mod Adds
+pub mod Joints
+pub mod PoolMeans
+pub mod AxiomMeans
+pub mod NormalForm
+pub mod InverseMap
+pub mod ReflexiveSet
+pub mod Passes
+pub mod Unfolding
+pub mod Loops
+pub mod ReflexivePasses
