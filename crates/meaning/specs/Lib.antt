@@ -3,6 +3,8 @@ pub mod Meanings
 pub mod Choices
 pub mod Valuations
 pub mod Adds
+pub mod Steps
+pub mod Heads
 pub mod Joints
 pub mod PoolMeans
 pub mod AxiomMeans

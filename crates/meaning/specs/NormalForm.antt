@@ -21,7 +21,8 @@ use Rattle.rules.specs.Post.{Post, gives, refuses, give, post-then, post-map}
 use Rattle.rules.specs.Invariants.{Each, Bounds, Bounded, Wf, Grown, AxiomIn}
 use Rattle.rules.specs.JointLaws.{Joint, conj, disj, listOf, mkJoint}
 use Rattle.rules.specs.PoolLaws.{post-both, grown-refl, grown-trans, grown-length, below-more, made-self}
-use Rattle.rules.specs.NormalizeLaws.{LinedPost, finishes, finish, lined-post, lined-then, axioms-more, nnf-axiom-made}
+use Rattle.rules.specs.LinedPost.{LinedPost, finishes, finish, lined-post, lined-then}
+use Rattle.rules.specs.NormalizeLaws.{axioms-more, nnf-axiom-made}
 use Rattle.rules.specs.DeckLaws.{boundsOf, read-in}
 use Rattle.rules.specs.Semantics.{Interpretation, related, elements, count, implies, conceptMeans, means, satisfied}
 use Rattle.rules.specs.Statements.{NormalFormKeepsMeaning}

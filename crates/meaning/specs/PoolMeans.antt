@@ -14,7 +14,8 @@ use Rattle.rules.specs.Concept.{Top, Bot, Not, Some, All, Min, Max}
 use Rattle.rules.specs.Pool.{Pool, at, internRaw, mkTop, mkBot, mkNot, mkSome, mkAll, mkMax, mkMin, flattened, anyAnnihilates, sortDedup, collapsed, andOf, orOf, mkAnd, mkOr}
 use Rattle.rules.specs.Post.{Post, give, post-map}
 use Rattle.rules.specs.Invariants.{Each, Bounds, RoleIn, Bounded, Wf, Made}
-use Rattle.rules.specs.JointLaws.{each-map, Joint, conj, disj, listOf, operandOf, mkJoint}
+use Rattle.rules.specs.EachLaws.{each-map}
+use Rattle.rules.specs.JointLaws.{Joint, conj, disj, listOf, operandOf, mkJoint}
 use Rattle.rules.specs.PoolLaws.{post-both, intern-post, intern-made, min-made, joint-made}
 use Rattle.rules.specs.Semantics.{Interpretation, related, elements, count, implies, conceptMeans, means}
 use Rattle.meaning.specs.Meanings.{means-at, means-seam}
