@@ -1775,7 +1775,73 @@ decided =
           "         43         13         13          0          0          0          0          2          0         11         86" ∷ [];
       deferrals = [];
     } ∷
-    -- 043 nominal heads and unions
+    -- 043 wide group of exactly eight
+    record {
+      deck =
+          "          0         14          0          2          1" ∷
+          "          3          0" ∷
+          "          3          1" ∷
+          "          3          2" ∷
+          "          3          3" ∷
+          "          3          4" ∷
+          "          3          5" ∷
+          "          3          6" ∷
+          "          3          7" ∷
+          "          3          8" ∷
+          "          3          9" ∷
+          "          3         10" ∷
+          "          3         11" ∷
+          "          3         12" ∷
+          "          3         13" ∷
+          "          9          0          0" ∷
+          "          9          0          1" ∷
+          "          9          0          2" ∷
+          "          9          0          3" ∷
+          "          9          0          4" ∷
+          "          9          0          5" ∷
+          "          7         14         15         16         17         18         19" ∷
+          "          9          2         20" ∷
+          "          9          0          6" ∷
+          "          9          0          7" ∷
+          "          7         21         22         23" ∷
+          "         21         24         13" ∷ [];
+      visits = 1000000;
+      clauses = 1024;
+      atoms = 2048;
+      deferred = 256;
+      listing =
+          "         41          0          3          1" ∷
+          "         42          1          0         15          0          0          0" ∷
+          "         42          1          0         16          0          0          0" ∷
+          "         42          1          0         17          0          0          0" ∷
+          "         42          1          0         14          0          0          0" ∷
+          "         41          1         13          1" ∷
+          "         42          2          2          0          0          0          1" ∷
+          "         42          2          0          0          0          1          2" ∷
+          "         42          1          0          1          0          2          0" ∷
+          "         42          2          0          0          0          1          3" ∷
+          "         42          1          0          2          0          3          0" ∷
+          "         42          2          0          0          0          1          4" ∷
+          "         42          1          0          3          0          4          0" ∷
+          "         42          2          0          0          0          1          5" ∷
+          "         42          1          0          4          0          5          0" ∷
+          "         42          2          0          0          0          1          6" ∷
+          "         42          1          0          5          0          6          0" ∷
+          "         42          2          0          0          0          1          7" ∷
+          "         42          1          0          6          0          7          0" ∷
+          "         42          1          0         15          0          0          0" ∷
+          "         41          2          2          1" ∷
+          "         42          2          0          0          0          0          1" ∷
+          "         42          1          0          7          0          1          0" ∷
+          "         42          1          0         16          0          0          0" ∷
+          "         41          3          2          1" ∷
+          "         42          2          0          0          0          0          1" ∷
+          "         42          1          0          8          0          1          0" ∷
+          "         42          1          0         17          0          0          0" ∷
+          "         43          4          4          0          0          0          0          1          0          3         40" ∷ [];
+      deferrals = [];
+    } ∷
+    -- 044 nominal heads and unions
     record {
       deck =
           "          0          2          2          1          3" ∷
@@ -1810,7 +1876,7 @@ decided =
           "         43          4          3          1          0          1          0          0          0          0         24" ∷ [];
       deferrals = [];
     } ∷
-    -- 044 some under or and self hard
+    -- 045 some under or and self hard
     record {
       deck =
           "          0          3          0          2          3" ∷
@@ -1843,7 +1909,7 @@ decided =
           "         43          4          2          2          2          0          0          0          0          2         24" ∷ [];
       deferrals = [];
     } ∷
-    -- 045 counts over every filler
+    -- 046 counts over every filler
     record {
       deck =
           "          0          3          1          1          3" ∷
@@ -2041,7 +2107,7 @@ decided =
           "         43         42         40          2          4          2          0          0          0         18        182" ∷ [];
       deferrals = [];
     } ∷
-    -- 046 inverse map in heads
+    -- 047 inverse map in heads
     record {
       deck =
           "          0          3          0          2          3" ∷
@@ -2108,7 +2174,7 @@ decided =
           "         43         10          9          1          2          2          0          0          0          3         64" ∷ [];
       deferrals = [];
     } ∷
-    -- 047 inverse map in named counts
+    -- 048 inverse map in named counts
     record {
       deck =
           "          0          3          0          2          0" ∷
@@ -2138,7 +2204,7 @@ decided =
           "         43          3          2          1          0          0          0          0          0          2         18" ∷ [];
       deferrals = [];
     } ∷
-    -- 048 inverse map in axioms
+    -- 049 inverse map in axioms
     record {
       deck =
           "          0          2          0          3          3" ∷
@@ -2204,7 +2270,7 @@ decided =
           "         43         12         12          0          6          0          0          0          0          0         16" ∷ [];
       deferrals = [];
     } ∷
-    -- 049 reflexive heads of every kind
+    -- 050 reflexive heads of every kind
     record {
       deck =
           "          0          3          0          2          3" ∷
@@ -2286,7 +2352,7 @@ decided =
           "         43         13         11          2          0          4          0          0          0          0         56" ∷ [];
       deferrals = [];
     } ∷
-    -- 050 covering after variables
+    -- 051 covering after variables
     record {
       deck =
           "          0          3          0          1          3" ∷
@@ -2330,7 +2396,7 @@ decided =
           "         43          7          6          1          2          0          1          0          0          0         18" ∷ [];
       deferrals = (6, 3) ∷ [];
     } ∷
-    -- 051 limit visits reached
+    -- 052 limit visits reached
     record {
       deck =
           "          0          4          0          1          3" ∷
@@ -2368,7 +2434,7 @@ decided =
           "         43          6          6          0          0          2          0          0          0          2         22" ∷ [];
       deferrals = [];
     } ∷
-    -- 052 limit visits passed
+    -- 053 limit visits passed
     record {
       deck =
           "          0          4          0          1          3" ∷
@@ -2388,7 +2454,7 @@ decided =
           "         49         10          9" ∷ [];
       deferrals = [];
     } ∷
-    -- 053 limit visits passed in normal form
+    -- 054 limit visits passed in normal form
     record {
       deck =
           "          0          4          0          1          3" ∷
@@ -2408,7 +2474,7 @@ decided =
           "         49         10          8" ∷ [];
       deferrals = [];
     } ∷
-    -- 054 limit no visit
+    -- 055 limit no visit
     record {
       deck =
           "          0          4          0          1          3" ∷
@@ -2428,7 +2494,7 @@ decided =
           "         49         10          8" ∷ [];
       deferrals = [];
     } ∷
-    -- 055 limit clauses reached
+    -- 056 limit clauses reached
     record {
       deck =
           "          0          4          0          1          3" ∷
@@ -2466,7 +2532,7 @@ decided =
           "         43          6          6          0          0          2          0          0          0          2         22" ∷ [];
       deferrals = [];
     } ∷
-    -- 056 limit clauses passed
+    -- 057 limit clauses passed
     record {
       deck =
           "          0          4          0          1          3" ∷
@@ -2486,7 +2552,7 @@ decided =
           "         49         12          9" ∷ [];
       deferrals = [];
     } ∷
-    -- 057 limit atoms reached
+    -- 058 limit atoms reached
     record {
       deck =
           "          0          4          0          1          3" ∷
@@ -2524,7 +2590,7 @@ decided =
           "         43          6          6          0          0          2          0          0          0          2         22" ∷ [];
       deferrals = [];
     } ∷
-    -- 058 limit atoms passed
+    -- 059 limit atoms passed
     record {
       deck =
           "          0          4          0          1          3" ∷
@@ -2544,7 +2610,7 @@ decided =
           "         49         12          9" ∷ [];
       deferrals = [];
     } ∷
-    -- 059 limit deferrals reached
+    -- 060 limit deferrals reached
     record {
       deck =
           "          0          0          0          1          3" ∷
@@ -2558,7 +2624,7 @@ decided =
           "         43          0          0          0          0          0          2          0          0          0          0" ∷ [];
       deferrals = (2, 4) ∷ (3, 4) ∷ [];
     } ∷
-    -- 060 limit deferrals passed
+    -- 061 limit deferrals passed
     record {
       deck =
           "          0          0          0          1          3" ∷
@@ -2572,7 +2638,7 @@ decided =
           "         49         12          3" ∷ [];
       deferrals = [];
     } ∷
-    -- 061 limit all tables empty
+    -- 062 limit all tables empty
     record {
       deck =
           "          0          1          0          1          3" ∷
@@ -2585,7 +2651,7 @@ decided =
           "         43          0          0          0          0          0          0          0          0          0          0" ∷ [];
       deferrals = [];
     } ∷
-    -- 062 limit derived clause passed
+    -- 063 limit derived clause passed
     record {
       deck =
           "          0          2          0          1          3" ∷
@@ -2603,7 +2669,7 @@ decided =
           "         49         12          0" ∷ [];
       deferrals = [];
     } ∷
-    -- 063 limit counted loop passed
+    -- 064 limit counted loop passed
     record {
       deck =
           "          0          2          0          1          3" ∷
@@ -2621,7 +2687,7 @@ decided =
           "         49         12          0" ∷ [];
       deferrals = [];
     } ∷
-    -- 064 limit counted loop reached
+    -- 065 limit counted loop reached
     record {
       deck =
           "          0          2          0          1          3" ∷
@@ -2655,7 +2721,7 @@ decided =
           "         43          4          4          0          0          0          0          0          0          0          8" ∷ [];
       deferrals = [];
     } ∷
-    -- 065 limit wide atoms at the pushes
+    -- 066 limit wide atoms at the pushes
     record {
       deck =
           "          0          9          0          1          3" ∷
@@ -2761,7 +2827,7 @@ decided =
           "         43         12         12          0          0          0          0          4          0          8        144" ∷ [];
       deferrals = [];
     } ∷
-    -- 066 limit wide atoms passed at a push
+    -- 067 limit wide atoms passed at a push
     record {
       deck =
           "          0          9          0          1          3" ∷
@@ -2795,7 +2861,7 @@ decided =
           "         49         12         23" ∷ [];
       deferrals = [];
     } ∷
-    -- 067 limit wide clauses of the finished list
+    -- 068 limit wide clauses of the finished list
     record {
       deck =
           "          0          9          0          1          3" ∷
@@ -2829,7 +2895,7 @@ decided =
           "         49         12          0" ∷ [];
       deferrals = [];
     } ∷
-    -- 068 limit wide clauses reached
+    -- 069 limit wide clauses reached
     record {
       deck =
           "          0          9          0          1          3" ∷
@@ -2935,7 +3001,7 @@ decided =
           "         43         12         12          0          0          0          0          4          0          8        144" ∷ [];
       deferrals = [];
     } ∷
-    -- 069 limit wide atoms of the finished list
+    -- 070 limit wide atoms of the finished list
     record {
       deck =
           "          0          9          0          1          3" ∷
@@ -2966,7 +3032,7 @@ decided =
           "         49         12          0" ∷ [];
       deferrals = [];
     } ∷
-    -- 070 limit wide atoms reached
+    -- 071 limit wide atoms reached
     record {
       deck =
           "          0          9          0          1          3" ∷
@@ -3039,7 +3105,7 @@ decided =
           "         43          9          9          0          0          0          0          1          0          8         36" ∷ [];
       deferrals = [];
     } ∷
-    -- 071 refused 2 leading zero
+    -- 072 refused 2 leading zero
     record {
       deck =
           "          0          1          0          0          0" ∷
@@ -3052,7 +3118,7 @@ decided =
           "         49          2          2" ∷ [];
       deferrals = [];
     } ∷
-    -- 072 refused 2 lone line feed
+    -- 073 refused 2 lone line feed
     record {
       deck =
           "" ∷ [];
@@ -3064,7 +3130,7 @@ decided =
           "         49          2          1" ∷ [];
       deferrals = [];
     } ∷
-    -- 073 refused 2 too large
+    -- 074 refused 2 too large
     record {
       deck =
           "          0 4294967296          0          0          0" ∷ [];
@@ -3076,7 +3142,7 @@ decided =
           "         49          2          1" ∷ [];
       deferrals = [];
     } ∷
-    -- 074 refused 2 letter
+    -- 075 refused 2 letter
     record {
       deck =
           "          0          1          x          0          0" ∷ [];
@@ -3088,7 +3154,7 @@ decided =
           "         49          2          1" ∷ [];
       deferrals = [];
     } ∷
-    -- 075 refused 2 eleven digits
+    -- 076 refused 2 eleven digits
     record {
       deck =
           "          0          1          0          0          000000000001" ∷ [];
@@ -3100,7 +3166,7 @@ decided =
           "         49          2          1" ∷ [];
       deferrals = [];
     } ∷
-    -- 076 refused 3 first is no header
+    -- 077 refused 3 first is no header
     record {
       deck =
           "          3          0" ∷ [];
@@ -3112,7 +3178,7 @@ decided =
           "         49          3          1" ∷ [];
       deferrals = [];
     } ∷
-    -- 077 refused 3 second header
+    -- 078 refused 3 second header
     record {
       deck =
           "          0          2          2          2          3" ∷
@@ -3125,7 +3191,7 @@ decided =
           "         49          3          2" ∷ [];
       deferrals = [];
     } ∷
-    -- 078 refused 3 unknown kind
+    -- 079 refused 3 unknown kind
     record {
       deck =
           "          0          2          2          2          3" ∷
@@ -3138,7 +3204,7 @@ decided =
           "         49          3          2" ∷ [];
       deferrals = [];
     } ∷
-    -- 079 refused 3 kind beyond
+    -- 080 refused 3 kind beyond
     record {
       deck =
           "          0          2          2          2          3" ∷
@@ -3151,7 +3217,7 @@ decided =
           "         49          3          2" ∷ [];
       deferrals = [];
     } ∷
-    -- 080 refused 3 order
+    -- 081 refused 3 order
     record {
       deck =
           "          0          2          2          2          3" ∷
@@ -3165,7 +3231,7 @@ decided =
           "         49          3          3" ∷ [];
       deferrals = [];
     } ∷
-    -- 081 refused 3 concept after axiom
+    -- 082 refused 3 concept after axiom
     record {
       deck =
           "          0          2          2          2          3" ∷
@@ -3180,7 +3246,7 @@ decided =
           "         49          3          4" ∷ [];
       deferrals = [];
     } ∷
-    -- 082 refused 3 too few
+    -- 083 refused 3 too few
     record {
       deck =
           "          0          2          2          2          3" ∷
@@ -3194,7 +3260,7 @@ decided =
           "         49          3          3" ∷ [];
       deferrals = [];
     } ∷
-    -- 083 refused 3 too many
+    -- 084 refused 3 too many
     record {
       deck =
           "          0          2          2          2          3" ∷
@@ -3207,7 +3273,7 @@ decided =
           "         49          3          2" ∷ [];
       deferrals = [];
     } ∷
-    -- 084 refused 3 union without class
+    -- 085 refused 3 union without class
     record {
       deck =
           "          0          2          2          2          3" ∷
@@ -3220,7 +3286,7 @@ decided =
           "         49          3          2" ∷ [];
       deferrals = [];
     } ∷
-    -- 085 refused 3 chain without role
+    -- 086 refused 3 chain without role
     record {
       deck =
           "          0          2          2          2          3" ∷
@@ -3233,7 +3299,7 @@ decided =
           "         49          3          2" ∷ [];
       deferrals = [];
     } ∷
-    -- 086 refused 4 classes
+    -- 087 refused 4 classes
     record {
       deck =
           "          0       4097          0          0          0" ∷ [];
@@ -3245,7 +3311,7 @@ decided =
           "         49          4          1" ∷ [];
       deferrals = [];
     } ∷
-    -- 087 refused 4 individuals
+    -- 088 refused 4 individuals
     record {
       deck =
           "          0          0       4097          0          0" ∷ [];
@@ -3257,7 +3323,7 @@ decided =
           "         49          4          1" ∷ [];
       deferrals = [];
     } ∷
-    -- 088 refused 4 roles
+    -- 089 refused 4 roles
     record {
       deck =
           "          0          0          0       1025          0" ∷ [];
@@ -3269,7 +3335,7 @@ decided =
           "         49          4          1" ∷ [];
       deferrals = [];
     } ∷
-    -- 089 refused 4 options
+    -- 090 refused 4 options
     record {
       deck =
           "          0          1          0          0          4" ∷ [];
@@ -3281,7 +3347,7 @@ decided =
           "         49          4          1" ∷ [];
       deferrals = [];
     } ∷
-    -- 090 header at its limits
+    -- 091 header at its limits
     record {
       deck =
           "          0       4096       4096       1024          3" ∷ [];
@@ -3293,7 +3359,7 @@ decided =
           "         43          0          0          0          0          0          0          0          0          0          0" ∷ [];
       deferrals = [];
     } ∷
-    -- 091 refused 4 list of 129
+    -- 092 refused 4 list of 129
     record {
       deck =
           "          0          2          2          2          3" ∷
@@ -3307,7 +3373,7 @@ decided =
           "         49          4          3" ∷ [];
       deferrals = [];
     } ∷
-    -- 092 list of 128
+    -- 093 list of 128
     record {
       deck =
           "          0          2          2          2          3" ∷
@@ -3321,7 +3387,7 @@ decided =
           "         43          0          0          0          0          0          0          0          0          0          0" ∷ [];
       deferrals = [];
     } ∷
-    -- 093 refused 4 union of 129
+    -- 094 refused 4 union of 129
     record {
       deck =
           "          0          2          2          2          3" ∷
@@ -3335,7 +3401,7 @@ decided =
           "         49          4          3" ∷ [];
       deferrals = [];
     } ∷
-    -- 094 refused 5 key
+    -- 095 refused 5 key
     record {
       deck =
           "          0          2          2          2          3" ∷
@@ -3348,7 +3414,7 @@ decided =
           "         49          5          2" ∷ [];
       deferrals = [];
     } ∷
-    -- 095 refused 5 class
+    -- 096 refused 5 class
     record {
       deck =
           "          0          2          2          2          3" ∷
@@ -3361,7 +3427,7 @@ decided =
           "         49          5          2" ∷ [];
       deferrals = [];
     } ∷
-    -- 096 refused 5 individual
+    -- 097 refused 5 individual
     record {
       deck =
           "          0          2          2          2          3" ∷
@@ -3374,7 +3440,7 @@ decided =
           "         49          5          2" ∷ [];
       deferrals = [];
     } ∷
-    -- 097 refused 5 self
+    -- 098 refused 5 self
     record {
       deck =
           "          0          2          2          2          3" ∷
@@ -3387,7 +3453,7 @@ decided =
           "         49          5          2" ∷ [];
       deferrals = [];
     } ∷
-    -- 098 refused 5 some
+    -- 099 refused 5 some
     record {
       deck =
           "          0          2          2          2          3" ∷
@@ -3402,7 +3468,7 @@ decided =
           "         49          5          4" ∷ [];
       deferrals = [];
     } ∷
-    -- 099 refused 5 all
+    -- 100 refused 5 all
     record {
       deck =
           "          0          2          2          2          3" ∷
@@ -3417,7 +3483,7 @@ decided =
           "         49          5          4" ∷ [];
       deferrals = [];
     } ∷
-    -- 100 refused 5 min
+    -- 101 refused 5 min
     record {
       deck =
           "          0          2          2          2          3" ∷
@@ -3432,7 +3498,7 @@ decided =
           "         49          5          4" ∷ [];
       deferrals = [];
     } ∷
-    -- 101 refused 5 max
+    -- 102 refused 5 max
     record {
       deck =
           "          0          2          2          2          3" ∷
@@ -3447,7 +3513,7 @@ decided =
           "         49          5          4" ∷ [];
       deferrals = [];
     } ∷
-    -- 102 refused 5 sub
+    -- 103 refused 5 sub
     record {
       deck =
           "          0          2          2          2          3" ∷
@@ -3462,7 +3528,7 @@ decided =
           "         49          5          4" ∷ [];
       deferrals = [];
     } ∷
-    -- 103 refused 5 sup
+    -- 104 refused 5 sup
     record {
       deck =
           "          0          2          2          2          3" ∷
@@ -3477,7 +3543,7 @@ decided =
           "         49          5          4" ∷ [];
       deferrals = [];
     } ∷
-    -- 104 refused 5 equivalent
+    -- 105 refused 5 equivalent
     record {
       deck =
           "          0          2          2          2          3" ∷
@@ -3492,7 +3558,7 @@ decided =
           "         49          5          4" ∷ [];
       deferrals = [];
     } ∷
-    -- 105 refused 5 disjoint
+    -- 106 refused 5 disjoint
     record {
       deck =
           "          0          2          2          2          3" ∷
@@ -3507,7 +3573,7 @@ decided =
           "         49          5          4" ∷ [];
       deferrals = [];
     } ∷
-    -- 106 refused 5 union class
+    -- 107 refused 5 union class
     record {
       deck =
           "          0          2          2          2          3" ∷
@@ -3522,7 +3588,7 @@ decided =
           "         49          5          4" ∷ [];
       deferrals = [];
     } ∷
-    -- 107 refused 5 union member
+    -- 108 refused 5 union member
     record {
       deck =
           "          0          2          2          2          3" ∷
@@ -3537,7 +3603,7 @@ decided =
           "         49          5          4" ∷ [];
       deferrals = [];
     } ∷
-    -- 108 refused 5 domain role
+    -- 109 refused 5 domain role
     record {
       deck =
           "          0          2          2          2          3" ∷
@@ -3552,7 +3618,7 @@ decided =
           "         49          5          4" ∷ [];
       deferrals = [];
     } ∷
-    -- 109 refused 5 domain
+    -- 110 refused 5 domain
     record {
       deck =
           "          0          2          2          2          3" ∷
@@ -3567,7 +3633,7 @@ decided =
           "         49          5          4" ∷ [];
       deferrals = [];
     } ∷
-    -- 110 refused 5 range role
+    -- 111 refused 5 range role
     record {
       deck =
           "          0          2          2          2          3" ∷
@@ -3582,7 +3648,7 @@ decided =
           "         49          5          4" ∷ [];
       deferrals = [];
     } ∷
-    -- 111 refused 5 range
+    -- 112 refused 5 range
     record {
       deck =
           "          0          2          2          2          3" ∷
@@ -3597,7 +3663,7 @@ decided =
           "         49          5          4" ∷ [];
       deferrals = [];
     } ∷
-    -- 112 refused 5 chain sup
+    -- 113 refused 5 chain sup
     record {
       deck =
           "          0          2          2          2          3" ∷
@@ -3612,7 +3678,7 @@ decided =
           "         49          5          4" ∷ [];
       deferrals = [];
     } ∷
-    -- 113 refused 5 chain part
+    -- 114 refused 5 chain part
     record {
       deck =
           "          0          2          2          2          3" ∷
@@ -3627,7 +3693,7 @@ decided =
           "         49          5          4" ∷ [];
       deferrals = [];
     } ∷
-    -- 114 refused 5 transitive
+    -- 115 refused 5 transitive
     record {
       deck =
           "          0          2          2          2          3" ∷
@@ -3642,7 +3708,7 @@ decided =
           "         49          5          4" ∷ [];
       deferrals = [];
     } ∷
-    -- 115 refused 5 irreflexive
+    -- 116 refused 5 irreflexive
     record {
       deck =
           "          0          2          2          2          3" ∷
@@ -3657,7 +3723,7 @@ decided =
           "         49          5          4" ∷ [];
       deferrals = [];
     } ∷
-    -- 116 refused 5 asymmetric
+    -- 117 refused 5 asymmetric
     record {
       deck =
           "          0          2          2          2          3" ∷
@@ -3672,7 +3738,7 @@ decided =
           "         49          5          4" ∷ [];
       deferrals = [];
     } ∷
-    -- 117 refused 5 disjoint roles
+    -- 118 refused 5 disjoint roles
     record {
       deck =
           "          0          2          2          2          3" ∷
@@ -3687,7 +3753,7 @@ decided =
           "         49          5          4" ∷ [];
       deferrals = [];
     } ∷
-    -- 118 refused 5 inverse first
+    -- 119 refused 5 inverse first
     record {
       deck =
           "          0          2          2          2          3" ∷
@@ -3702,7 +3768,7 @@ decided =
           "         49          5          4" ∷ [];
       deferrals = [];
     } ∷
-    -- 119 refused 5 inverse second
+    -- 120 refused 5 inverse second
     record {
       deck =
           "          0          2          2          2          3" ∷
@@ -3717,7 +3783,7 @@ decided =
           "         49          5          4" ∷ [];
       deferrals = [];
     } ∷
-    -- 120 refused 5 inclusion sub
+    -- 121 refused 5 inclusion sub
     record {
       deck =
           "          0          2          2          2          3" ∷
@@ -3732,7 +3798,7 @@ decided =
           "         49          5          4" ∷ [];
       deferrals = [];
     } ∷
-    -- 121 refused 5 inclusion sup
+    -- 122 refused 5 inclusion sup
     record {
       deck =
           "          0          2          2          2          3" ∷
@@ -3747,7 +3813,7 @@ decided =
           "         49          5          4" ∷ [];
       deferrals = [];
     } ∷
-    -- 122 refused 5 equivalent roles
+    -- 123 refused 5 equivalent roles
     record {
       deck =
           "          0          2          2          2          3" ∷
@@ -3762,7 +3828,7 @@ decided =
           "         49          5          4" ∷ [];
       deferrals = [];
     } ∷
-    -- 123 refused 5 reflexive
+    -- 124 refused 5 reflexive
     record {
       deck =
           "          0          2          2          2          3" ∷
@@ -3777,7 +3843,7 @@ decided =
           "         49          5          4" ∷ [];
       deferrals = [];
     } ∷
-    -- 124 refused 5 assertion
+    -- 125 refused 5 assertion
     record {
       deck =
           "          0          2          2          2          3" ∷
@@ -3792,7 +3858,7 @@ decided =
           "         49          5          4" ∷ [];
       deferrals = [];
     } ∷
-    -- 125 refused 5 assertion individual
+    -- 126 refused 5 assertion individual
     record {
       deck =
           "          0          2          2          2          3" ∷
@@ -3807,7 +3873,7 @@ decided =
           "         49          5          4" ∷ [];
       deferrals = [];
     } ∷
-    -- 126 refused 6 itself not
+    -- 127 refused 6 itself not
     record {
       deck =
           "          0          2          2          2          3" ∷
@@ -3822,7 +3888,7 @@ decided =
           "         49          6          4" ∷ [];
       deferrals = [];
     } ∷
-    -- 127 refused 6 later and
+    -- 128 refused 6 later and
     record {
       deck =
           "          0          2          2          2          3" ∷
@@ -3837,7 +3903,7 @@ decided =
           "         49          6          4" ∷ [];
       deferrals = [];
     } ∷
-    -- 128 refused 6 later or
+    -- 129 refused 6 later or
     record {
       deck =
           "          0          2          2          2          3" ∷
@@ -3852,7 +3918,7 @@ decided =
           "         49          6          4" ∷ [];
       deferrals = [];
     } ∷
-    -- 129 refused 6 later some
+    -- 130 refused 6 later some
     record {
       deck =
           "          0          2          2          2          3" ∷
@@ -3867,7 +3933,7 @@ decided =
           "         49          6          4" ∷ [];
       deferrals = [];
     } ∷
-    -- 130 refused 6 later all
+    -- 131 refused 6 later all
     record {
       deck =
           "          0          2          2          2          3" ∷
@@ -3882,7 +3948,7 @@ decided =
           "         49          6          4" ∷ [];
       deferrals = [];
     } ∷
-    -- 131 refused 6 later min
+    -- 132 refused 6 later min
     record {
       deck =
           "          0          2          2          2          3" ∷
@@ -3897,7 +3963,7 @@ decided =
           "         49          6          4" ∷ [];
       deferrals = [];
     } ∷
-    -- 132 refused 6 later max
+    -- 133 refused 6 later max
     record {
       deck =
           "          0          2          2          2          3" ∷
@@ -3912,7 +3978,7 @@ decided =
           "         49          6          4" ∷ [];
       deferrals = [];
     } ∷
-    -- 133 depth 64
+    -- 134 depth 64
     record {
       deck =
           "          0          2          2          2          3" ∷
@@ -3988,7 +4054,7 @@ decided =
           "         43          0          0          0          0          0          0          0          0          0          0" ∷ [];
       deferrals = [];
     } ∷
-    -- 134 refused 6 depth 65
+    -- 135 refused 6 depth 65
     record {
       deck =
           "          0          2          2          2          3" ∷
@@ -4065,7 +4131,7 @@ decided =
           "         49          6         66" ∷ [];
       deferrals = [];
     } ∷
-    -- 135 refused 7 no member
+    -- 136 refused 7 no member
     record {
       deck =
           "          0          2          2          2          3" ∷
@@ -4080,7 +4146,7 @@ decided =
           "         49          7          4" ∷ [];
       deferrals = [];
     } ∷
-    -- 136 refused 7 one member
+    -- 137 refused 7 one member
     record {
       deck =
           "          0          2          2          2          3" ∷
@@ -4095,7 +4161,7 @@ decided =
           "         49          7          4" ∷ [];
       deferrals = [];
     } ∷
-    -- 137 refused 7 repeated
+    -- 138 refused 7 repeated
     record {
       deck =
           "          0          2          2          2          3" ∷
@@ -4110,7 +4176,7 @@ decided =
           "         49          7          4" ∷ [];
       deferrals = [];
     } ∷
-    -- 138 refused 7 falling
+    -- 139 refused 7 falling
     record {
       deck =
           "          0          2          2          2          3" ∷
@@ -4125,7 +4191,7 @@ decided =
           "         49          7          4" ∷ [];
       deferrals = [];
     } ∷
-    -- 139 refused 7 top in and
+    -- 140 refused 7 top in and
     record {
       deck =
           "          0          2          2          2          3" ∷
@@ -4141,7 +4207,7 @@ decided =
           "         49          7          5" ∷ [];
       deferrals = [];
     } ∷
-    -- 140 refused 7 bot in and
+    -- 141 refused 7 bot in and
     record {
       deck =
           "          0          2          2          2          3" ∷
@@ -4157,7 +4223,7 @@ decided =
           "         49          7          5" ∷ [];
       deferrals = [];
     } ∷
-    -- 141 refused 7 and in and
+    -- 142 refused 7 and in and
     record {
       deck =
           "          0          2          2          2          3" ∷
@@ -4173,7 +4239,7 @@ decided =
           "         49          7          5" ∷ [];
       deferrals = [];
     } ∷
-    -- 142 refused 7 top in or
+    -- 143 refused 7 top in or
     record {
       deck =
           "          0          2          2          2          3" ∷
@@ -4189,7 +4255,7 @@ decided =
           "         49          7          5" ∷ [];
       deferrals = [];
     } ∷
-    -- 143 refused 7 bot in or
+    -- 144 refused 7 bot in or
     record {
       deck =
           "          0          2          2          2          3" ∷
@@ -4205,7 +4271,7 @@ decided =
           "         49          7          5" ∷ [];
       deferrals = [];
     } ∷
-    -- 144 refused 7 or in or
+    -- 145 refused 7 or in or
     record {
       deck =
           "          0          2          2          2          3" ∷
@@ -4221,7 +4287,7 @@ decided =
           "         49          7          5" ∷ [];
       deferrals = [];
     } ∷
-    -- 145 or in and and and in or
+    -- 146 or in and and and in or
     record {
       deck =
           "          0          2          2          2          3" ∷
@@ -4262,7 +4328,7 @@ decided =
           "         43          6          4          2          0          0          0          0          0          2         29" ∷ [];
       deferrals = [];
     } ∷
-    -- 146 refused 8 repeat
+    -- 147 refused 8 repeat
     record {
       deck =
           "          0          2          2          2          3" ∷
@@ -4276,7 +4342,7 @@ decided =
           "         49          8          3" ∷ [];
       deferrals = [];
     } ∷
-    -- 147 refused 8 repeated list
+    -- 148 refused 8 repeated list
     record {
       deck =
           "          0          2          2          2          3" ∷
@@ -4292,7 +4358,7 @@ decided =
           "         49          8          5" ∷ [];
       deferrals = [];
     } ∷
-    -- 148 refused 9 bound
+    -- 149 refused 9 bound
     record {
       deck =
           "          0          2          2          2          3" ∷
@@ -4306,7 +4372,7 @@ decided =
           "         49          9          3" ∷ [];
       deferrals = [];
     } ∷
-    -- 149 largest bounds
+    -- 150 largest bounds
     record {
       deck =
           "          0          2          2          2          3" ∷
