@@ -1,18 +1,15 @@
 -- What a rule that emits clauses adds: both halves of the meaning, and how they go through a sequence of rules. Assumes nothing.
-use mathlib.Core.Path.{_≡_, refl, sym, ap, ap₂, _∙_, fun-ext, subst}
-use mathlib.Core.Bool.{Bool, true, false, not, _&&_, _||_}
+use mathlib.Core.Path.{_≡_, refl, sym, ap, _∙_}
+use mathlib.Core.Bool.{Bool, true}
 use mathlib.Core.List.{List, [], _∷_, _++_, append-nil, append-assoc}
-use mathlib.Core.Option.{Option, none, some}
-use Prim.Native.Nat.{ℕ, zero, suc, _+_, _≤_, _<_}
-use native.Mathlib.Nat.{not-suc-le-zero, le-refl}
+use Prim.Native.Nat.{ℕ, suc, _+_, _≤_, _<_}
+use native.Mathlib.Nat.{le-refl}
 use native.Mathlib.Omega.{arith}
-use lib.ListN.{length, length-append}
-use lib.Dec.{leb, eqb}
+use lib.ListN.{length}
+use lib.Dec.{eqb}
 use Rattle.ir.specs.declared.role.Role.{Role}
 use Rattle.ir.specs.declared.atom.Atom.{Atom}
 use Rattle.ir.specs.declared.atom.Atom.the-variants.{Class, Exists, AtMost, AtLeast, Equal, Role as RoleAtom}
-use Rattle.ir.specs.declared.atom.Qualifier.{Qualifier}
-use Rattle.ir.specs.declared.atom.Qualifier.the-variants.{Unqualified, Qualified}
 use Rattle.rules.specs.Base.{all}
 use Rattle.rules.specs.Concept.{Concept}
 use Rattle.rules.specs.Concept.{Top, Bot, Atomic, Nominal, SelfRestriction, Not, And, Or, Some, All, Min, Max}
@@ -20,10 +17,10 @@ use Rattle.rules.specs.Pool.{Pool, at}
 use Rattle.rules.specs.State.{Clause, Env, Out, canon}
 use Rattle.rules.specs.Heads.{emitBy}
 use Rattle.rules.specs.Post.{Post}
-use Rattle.rules.specs.Invariants.{Each, Bounds, Bounded, Wf, RoleIn, QualifierIn}
+use Rattle.rules.specs.Invariants.{Each, Bounds, Bounded, Wf, QualifierIn}
 use Rattle.rules.specs.Semantics.{Interpretation, withClasses, related, atomHolds, conceptMeans, meaningAt, meaningsFrom, means}
 use Rattle.meaning.specs.Choices.{Choice, Follows}
-use Rattle.meaning.specs.Valuations.{Valuation, Agree, agree-refl, agree-trans, AtomUnder, ClauseUnder, each-of, each-joined, each-left, each-right, atom-under-more, clause-under-more, follow-agree}
+use Rattle.meaning.specs.Valuations.{Valuation, Agree, agree-refl, agree-trans, AtomUnder, ClauseUnder, each-of, each-joined, each-left, each-right, clause-under-more, follow-agree}
 
 -- ---- an atom's variables are below n
 abbrev pub VarsUnder : ℕ → Atom → Type 0

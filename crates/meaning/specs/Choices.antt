@@ -1,15 +1,12 @@
 -- A clause holds, by the choices of elements for its own variables, exactly when it follows under every choice of elements for
 -- all variables (where there is an element). Assumes nothing.
-use mathlib.Core.Path.{_≡_, refl, sym, ap, ap₂, _∙_, fun-ext, subst}
-use mathlib.Core.Bool.{Bool, true, false, not, _&&_, _||_, false≢true}
+use mathlib.Core.Path.{_≡_, refl, sym, ap, ap₂, _∙_}
+use mathlib.Core.Bool.{Bool, true, false, _&&_, _||_, false≢true}
 use mathlib.Core.List.{List, [], _∷_, _++_, map}
-use mathlib.Core.Option.{Option, none, some}
-use Prim.Native.Nat.{ℕ, zero, suc, _+_, _≤_, _<_}
-use native.Mathlib.Omega.{arith}
-use native.Mathlib.Decide.{ℕ-discrete}
+use mathlib.Core.Option.{some}
+use Prim.Native.Nat.{ℕ, _<_}
 use lib.Dec.{eqb, leb, ltb}
-use borrow.Author.Tests.{eq-eqb, ne-eqb, eqb-true, eqb-false}
-use Rattle.ir.specs.Pick.{pick}
+use borrow.Author.Tests.{eq-eqb, eqb-true}
 use Rattle.ir.specs.Atoms.{atomVars}
 use Rattle.ir.specs.declared.atom.Atom.{Atom}
 use Rattle.ir.specs.declared.atom.Atom.the-variants.{Class, Exists, AtMost, AtLeast, Equal, Role as RoleAtom}
@@ -17,7 +14,7 @@ use Rattle.rules.specs.Base.{all, any, contains}
 use Rattle.rules.specs.Pool.{insert, placed}
 use Rattle.rules.specs.State.{Clause}
 use Rattle.rules.specs.Invariants.{Each}
-use Rattle.rules.specs.Semantics.{Interpretation, elementsBelow, elements, related, qualifies, count, implies, atomHolds, inserted, varsOf, clauseVars, chosen, everyChoice, clauseHoldsAt, clauseHolds, readHolds}
+use Rattle.rules.specs.Semantics.{Interpretation, elements, related, qualifies, count, atomHolds, inserted, varsOf, clauseVars, chosen, everyChoice, clauseHoldsAt, clauseHolds, readHolds}
 use Rattle.meaning.specs.Truth.{and-left, and-right, and-both, or-unit, implies-elim, implies-intro, all-elements, elements-all, by-truth}
 
 -- an element for every variable

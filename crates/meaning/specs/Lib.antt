@@ -15,3 +15,9 @@ pub mod Passes
 pub mod Unfolding
 pub mod Loops
 pub mod ReflexivePasses
+pub mod Matching
+pub mod Renumbering
+pub mod Grouping
+pub mod Naming
+pub mod Branches
+pub mod Decomposition

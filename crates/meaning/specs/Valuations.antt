@@ -1,11 +1,11 @@
 -- Sets for the classes: valuations that agree below a class id give the atoms and clauses below it the same truth. Assumes
 -- nothing.
 use mathlib.Core.Path.{_≡_, refl, sym, ap, ap₂, _∙_}
-use mathlib.Core.Bool.{Bool, true, false, _&&_, _||_}
+use mathlib.Core.Bool.{Bool, _&&_, _||_}
 use mathlib.Core.List.{List, [], _∷_, _++_}
-use Prim.Native.Nat.{ℕ, zero, suc, _+_, _≤_, _<_}
+use Prim.Native.Nat.{ℕ, _≤_, _<_}
 use native.Mathlib.Omega.{arith}
-use lib.Dec.{leb, eqb}
+use lib.Dec.{leb}
 use Rattle.ir.specs.declared.atom.Atom.{Atom}
 use Rattle.ir.specs.declared.atom.Atom.the-variants.{Class, Exists, AtMost, AtLeast, Equal, Role as RoleAtom}
 use Rattle.ir.specs.declared.atom.Qualifier.{Qualifier}

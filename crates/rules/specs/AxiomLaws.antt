@@ -132,25 +132,25 @@ unfolding restartVars
 restart-post s f h = h
 
 -- ---- pairs
-abbrev Both : {A : Type 0} → (A → Type 0) → A × A → Type 0
+abbrev pub Both : {A : Type 0} → (A → Type 0) → A × A → Type 0
 Both P p = P (p .0) × P (p .1)
 
-each-paired : {A : Type 0} (P : A → Type 0) (a : A) (l : List A) (rest : List (A × A)) → P a → Each P l → Each (Both P) rest → Each (Both P) (paired a l rest)
+pub each-paired : {A : Type 0} (P : A → Type 0) (a : A) (l : List A) (rest : List (A × A)) → P a → Each P l → Each (Both P) rest → Each (Both P) (paired a l rest)
 unfolding paired
 each-paired P a [] rest h u w = w
 each-paired P a (b ∷ l) rest h u w = ((h, u .0), each-paired P a l rest h (u .1) w)
 
-each-later : {A : Type 0} (P : A → Type 0) (l : List A) → Each P l → Each (Both P) (laterPairs l)
+pub each-later : {A : Type 0} (P : A → Type 0) (l : List A) → Each P l → Each (Both P) (laterPairs l)
 unfolding laterPairs
 each-later P [] u = tt
 each-later P (a ∷ l) u = each-paired P a l (laterPairs l) (u .0) (u .1) (each-later P l (u .1))
 
-each-numbered : {A : Type 0} (P : A → Type 0) (n : ℕ) (l : List A) → Each P l → Each (λ x. P (x .1)) (numbered n l)
+pub each-numbered : {A : Type 0} (P : A → Type 0) (n : ℕ) (l : List A) → Each P l → Each (λ x. P (x .1)) (numbered n l)
 unfolding numbered
 each-numbered P n [] u = tt
 each-numbered P n (a ∷ l) u = (u .0, each-numbered P (suc n) l (u .1))
 
-each-others : {A : Type 0} (P : A → Type 0) (x : ℕ × A) (l : List (ℕ × A)) (rest : List (A × A)) → P (x .1) → Each (λ y. P (y .1)) l → Each (Both P) rest → Each (Both P) (withOthers x l rest)
+pub each-others : {A : Type 0} (P : A → Type 0) (x : ℕ × A) (l : List (ℕ × A)) (rest : List (A × A)) → P (x .1) → Each (λ y. P (y .1)) l → Each (Both P) rest → Each (Both P) (withOthers x l rest)
 unfolding withOthers
 each-others P x [] rest h u w = w
 each-others {A} P x (y ∷ l) rest h u w = go (eqb (x .0) (y .0)) (withOthers x l rest) (each-others P x l rest h (u .1) w)
@@ -159,19 +159,19 @@ each-others {A} P x (y ∷ l) rest h u w = go (eqb (x .0) (y .0)) (withOthers x 
     go true k v = v
     go false k v = ((h, u .0), v)
 
-each-ordered : {A : Type 0} (P : A → Type 0) (k l : List (ℕ × A)) → Each (λ y. P (y .1)) k → Each (λ y. P (y .1)) l → Each (Both P) (orderedFrom k l)
+pub each-ordered : {A : Type 0} (P : A → Type 0) (k l : List (ℕ × A)) → Each (λ y. P (y .1)) k → Each (λ y. P (y .1)) l → Each (Both P) (orderedFrom k l)
 unfolding orderedFrom
 each-ordered P [] l u w = tt
 each-ordered P (x ∷ k) l u w = each-others P x l (orderedFrom k l) (u .0) w (each-ordered P k l (u .1) w)
 
 -- ---- rules in one of the two states
-abbrev stOf : Clausifier → St
+abbrev pub stOf : Clausifier → St
 stOf z = record { pool = z .pool; visits = z .out .visits; limit = z .out .limit }
 
-abbrev afterNnf : St → Clausifier → Clausifier
+abbrev pub afterNnf : St → Clausifier → Clausifier
 afterNnf t z = record { pool = t .pool; out = visitedTo (t .visits) (z .out) }
 
-abbrev afterOut : Out → Clausifier → Clausifier
+abbrev pub afterOut : Out → Clausifier → Clausifier
 afterOut t z = record { pool = z .pool; out = t }
 
 nnf-then : {A D : Type 0} {P : A → St → Type 0} {Q : D → Clausifier → Type 0} (z : Clausifier) (f : N A) (k : A → C D)
@@ -215,7 +215,7 @@ record Parted (B : Bounds) (p : Pool) (s : Out) (parts : Parts) (t : Out) : Type
   softIn : Each (Held p) (parts .soft)
   hardIn : Each (Held p) (parts .hard)
 
-conjuncts-in : (B : Bounds) (n c : ℕ) → c < n → (e : Concept) → Bounded B c e → Each (λ d. d < n) (conjuncts c e)
+pub conjuncts-in : (B : Bounds) (n c : ℕ) → c < n → (e : Concept) → Bounded B c e → Each (λ d. d < n) (conjuncts c e)
 conjuncts-in B n c h Top u = (h, tt)
 conjuncts-in B n c h Bot u = (h, tt)
 conjuncts-in B n c h (Atomic _) u = (h, tt)

@@ -175,7 +175,7 @@ atom-table-length t l h = let e = atom-records-long l in table-length (t .atoms)
 pub deferral-table-length : (t : Lengths) (l : List Deferred) → length l ≤ roomsOf t .deferrals → length (tableOf (t .deferrals) (deferralRecords l)) ≡ t .deferrals
 deferral-table-length t l h = let e = deferral-records-long l in table-length (t .deferrals) (deferralRecords l) (omega arith)
 
-zeros-small : (n : ℕ) → Bytes (replicate n 0)
+pub zeros-small : (n : ℕ) → Bytes (replicate n 0)
 zeros-small zero k = omega arith
 zeros-small (suc n) zero = omega arith
 zeros-small (suc n) (suc k) = zeros-small n k

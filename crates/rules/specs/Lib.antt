@@ -28,10 +28,13 @@ pub mod HeadLaws
 pub mod AxiomLaws
 pub mod Ends
 pub mod BoundLaws
+pub mod LinedEnds
+pub mod NnfEnds
 pub mod Added
 pub mod ReflexiveLaws
 pub mod BranchLaws
 pub mod LateLaws
+pub mod RoomLaws
 pub mod TextLaws
 pub mod DeckLaws
 pub mod Lister
@@ -41,6 +44,7 @@ pub mod Semantics
 pub mod Decode
 pub mod DecodeLaws
 pub mod Statements
+pub mod RunLaws
 pub mod Decided
 pub mod Cases
 pub mod Tried
