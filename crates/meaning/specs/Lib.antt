@@ -10,6 +10,14 @@ pub mod PoolMeans
 pub mod AxiomMeans
 pub mod NormalForm
 pub mod InverseMap
+pub mod Antecedents
+pub mod Added
+pub mod Inclusions
+pub mod Absorb
+pub mod Pairs
+pub mod RoleAxioms
+pub mod Disjoint
+pub mod Axioms
 pub mod ReflexiveSet
 pub mod Passes
 pub mod Unfolding

@@ -21,7 +21,7 @@ use Rattle.rules.specs.Invariants.{Each, Bounds}
 use Rattle.rules.specs.Semantics.{Interpretation, withClasses, atomHolds, chosen}
 use Rattle.meaning.specs.Choices.{Choice, Follows, AgreeOn, atom-agree}
 use Rattle.meaning.specs.Valuations.{Valuation, Agree, agree-refl, AtomUnder, each-of, atom-under-more}
-use Rattle.meaning.specs.Adds.{VarsUnder, FineAtom, Setting, Alone, Adds, stay, seq, Pre}
+use Rattle.meaning.specs.Adds.{VarsUnder, FineAtom, Setting, Alone, Adds, stay, Pre}
 
 -- ---- choices of elements: a body reads its own variables alone
 module _ (I : Interpretation) (n : ℕ) (f g : ℕ → ℕ) (h : (v : ℕ) → v < n → f v ≡ g v) where
@@ -233,45 +233,3 @@ module _ (I : Interpretation) (B : Bounds) (env : Env) (base : ℕ) (S : Setting
         says = λ _ _ _ _ _ e. absurd (omega (arith, longer-by, e));
       })
       go false = refuses
-
-  -- ---- an axiom sets the variables back, so above one axiom what is added says nothing of them: it is `Adds` between the two
-  -- states with their variables set back
-  pub record AddsAll (s : Out) (H G C : Valuation → Type 0) (t : Out) : Type 0 where
-    pub back : Adds I B env base S (restarted s) H G C (restarted t)
-
-  pub adds-all : {s t : Out} {H G C : Valuation → Type 0} → Adds I B env base S s H G C t → AddsAll s H G C t
-  adds-all A = record {
-    back = record {
-      new = A .new;
-      grown = A .grown;
-      fresh = A .fresh;
-      var = le-refl 1;
-      defers = A .defers;
-      under = A .under;
-      gets = A .gets;
-      says = A .says;
-    };
-  }
-
-  -- what a rule adds after a restart
-  pub all-restarted : {t : Out} {H G C : Valuation → Type 0} (s : Out) → Adds I B env base S (restarted s) H G C t → AddsAll s H G C t
-  all-restarted s A = record { back = adds-all A .back }
-
-  pub restart-adds : (s : Out) → Post (λ _ t. AddsAll s Always Always Always t) (restartVars s)
-  unfolding restartVars
-  restart-adds s = give (record { back = stay I B env base S (restarted s) (λ _ _ _. tt) (λ _ _. tt) })
-
-  pub all-stay : {H G C : Valuation → Type 0} (s : Out) → ((k : Valuation) → Alone I B env k → H k → G k) → ((k : Valuation) → Alone I B env k → C k) → AddsAll s H G C s
-  all-stay s g c = record { back = stay I B env base S (restarted s) g c }
-
-  pub all-map : {s t : Out} {H G C H′ G′ C′ : Valuation → Type 0} → ((k : Valuation) → Alone I B env k → H′ k → H k) → ((k : Valuation) → G k → G′ k) → ((k : Valuation) → Alone I B env k → C k → C′ k)
-      → AddsAll s H G C t → AddsAll s H′ G′ C′ t
-  all-map hh gg cc′ A = record { back = adds-alone hh gg cc′ (A .back) }
-
-  pub all-seq : {s s₁ s₂ : Out} {H₁ G₁ C₁ H₂ G₂ C₂ H G C : Valuation → Type 0} → base ≤ s .nextFresh → AddsAll s H₁ G₁ C₁ s₁ → AddsAll s₁ H₂ G₂ C₂ s₂
-      → ((k : Valuation) → H k → H₁ k)
-      → ((k l : Valuation) → H k → Agree (s .nextFresh) k l → Alone I B env l → G₁ l → H₂ l)
-      → ((k l : Valuation) → Agree (s₁ .nextFresh) k l → G₁ k → G₂ l → G l)
-      → ((k : Valuation) → Alone I B env k → C₁ k → C₂ k → C k)
-      → AddsAll s H G C s₂
-  all-seq b A D hh mid gg cc′ = record { back = seq I B env base S b (A .back) (D .back) hh mid gg cc′ }
