@@ -29,3 +29,6 @@ pub mod Grouping
 pub mod Naming
 pub mod Branches
 pub mod Decomposition
+pub mod Kinds
+pub mod Composition
+pub mod Theorem

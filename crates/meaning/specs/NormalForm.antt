@@ -16,12 +16,12 @@ use Rattle.rules.specs.Concept.{Top, Bot, Atomic, Nominal, SelfRestriction, Not
 use Rattle.rules.specs.Pool.{Pool, at, mkTop, mkBot, mkNot, mkSome, mkAll, mkMin, mkMax}
 use Rattle.rules.specs.Normalize.{St, N, begun, visit, backIn, inPool, nnfStep, negationStep, toNnf, pushNegationIn, nnfAxiom}
 use Rattle.rules.specs.Deck.{axiomLine}
-use Rattle.rules.specs.Run.{done, nnfAxioms}
+use Rattle.rules.specs.Run.{nnfAxioms}
 use Rattle.rules.specs.Post.{Post, gives, refuses, give, post-then, post-map}
 use Rattle.rules.specs.Invariants.{Each, Bounds, Bounded, Wf, Grown, AxiomIn}
 use Rattle.rules.specs.JointLaws.{Joint, conj, disj, listOf, mkJoint}
 use Rattle.rules.specs.PoolLaws.{post-both, grown-refl, grown-trans, grown-length, below-more, made-self}
-use Rattle.rules.specs.LinedPost.{LinedPost, finishes, finish, lined-post, lined-then}
+use Rattle.rules.specs.LinedPost.{LinedPost, done-post, finish, lined-post, lined-then}
 use Rattle.rules.specs.NormalizeLaws.{axioms-more, nnf-axiom-made}
 use Rattle.rules.specs.DeckLaws.{boundsOf, read-in}
 use Rattle.rules.specs.Semantics.{Interpretation, related, elements, count, implies, conceptMeans, means, satisfied}
@@ -265,9 +265,6 @@ module _ (I : Interpretation) (B : Bounds) where
         grown-trans (D .0 .ran .grows) (E .0),
         ap₂ {C = List Bool} _∷_ (satisfied-grown I B (E .0) b (D .0 .inside) ∙ D .1) (E .1 ∙ all-satisfied-grown I B (D .0 .ran .grows) l (h .1)),
       )))
-
-done-post : {S A : Type 0} {Q : A → S → Type 0} {a : A} {s : S} → LinedPost Q (done a s) → Q a s
-done-post (finishes h) = h
 
 pub normal-form-keeps-meaning : NormalFormKeepsMeaning
 normal-form-keeps-meaning deck d limit axioms s fine run I =

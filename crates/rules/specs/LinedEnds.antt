@@ -5,7 +5,7 @@ use Prim.Native.Nat.{ℕ}
 use Rattle.rules.specs.Base.{Res}
 use Rattle.rules.specs.Run.{Lined, done, stopped, lined, linedThen}
 use Rattle.rules.specs.Ends.{Ends, ends, stops}
-use Rattle.rules.specs.LinedPost.{LinedPost, finishes, stops as stops-post}
+use Rattle.rules.specs.LinedPost.{LinedPost, finishes, stops as stops-post, done-post}
 
 pub data LinedEnds {S A : Type 0} (Q : A → S → Type 0) : Lined S A → Type 0 where
   closes : {a : A} {s : S} → Q a s → LinedEnds Q (done a s)
@@ -30,11 +30,8 @@ lined-ends-post (halts n) = stops-post
 
 -- two properties of one run
 pub lined-ends-both : {S A : Type 0} {P Q : A → S → Type 0} {r : Lined S A} → LinedPost P r → LinedEnds Q r → LinedEnds (λ a s. P a s × Q a s) r
-lined-ends-both {P = P} {r = done a s} h (closes k) = closes (answer P a s h, k)
-  where
-    answer : {S A : Type 0} (P : A → S → Type 0) (a : A) (s : S) → LinedPost P (done a s) → P a s
-    answer P a s (finishes x) = x
-lined-ends-both {r = stopped k line} h (halts n) = halts n
+lined-ends-both h (closes k) = closes (done-post h, k)
+lined-ends-both h (halts n) = halts n
 
 -- `closes` as a function: the expected type of a function's call is read before its arguments
 pub close : {S A : Type 0} {Q : A → S → Type 0} {a : A} {s : S} → Q a s → LinedEnds Q (done a s)

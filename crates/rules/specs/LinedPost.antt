@@ -24,3 +24,11 @@ lined-map stops k = stops
 -- `finishes` as a function: the expected type of a function's call is read before its arguments, and of a constructor's after
 pub finish : {S A : Type 0} {Q : A → S → Type 0} {a : A} {s : S} → Q a s → LinedPost Q (done a s)
 finish h = finishes h
+
+-- what holds of an answer that is there
+pub done-post : {S A : Type 0} {Q : A → S → Type 0} {a : A} {s : S} → LinedPost Q (done a s) → Q a s
+done-post (finishes h) = h
+
+pub lined-both : {S A : Type 0} {P Q : A → S → Type 0} {r : Lined S A} → LinedPost P r → LinedPost Q r → LinedPost (λ a s. P a s × Q a s) r
+lined-both (finishes h) k = finishes (h, done-post k)
+lined-both stops k = stops

@@ -188,15 +188,24 @@ module _ (limit : ℕ) (deck : List ℕ) (t : Lengths) where
       sized false e = small
       sized true e = told (sizes-ok t e) (readDeck deck) refl (read-answers deck)
 
-  -- an accepted run of a deck that was read
-  pub run-accepted : (d : Known) (a : Accepted) → readDeck deck ≡ fine d → runWith limit deck t ≡ accepted a → Sized t × AcceptedIn d limit (roomsOf t) a
-  run-accepted d a e = run-outcome (λ o. o ≡ accepted a → Sized t × AcceptedIn d limit (roomsOf t) a) (other 1 0) (λ k line _. other k line) (λ k f z q.
+  -- an accepted run of a deck that was read: what holds of the deck's run holds of the state that it ended in
+  pub run-from : {Q : ℕ → Out → Type 0} (d : Known) (a : Accepted) → readDeck deck ≡ fine d → runWith limit deck t ≡ accepted a → LinedPost Q (deckRun limit (roomsOf t) d)
+      → Sized t × (n : ℕ) × (s : Out) × Q n s × (acceptedOf d n s ≡ a)
+  run-from {Q} d a e q h = run-outcome (λ o. o ≡ accepted a → State) (other 1 0) (λ k line _. other k line) (λ k f z r.
       let same : k ≡ d = cc in
-      let x = accepted-from k a (run-in limit (roomsOf t) k (read-in deck k f)) q in
-      (z, subst (λ m. AcceptedIn m limit (roomsOf t) a) same (subst (AcceptedIn k limit (roomsOf t)) (x .3) (accepted-in k limit (roomsOf t) (x .0) (x .1) (x .2)))))
+      let y = accepted-from d a h (subst (λ m. outcomeOf m (deckRun limit (roomsOf t) m) ≡ accepted a) same r) in
+      (z, y .0, y .1, y .2, y .3)) q
     where
-      other : (k line : ℕ) → refused k line ≡ accepted a → Sized t × AcceptedIn d limit (roomsOf t) a
-      other k line q = let z : _≡_ {A = ℕ} 0 1 = cc in absurd (omega arith)
+      State : Type 0
+      State = Sized t × (n : ℕ) × (s : Out) × Q n s × (acceptedOf d n s ≡ a)
+
+      other : (k line : ℕ) → refused k line ≡ accepted a → State
+      other k line r = let z : _≡_ {A = ℕ} 0 1 = cc in absurd (omega arith)
+
+  pub run-accepted : (d : Known) (a : Accepted) → readDeck deck ≡ fine d → runWith limit deck t ≡ accepted a → Sized t × AcceptedIn d limit (roomsOf t) a
+  run-accepted d a e q =
+      let x = run-from d a e q (run-in limit (roomsOf t) d (read-in deck d e)) in
+      (x .0, subst (AcceptedIn d limit (roomsOf t)) (x .4) (accepted-in d limit (roomsOf t) (x .1) (x .2) (x .3)))
 
 -- ---- the tables at exit
 -- every word of a run under the contract's limit is below 2 ^ 32
