@@ -16,24 +16,14 @@ use Rattle.rules.specs.Semantics.{Interpretation, withClasses, satisfied}
 use Rattle.meaning.specs.Choices.{Follows}
 use Rattle.meaning.specs.Valuations.{Valuation}
 use Rattle.meaning.specs.ReflexiveSet.{own-reflexive}
-use Rattle.meaning.specs.Passes.{Passed, pass-nothing, pass-on, passed-all, passed-more, Due, PassMeans, due-own, due-means}
-use Rattle.meaning.specs.Unfolding.{KeptByContraction, contracted-due, unfold-passes}
-use Rattle.meaning.specs.Loops.{GivesLoops, loop-due, loops-pass}
-
--- P is kept by contraction, and gives Q of itself and of its loops
-pub passes-pass : (env : Env) (set : List ℕ) (P Q : Clause → Type 0) → KeptByContraction set P → ((c : Clause) → P c → Q c) → GivesLoops set P Q
-    → (s : Out) → Each P (s .clauses) → Post (λ _ t. Passed Q s t) (reflexivePasses env set s)
-passes-pass env [] P Q keeps more loops s u = give (pass-nothing Q s)
-passes-pass env (r ∷ set) P Q keeps more loops s u =
-    post-then (unfold-passes env (r ∷ set) P keeps s u)
-    (λ _ t A. post-map (loops-pass env (r ∷ set) P Q loops t (passed-all P A u)) (λ _ w R. pass-on Q (passed-more more A) R))
+use Rattle.rules.specs.Added.{added-none}
+use Rattle.meaning.specs.Passes.{Due, PassMeans, pass-then, due-means}
+use Rattle.meaning.specs.Unfolding.{unfold-means}
+use Rattle.meaning.specs.Loops.{loops-means}
 
 pub passes-mean : (env : Env) (set : List ℕ) (s : Out) → Post (λ _ t. PassMeans set s t) (reflexivePasses env set s)
-passes-mean env set s =
-    let P = Due set (s .clauses) in
-    post-map
-    (passes-pass env set P P (contracted-due set (s .clauses)) (λ c d. d) (λ c _ _ r _ _ v _ i _ d. loop-due set (s .clauses) c r v i d) s (due-own set (s .clauses)))
-    (λ _ t A. due-means set s t A)
+passes-mean env [] s = give (due-means [] env s s (added-none env (Due [] (s .clauses)) s))
+passes-mean env (r ∷ set) s = post-then (unfold-means env (r ∷ set) s) (λ _ t A. post-map (loops-means env (r ∷ set) t) (λ _ u D. pass-then (r ∷ set) A D))
 
 -- over the axioms that the map of inverses is made of, where they are satisfied
 pub own-follow : (I : Interpretation) (env : Env) (p : Pool) (axioms : List Axiom) → env .inverseCanon ≡ buildInverseCanon axioms → all (satisfied I p) axioms ≡ true

@@ -19,13 +19,15 @@ use Rattle.rules.specs.State.{Env, Out, E, Clause, clause}
 use Rattle.rules.specs.Post.{Post, refuses, post-then, post-map, give}
 use Rattle.rules.specs.Invariants.{Each}
 use Rattle.rules.specs.Semantics.{Interpretation, related, atomHolds}
-use Rattle.rules.specs.Reflexive.{keptVar, droppedVar, contracted, Derived, Unfolded, more, capped, reflexiveDerivedCap, isReflexive, isTrivial, containsClause, queued, derive, deriveNew, contract, goOn, unfoldRole, unfoldAt, unfoldBody, finish, popped, unfoldBy, stacked, applyReflexiveRoles}
+use Rattle.rules.specs.Reflexive.{keptVar, droppedVar, contracted, applyReflexiveRoles}
+use Rattle.rules.specs.Ends.{ends-post, ends-map}
+use Rattle.rules.specs.ReflexiveLaws.{Keeps, reflexive-adds}
 use Rattle.meaning.specs.Truth.{and-left, and-right, and-both, all-append}
 use Rattle.meaning.specs.Choices.{Follows}
 use Rattle.meaning.specs.Valuations.{AtomUnder, ClauseUnder, each-left, each-right, each-joined}
 use Rattle.meaning.specs.InverseMap.{each-pick}
 use Rattle.meaning.specs.ReflexiveSet.{Reflexive, self-pair, each-contains}
-use Rattle.meaning.specs.Passes.{Passed, pass-nothing, pass-on, pass-push, pass-defer, Due, PassMeans, due-own, due-means}
+use Rattle.meaning.specs.Passes.{Due, PassMeans, due-own, due-means}
 
 -- ---- substitution
 module _ (I : Interpretation) (f g : ℕ → ℕ) where
@@ -112,96 +114,12 @@ contracted-under n before after head r src tgt u =
     record { body = substituted-under n g (before ++ after) e; head = substituted-under n g head (u .head) }
 
 -- P of a clause is P of it contracted along an atom over a role of the set
-abbrev pub KeptByContraction : List ℕ → (Clause → Type 0) → Type 0
-KeptByContraction set P = (before after head : List Atom) (r : Role) (src tgt : ℕ) → contains set (roleId r) ≡ true
-    → P (clause (before ++ (RoleAtom r src tgt ∷ after)) head) → P (contracted before after head src tgt)
-
-pub contracted-due : (set : List ℕ) (l : List Clause) → KeptByContraction set (Due set l)
-contracted-due set l before after head r src tgt e d = record {
+pub contracted-due : (env : Env) (set : List ℕ) (l : List Clause) → Keeps env set (Due set l)
+contracted-due env set l r before after head src tgt e d = record {
   from = λ I h u. contracted-follows I before after head r src tgt (each-contains (Reflexive I) set (roleId r) h e) (d .from I h u);
   under = λ n u. contracted-under n before after head r src tgt (d .under n u);
 }
 
--- ---- the pass: a property of clauses that contraction keeps is one of the clauses that it adds
-module _ (env : Env) (set : List ℕ) (P : Clause → Type 0) (keeps : KeptByContraction set P) where
-  abbrev Waiting : Unfolded → Type 0
-  Waiting (more d) = Each P (d .queue)
-  Waiting capped = Unit {0}
-
-  record Stepped (s : Out) (u : Unfolded) (t : Out) : Type 0 where
-    passed : Passed P s t
-    waiting : Waiting u
-
-  stepped-on : {s t w : Out} {u : Unfolded} → Passed P s t → Stepped t u w → Stepped s u w
-  stepped-on A S = record { passed = pass-on P A (S .passed); waiting = S .waiting }
-
-  derive-steps : (c : Clause) (d : Derived) (b : Bool) (s : Out) → P c → Each P (d .queue) → Post (Stepped s) (derive env set c d b s)
-  derive-steps c d true s h u = post-then (pass-defer P env ReflexiveDerivedCap s) (λ _ t A. give (record { passed = A; waiting = tt }))
-  derive-steps c d false s h u =
-      post-then (pass-push P env (c .body) (c .head) s h)
-      (λ _ t A. give (record { passed = A; waiting = each-pick P (any (isReflexive set) (c .body)) (c ∷ d .queue) (d .queue) (h, u) u }))
-
-  contract-steps : (c : Clause) (d : Derived) (s : Out) → P c → Each P (d .queue) → Post (Stepped s) (contract env set c d s)
-  unfolding contract
-  contract-steps c d s h u = go (isTrivial set c || containsClause (d .seen) c)
-    where
-      go : (b : Bool) → Post (Stepped s) (deriveNew env set c d b s)
-      go true = give (record { passed = pass-nothing P s; waiting = u })
-      go false = derive-steps c d (eqb (length (d .seen)) reflexiveDerivedCap) s h u
-
-  -- what goes on from a queue
-  abbrev GoesOn : (Derived → E Unfolded) → Type 0
-  GoesOn rest = (d : Derived) (s : Out) → Each P (d .queue) → Post (Stepped s) (rest d s)
-
-  go-on-steps : (rest : Derived → E Unfolded) → GoesOn rest → (s : Out) (u : Unfolded) (t : Out) → Stepped s u t → Post (Stepped s) (goOn env set rest u t)
-  go-on-steps rest k s (more d) t S = post-map (k d t (S .waiting)) (λ u w R. stepped-on (S .passed) R)
-  go-on-steps rest k s capped t S = give S
-
-  role-steps : (rest : Derived → E Unfolded) → GoesOn rest → (c : Clause) (d : Derived) (b : Bool) (s : Out) → (b ≡ true → P c) → Each P (d .queue) → Post (Stepped s) (unfoldRole env set rest c d b s)
-  role-steps rest k c d true s h u = post-then (contract-steps c d s (h refl) u) (λ v t S. go-on-steps rest k s v t S)
-  role-steps rest k c d false s h u = k d s u
-
-  at-steps : (rest : Derived → E Unfolded) → GoesOn rest → (before after head : List Atom) (a : Atom) (d : Derived) (s : Out) → P (clause (before ++ (a ∷ after)) head) → Each P (d .queue)
-      → Post (Stepped s) (unfoldAt env set rest before after head a d s)
-  at-steps rest k before after head (Class _ _) d s h u = k d s u
-  at-steps rest k before after head (RoleAtom r src tgt) d s h u =
-      role-steps rest k (contracted before after head src tgt) d (contains set (roleId r)) s (λ e. keeps before after head r src tgt e h) u
-  at-steps rest k before after head (Exists _ _ _) d s h u = k d s u
-  at-steps rest k before after head (AtMost _ _ _ _) d s h u = k d s u
-  at-steps rest k before after head (AtLeast _ _ _ _) d s h u = k d s u
-  at-steps rest k before after head (Equal _ _) d s h u = k d s u
-
-  body-steps : (before l head : List Atom) → P (clause (before ++ l) head) → GoesOn (λ d. unfoldBody env set before l head d)
-  unfolding unfoldBody
-  body-steps before [] head h d s u = give (record { passed = pass-nothing P s; waiting = u })
-  body-steps before (a ∷ l) head h d s u =
-      at-steps (λ d₁. unfoldBody env set (before ++ (a ∷ [])) l head d₁) (body-steps (before ++ (a ∷ [])) l head (rw append-assoc h)) before l head a d s h u
-
-  finish-passes : (rest : Derived → E (Unit {0})) → ((d : Derived) (s : Out) → Each P (d .queue) → Post (λ _ t. Passed P s t) (rest d s))
-      → (s : Out) (u : Unfolded) (t : Out) → Stepped s u t → Post (λ _ t. Passed P s t) (finish env set rest u t)
-  finish-passes rest k s (more d) t S = post-map (k d t (S .waiting)) (λ _ w R. pass-on P (S .passed) R)
-  finish-passes rest k s capped t S = give (S .passed)
-
-  popped-passes : (rest : Derived → E (Unit {0})) → ((d : Derived) (s : Out) → Each P (d .queue) → Post (λ _ t. Passed P s t) (rest d s))
-      → (q seen : List Clause) (s : Out) → Each P q → Post (λ _ t. Passed P s t) (popped env set rest q seen s)
-  popped-passes rest k [] seen s u = give (pass-nothing P s)
-  popped-passes rest k (c ∷ q) seen s u =
-      post-then (body-steps [] (c .body) (c .head) (u .0) (record { queue = q; seen = seen }) s (u .1)) (λ v t S. finish-passes rest k s v t S)
-
-  by-passes : (f : ℕ) (d : Derived) (s : Out) → Each P (d .queue) → Post (λ _ t. Passed P s t) (unfoldBy env set f d s)
-  unfolding unfoldBy
-  by-passes zero d s u = refuses
-  by-passes (suc f) d s u = popped-passes (λ d₁. unfoldBy env set f d₁) (by-passes f) (d .queue) (d .seen) s u
-
-  stacked-each : (l q : List Clause) → Each P l → Each P q → Each P (stacked env set l q)
-  unfolding stacked
-  stacked-each [] q u v = v
-  stacked-each (c ∷ l) q u v = stacked-each l (queued env set c q) (u .1) (each-pick P (any (isReflexive set) (c .body)) (c ∷ q) q (u .0, v) v)
-
-  pub unfold-passes : (s : Out) → Each P (s .clauses) → Post (λ _ t. Passed P s t) (applyReflexiveRoles env set s)
-  unfolding applyReflexiveRoles
-  unfold-passes s u = by-passes (length (s .clauses) + reflexiveDerivedCap + 1) (record { queue = stacked env set (s .clauses) []; seen = [] }) s (stacked-each (s .clauses) [] u tt)
-
 pub unfold-means : (env : Env) (set : List ℕ) (s : Out) → Post (λ _ t. PassMeans set s t) (applyReflexiveRoles env set s)
 unfold-means env set s =
-    post-map (unfold-passes env set (Due set (s .clauses)) (contracted-due set (s .clauses)) s (due-own set (s .clauses))) (λ _ t A. due-means set s t A)
+    ends-post (ends-map (reflexive-adds env set (Due set (s .clauses)) (contracted-due env set (s .clauses)) s (due-own set (s .clauses))) (λ _ t A. due-means set env s t A))
