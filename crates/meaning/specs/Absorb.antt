@@ -21,9 +21,10 @@ use Rattle.rules.specs.Post.{Post, gives, give, refuses, post-then, post-map, p
 use Rattle.rules.specs.Invariants.{Each, Bounds, Bounded, Wf, Grown}
 use Rattle.rules.specs.PoolLaws.{grown-refl, grown-trans, grown-length, below-more}
 use Rattle.rules.specs.Semantics.{Interpretation, withClasses, conceptMeans, means, implies}
+use Rattle.rules.specs.EachLaws.{each-append}
 use Rattle.meaning.specs.Truth.{or-none, and-unit, all-append, any-append}
 use Rattle.meaning.specs.Meanings.{means-grown, means-at}
-use Rattle.meaning.specs.Valuations.{Valuation, each-joined}
+use Rattle.meaning.specs.Valuations.{Valuation}
 use Rattle.meaning.specs.Adds.{Setting}
 use Rattle.meaning.specs.Antecedents.{Quiet, quiet-trans, Coded, coded-reads, encode-means}
 use Rattle.meaning.specs.Added.{adds-added, added-map, quiet-added, Does}
@@ -182,13 +183,13 @@ module _ (I : Interpretation) (B : Bounds) (env : Env) (base : ℕ) (S : Setting
         go : (o : Option Alternatives) (s₁ : Out) → Quiet s s₁
             → ((soft hard : List ℕ) → Each (λ c. c < length p) soft → Each (λ c. c < length p) hard → Post (λ ps t. Parted s₁ l soft hard ps t) (partition env p l soft hard s₁))
             → Post (λ ps t. Parted s (c ∷ l) soft hard ps t) (sorted env (λ a b. partition env p l a b) soft hard c o s₁)
-        go none s₁ Q rest = post-map (rest soft (hard ++ (c ∷ [])) v (each-joined (λ c. c < length p) hard (c ∷ []) i (u .0, tt))) (λ ps t Z. record {
+        go none s₁ Q rest = post-map (rest soft (hard ++ (c ∷ [])) v (each-append (λ c. c < length p) hard (c ∷ []) i (u .0, tt))) (λ ps t Z. record {
           quiet = quiet-trans Q (Z .quiet);
           softIn = Z .softIn;
           hardIn = Z .hardIn;
           same = λ J x. Z .same J x ∙ ap (λ z. (alls J p soft x && z) && alls J p l x) (all-append (λ c. means J p c x) hard (c ∷ [])) ∙ hard-one (alls J p soft x) (alls J p hard x) (means J p c x) (alls J p l x);
         })
-        go (some k) s₁ Q rest = post-map (rest (soft ++ (c ∷ [])) hard (each-joined (λ c. c < length p) soft (c ∷ []) v (u .0, tt)) i) (λ ps t Z. record {
+        go (some k) s₁ Q rest = post-map (rest (soft ++ (c ∷ [])) hard (each-append (λ c. c < length p) soft (c ∷ []) v (u .0, tt)) i) (λ ps t Z. record {
           quiet = quiet-trans Q (Z .quiet);
           softIn = Z .softIn;
           hardIn = Z .hardIn;
@@ -233,7 +234,7 @@ module _ (I : Interpretation) (B : Bounds) (env : Env) (base : ℕ) (S : Setting
         nnf-then (record { pool = p; out = s }) (each nnfComplement hard) _
         (post-every (λ (J : Interpretation). each-negated B J hard (record { pool = p; visits = s .visits; limit = s .limit }) w uh)) (λ ns t M.
         pool-then (record { pool = t .pool; out = visitedTo (t .visits) s }) (mkOr (ns ++ (sup ∷ []))) _
-        (post-every (λ (J : Interpretation). or-means J B (t .pool) (M I .wf) (ns ++ (sup ∷ [])) (each-joined (λ c. c < length (t .pool)) ns (sup ∷ []) (M I .held) (le-trans ksup (grown-length (M I .grows)), tt)))) (λ h q N.
+        (post-every (λ (J : Interpretation). or-means J B (t .pool) (M I .wf) (ns ++ (sup ∷ [])) (each-append (λ c. c < length (t .pool)) ns (sup ∷ []) (M I .held) (le-trans ksup (grown-length (M I .grows)), tt)))) (λ h q N.
         let g₁ : Grown p q = grown-trans (M I .grows) (N I .made .grows) in
         soft-then a soft (record { pool = q; out = visitedTo (t .visits) s }) (λ g. inOut (λ pool s. then (encodeAntecedent env pool g 0 (restarted s)) (λ o. bodiesOrDefer env pool h o))) (N I .made .wf) (below-more (grown-length g₁) (a ∷ soft) us) (λ g r O.
         out-last (record { pool = r; out = visitedTo (t .visits) s }) (λ pool s. then (encodeAntecedent env pool g 0 (restarted s)) (λ o. bodiesOrDefer env pool h o))

@@ -15,8 +15,9 @@ use Rattle.rules.specs.State.{Clause, clause, total, Env, Out, pushIn, push, de
 use Rattle.rules.specs.Post.{Post, give, refuses, post-then, post-map}
 use Rattle.rules.specs.Invariants.{Each, Bounds}
 use Rattle.rules.specs.Semantics.{Interpretation, withClasses}
+use Rattle.rules.specs.EachLaws.{each-append, each-left, each-right}
 use Rattle.meaning.specs.Choices.{Follows}
-use Rattle.meaning.specs.Valuations.{Valuation, Agree, agree-refl, agree-trans, AtomUnder, ClauseUnder, each-of, each-joined, each-left, each-right, atom-under-more, clause-under-more, follows-agree, follow-agree}
+use Rattle.meaning.specs.Valuations.{Valuation, Agree, agree-refl, agree-trans, AtomUnder, ClauseUnder, each-of, atom-under-more, clause-under-more, follows-agree, follow-agree}
 use Rattle.meaning.specs.Adds.{Setting, Alone, alone-agree, Fine, Adds, Nothing}
 use Rattle.meaning.specs.Antecedents.{Quiet}
 
@@ -81,14 +82,14 @@ module _ (I : Interpretation) (B : Bounds) (env : Env) (base : ℕ) (S : Setting
     grown = D .grown ∙ ap (λ z. z ++ D .new) (A .grown) ∙ append-assoc (s .clauses) (A .new) (D .new);
     fresh = omega (arith, A .fresh, D .fresh);
     defers = omega (arith, A .defers, D .defers);
-    under = each-joined (ClauseUnder (s₂ .nextFresh)) (A .new) (D .new) (each-of (clause-under-more (D .fresh)) (A .new) (A .under)) (D .under);
+    under = each-append (ClauseUnder (s₂ .nextFresh)) (A .new) (D .new) (each-of (clause-under-more (D .fresh)) (A .new) (A .under)) (D .under);
     gets = λ k m h.
         let t = A .gets k m (hh k h) in
         let m₁ : Alone I B env (t .0) = alone-agree I B env base S b (t .1) m in
         let u = D .gets (t .0) m₁ (mid k (t .0) h (t .1) m₁ (t .3)) in (
           u .0,
           agree-trans (A .fresh) (t .1) (u .1),
-          each-joined (Follows (withClasses I (u .0))) (A .new) (D .new) (follow-agree I (u .1) (A .new) (A .under) (t .2)) (u .2),
+          each-append (Follows (withClasses I (u .0))) (A .new) (D .new) (follow-agree I (u .1) (A .new) (A .under) (t .2)) (u .2),
           gg (t .0) (u .0) (u .1) (t .3) (u .3),
         );
     says = λ k m f n q d.

@@ -19,8 +19,9 @@ use Rattle.rules.specs.Heads.{emitBy}
 use Rattle.rules.specs.Post.{Post}
 use Rattle.rules.specs.Invariants.{Each, Bounds, Bounded, Wf, QualifierIn}
 use Rattle.rules.specs.Semantics.{Interpretation, withClasses, related, atomHolds, conceptMeans, meaningAt, meaningsFrom, means}
+use Rattle.rules.specs.EachLaws.{each-append, each-left, each-right}
 use Rattle.meaning.specs.Choices.{Choice, Follows}
-use Rattle.meaning.specs.Valuations.{Valuation, Agree, agree-refl, agree-trans, AtomUnder, ClauseUnder, each-of, each-joined, each-left, each-right, clause-under-more, follow-agree}
+use Rattle.meaning.specs.Valuations.{Valuation, Agree, agree-refl, agree-trans, AtomUnder, ClauseUnder, each-of, clause-under-more, follow-agree}
 
 -- ---- an atom's variables are below n
 abbrev pub VarsUnder : ℕ → Atom → Type 0
@@ -169,14 +170,14 @@ module _ (I : Interpretation) (B : Bounds) (env : Env) (base : ℕ) (S : Setting
     fresh = omega (arith, A .fresh, D .fresh);
     var = omega (arith, A .var, D .var);
     defers = omega (arith, A .defers, D .defers);
-    under = each-joined (ClauseUnder (s₂ .nextFresh)) (A .new) (D .new) (each-of (clause-under-more (D .fresh)) (A .new) (A .under)) (D .under);
+    under = each-append (ClauseUnder (s₂ .nextFresh)) (A .new) (D .new) (each-of (clause-under-more (D .fresh)) (A .new) (A .under)) (D .under);
     gets = λ k m h.
         let t = A .gets k m (hh k h) in
         let m₁ : Alone I B env (t .0) = alone-agree b (t .1) m in
         let u = D .gets (t .0) m₁ (mid k (t .0) h (t .1) m₁ (t .3)) in (
           u .0,
           agree-trans (A .fresh) (t .1) (u .1),
-          each-joined (Follows (withClasses I (u .0))) (A .new) (D .new) (follow-agree I (u .1) (A .new) (A .under) (t .2)) (u .2),
+          each-append (Follows (withClasses I (u .0))) (A .new) (D .new) (follow-agree I (u .1) (A .new) (A .under) (t .2)) (u .2),
           gg (t .0) (u .0) (u .1) (t .3) (u .3),
         );
     says = λ k m f n q d.

@@ -24,10 +24,11 @@ use Rattle.rules.specs.Post.{Post, give, refuses, post-then, post-map}
 use Rattle.rules.specs.Invariants.{Each, Bounds, Bounded, Wf}
 use Rattle.rules.specs.PoolLaws.{bounded-more}
 use Rattle.rules.specs.Semantics.{Interpretation, withClasses, elements, related, qualifies, count, conceptMeans, means, atomHolds, chosen}
+use Rattle.rules.specs.EachLaws.{each-append}
 use Rattle.meaning.specs.Truth.{or-none, or-unit, and-unit, and-left, and-right, and-both, all-append, any-append, any-at, any-find}
 use Rattle.meaning.specs.Meanings.{means-at}
 use Rattle.meaning.specs.Choices.{Choice}
-use Rattle.meaning.specs.Valuations.{Valuation, AtomUnder, each-of, each-joined}
+use Rattle.meaning.specs.Valuations.{Valuation, AtomUnder, each-of}
 use Rattle.meaning.specs.Adds.{VarsUnder, Setting, Alone}
 
 -- ---- what only reads: no clause, no deferral, no fresh class
@@ -152,7 +153,7 @@ some-choice I n f g h (b ∷ l) u = ap₂ _||_ (all-choice I n f g h b (u .0)) (
 -- P of every atom of every alternative
 each-before : (P : Atom → Type 0) (a : List Atom) (k : Alternatives) → Each P a → Each (Each P) k → Each (Each P) (map (λ b. a ++ b) k)
 each-before P a [] u w = tt
-each-before P a (b ∷ k) u w = (each-joined P a b u (w .0), each-before P a k u (w .1))
+each-before P a (b ∷ k) u w = (each-append P a b u (w .0), each-before P a k u (w .1))
 
 each-one : (P : Atom → Type 0) (a : Atom) (k : Alternatives) → P a → Each (Each P) k → Each (Each P) (map (λ b. a ∷ b) k)
 each-one P a [] u w = tt
@@ -161,7 +162,7 @@ each-one P a (b ∷ k) u w = ((u, w .0), each-one P a k u (w .1))
 each-cross : (P : Atom → Type 0) (l k : Alternatives) → Each (Each P) l → Each (Each P) k → Each (Each P) (cross l k)
 unfolding cross
 each-cross P [] k u w = tt
-each-cross P (a ∷ l) k u w = each-joined (Each P) (map (λ b. a ++ b) k) (cross l k) (each-before P a k (u .0) w) (each-cross P l k (u .1) w)
+each-cross P (a ∷ l) k u w = each-append (Each P) (map (λ b. a ++ b) k) (cross l k) (each-before P a k (u .0) w) (each-cross P l k (u .1) w)
 
 pub each-deep : {P Q : Atom → Type 0} → ((a : Atom) → P a → Q a) → (l : Alternatives) → Each (Each P) l → Each (Each Q) l
 each-deep h l u = each-of (λ b. each-of h b) l u
@@ -208,8 +209,8 @@ module _ (I : Interpretation) (B : Bounds) (env : Env) (base : ℕ) (S : Setting
   either-coded : {s s₁ s₂ : Out} (f g : Valuation → ℕ → Bool) (v : ℕ) (l k : Alternatives) → Encoded s f v l s₁ → Encoded s₁ g v k s₂ → Encoded s (λ m x. f m x || g m x) v (l ++ k) s₂
   either-coded {s} {s₁} {s₂} f g v l k A D = record {
     reads = reads-trans (A .reads) (D .reads);
-    under = each-joined (Each (AtomUnder base)) l k (A .under) (D .under);
-    vars = each-joined (Each (VarsUnder (s₂ .nextVar))) l k (each-deep (vars-more (D .reads .var)) l (A .vars)) (D .vars);
+    under = each-append (Each (AtomUnder base)) l k (A .under) (D .under);
+    vars = each-append (Each (VarsUnder (s₂ .nextVar))) l k (each-deep (vars-more (D .reads .var)) l (A .vars)) (D .vars);
     sound = λ m n i c e. split m n i c (someHolds (withClasses I m) i l) refl (sym (any-append (λ b. all (atomHolds (withClasses I m) i) b) l k) ∙ e);
     full = λ m n i c e. choose m n i c (f m (i v)) refl e;
   }

@@ -26,7 +26,7 @@ use Rattle.rules.specs.LinedPost.{LinedPost, finish, lined-post, lined-then, li
 use Rattle.rules.specs.EachLaws.{each-both}
 use Rattle.rules.specs.Semantics.{Interpretation, withClasses, means, implies, sameTruth, satisfied}
 use Rattle.rules.specs.Statements.{isClausified}
-use Rattle.meaning.specs.Truth.{and-left, and-right, and-both, all-elements, elements-all}
+use Rattle.meaning.specs.Truth.{and-left, and-right, and-both, all-elements, elements-all, all-each, each-all}
 use Rattle.meaning.specs.Meanings.{means-grown}
 use Rattle.meaning.specs.Valuations.{Valuation}
 use Rattle.meaning.specs.Adds.{Setting, Nothing}
@@ -34,7 +34,7 @@ use Rattle.meaning.specs.Added.{Stable, each-stable, Added, added-none, 
 use Rattle.meaning.specs.AxiomMeans.{satisfied-grown, satisfied-agree}
 use Rattle.meaning.specs.Inclusions.{Included, included-stable}
 use Rattle.meaning.specs.Absorb.{out-then, out-last, Moved, moved-trans, moved-still, Works, inclusion-means}
-use Rattle.meaning.specs.Pairs.{all-each, each-all, every-each, each-every, later-each, ordered-of-later, later-of-ordered}
+use Rattle.meaning.specs.Pairs.{every-each, each-every, later-each, ordered-of-later, later-of-ordered}
 use Rattle.meaning.specs.Disjoint.{pairAt, memberAt, disjoint-means, union-pairs, union-members, union-cover, union-means}
 use Rattle.meaning.specs.RoleAxioms.{domain-means, range-means, chain-means, transitive-means, irreflexive-means, asymmetric-means, disjoint-roles-mean}
 

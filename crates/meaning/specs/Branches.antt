@@ -20,9 +20,10 @@ use Rattle.rules.specs.Branches.{renumber, Tree, treeOf, anyDisconnected, Group
 use Rattle.rules.specs.Post.{Post, give, refuses, post-then, post-map}
 use Rattle.rules.specs.Invariants.{Each}
 use Rattle.rules.specs.Semantics.{Interpretation, withClasses, atomHolds}
+use Rattle.rules.specs.EachLaws.{each-append}
 use Rattle.meaning.specs.Truth.{or-none, or-unit, and-unit, and-left, and-right, and-both, by-truth, all-append}
 use Rattle.meaning.specs.Choices.{Choice, Follows}
-use Rattle.meaning.specs.Valuations.{Valuation, AtomUnder, atom-under-more, each-of, each-joined}
+use Rattle.meaning.specs.Valuations.{Valuation, AtomUnder, atom-under-more, each-of}
 use Rattle.meaning.specs.Matching.{contains-here, contains-left, contains-right, contains-both, vars-each, each-vars, all-alike, matches-find}
 use Rattle.meaning.specs.Renumbering.{IsTree, renumber-says, renumber-gets, renumber-under}
 use Rattle.meaning.specs.Grouping.{Given, nothing, given, given-map, allGroups, allSorted, groupVars, Apart, Kinds, grouped-kinds}
@@ -247,7 +248,7 @@ module _ (I : Interpretation) where
             go : Given (Split inner t [] u) (some r) → Post (Subbed w group root) (reducedTo again group edge (some r) u)
             go (given S) = give (record {
               step = A .step;
-              good = each-joined (Good (u .nextFresh)) edge r (each-of (good-more (A .step .fresh)) edge (filter-each (Good (w .nextFresh)) (isEdge root t) group g)) (S .good);
+              good = each-append (Good (u .nextFresh)) edge r (each-of (good-more (A .step .fresh)) edge (filter-each (Good (w .nextFresh)) (isEdge root t) group g)) (S .good);
               says = λ k n f d h.
                   let p = atomHolds (withClasses I k) f in
                   all-joined p edge r (filter-all p (isEdge root t) group h) (S .says k n f d (filter-all p (λ a. not (isEdge root t a)) group h));
@@ -382,12 +383,12 @@ module _ (I : Interpretation) where
                 → Post (Looped u groups root keep l) (nameGroups again root keep groups l b u))
                 → Post (Looped w (q ∷ groups) root keep result) (groupWith again (λ r n. nameGroups again root keep groups r n) root q result any-named b w)
             go true e rest =
-                post-map (rest (result ++ q .1) any-named w c (each-joined (Good (w .nextFresh)) result (q .1) g (m .0)) (m .1))
+                post-map (rest (result ++ q .1) any-named w c (each-append (Good (w .nextFresh)) result (q .1) g (m .0)) (m .1))
                 (λ o u L. record { step = L .step; part = given-map (λ r S. inline q groups result u r a S) (L .part) })
             go false e rest =
                 post-then (name-group (q .1) root (q .0) w c (m .0)) (λ x u N.
                 post-map (rest (result ++ (x ∷ [])) true u (N .step .chain)
-                (each-joined (Good (u .nextFresh)) result (x ∷ []) (each-of (good-more (N .step .fresh)) result g) (N .good))
+                (each-append (Good (u .nextFresh)) result (x ∷ []) (each-of (good-more (N .step .fresh)) result g) (N .good))
                 (each-of (λ z h. each-of (good-more (N .step .fresh)) (z .1) h) groups (m .1)))
                 (λ o z L. record {
                   step = step-trans (N .step) (L .step);

@@ -23,13 +23,14 @@ use Rattle.rules.specs.DeckLaws.{boundsOf, DeckIn}
 use Rattle.rules.specs.RunLaws.{deckRun}
 use Rattle.rules.specs.Semantics.{Interpretation, withClasses, satisfied}
 use Rattle.rules.specs.Statements.{Proper, isInverseAxiom, isClausified, satisfiesSome, satisfiesAll}
+use Rattle.rules.specs.EachLaws.{each-left}
+use Rattle.meaning.specs.Truth.{all-each, each-all}
 use Rattle.meaning.specs.Choices.{Follows}
-use Rattle.meaning.specs.Valuations.{Valuation, Agree, agree-trans, ClauseUnder, each-of, each-left}
+use Rattle.meaning.specs.Valuations.{Valuation, Agree, agree-trans, ClauseUnder, each-of}
 use Rattle.meaning.specs.Adds.{FineAtom, Fine, Setting, Alone, Nothing}
 use Rattle.meaning.specs.Added.{Added}
 use Rattle.meaning.specs.NormalForm.{nnf-axioms-mean}
 use Rattle.meaning.specs.InverseMap.{env-keeps}
-use Rattle.meaning.specs.Pairs.{all-each, each-all}
 use Rattle.meaning.specs.Axioms.{Clausified, axioms-mean}
 use Rattle.meaning.specs.Passes.{PassMeans}
 use Rattle.meaning.specs.ReflexivePasses.{passes-mean, own-follow}

@@ -22,9 +22,10 @@ use Rattle.rules.specs.Branches.{addVar, addVars, headVarsFrom, headVars, Branc
 use Rattle.rules.specs.Post.{Post, gives, give, refuses, post-then, post-map}
 use Rattle.rules.specs.Invariants.{Each}
 use Rattle.rules.specs.Semantics.{Interpretation, withClasses}
+use Rattle.rules.specs.EachLaws.{each-append, each-left, each-right, each-mapped}
 use Rattle.meaning.specs.Truth.{by-truth}
 use Rattle.meaning.specs.Choices.{Follows}
-use Rattle.meaning.specs.Valuations.{Valuation, Agree, AtomUnder, ClauseUnder, atom-under-more, clause-under-more, follow-agree, each-of, each-joined, each-left, each-right}
+use Rattle.meaning.specs.Valuations.{Valuation, Agree, AtomUnder, ClauseUnder, atom-under-more, clause-under-more, follow-agree, each-of}
 use Rattle.meaning.specs.Matching.{contains-here, contains-left, contains-right, contains-both, any-alike}
 use Rattle.meaning.specs.Grouping.{Given, nothing, given}
 use Rattle.meaning.specs.Naming.{Chain, chain-names, chain-bodies, Step, step-refl, step-trans, step-each, Right, right-follows, filled, filled-agrees, filled-right}
@@ -87,10 +88,6 @@ known-same z v (inr q) = z .keeps v q
 abbrev pub headOf : Clause → List Atom
 headOf c = c .head
 
-each-map : {A B : Type 0} (P : B → Type 0) (f : A → B) (l : List A) → Each (λ a. P (f a)) l → Each P (map f l)
-each-map P f [] e = tt
-each-map P f (x ∷ l) e = (e .0, each-map P f l (e .1))
-
 map-each : {A B : Type 0} (P : B → Type 0) (f : A → B) (l : List A) → Each P (map f l) → Each (λ a. P (f a)) l
 map-each P f [] e = tt
 map-each P f (x ∷ l) e = (e .0, map-each P f l (e .1))
@@ -109,11 +106,11 @@ pub record Decomposed (I : Interpretation) (s t : Out) : Type 0 where
 -- what holds of every head atom after the pass held before
 pub decomposed-heads : (I : Interpretation) (s t : Out) (P : Atom → Type 0) → Decomposed I s t → Each (λ c. Each P (c .head)) (t .clauses) → Each (λ c. Each P (c .head)) (s .clauses)
 decomposed-heads I s t P D e =
-    map-each (Each P) headOf (s .clauses) (each-left (Each P) (map headOf (s .clauses)) (map (λ b. Class (b .name) 0 ∷ []) (D .names)) (subst (Each (Each P)) (D .heads) (each-map (Each P) headOf (t .clauses) e)))
+    map-each (Each P) headOf (s .clauses) (each-left (Each P) (map headOf (s .clauses)) (map (λ b. Class (b .name) 0 ∷ []) (D .names)) (subst (Each (Each P)) (D .heads) (each-mapped (λ c. Each P (headOf c)) (Each P) headOf (λ _ h. h) (t .clauses) e)))
 
 -- ---- the clauses of the names
 named-under : (n m : ℕ) (l : List Branch) → Chain n l m → Each (ClauseUnder m) (map branchClause l)
-named-under n m l c = each-map (ClauseUnder m) branchClause l (go l (chain-names n m l c) (chain-bodies n m l c))
+named-under n m l c = each-mapped (λ b. ClauseUnder m (branchClause b)) (ClauseUnder m) branchClause (λ _ h. h) l (go l (chain-names n m l c) (chain-bodies n m l c))
   where
     go : (l : List Branch) → Each (λ b. b .name < m) l → Each (λ b. Each (AtomUnder (b .name)) (b .body)) l → Each (λ b. ClauseUnder m (branchClause b)) l
     go [] x y = tt
@@ -202,7 +199,7 @@ decomposed I s fresh l u q A = record {
   visits = refl;
   deferrals = refl;
   under = subst (λ c. Each (ClauseUnder fresh) (c ++ map branchClause l)) (sym (A .grown))
-      (each-joined (ClauseUnder fresh) (A .to) (map branchClause l) (A .under) (named-under (s .nextFresh) fresh l (A .step .chain)));
+      (each-append (ClauseUnder fresh) (A .to) (map branchClause l) (A .under) (named-under (s .nextFresh) fresh l (A .step .chain)));
   heads = ap (λ c. map headOf (c ++ map branchClause l)) (A .grown) ∙ map-append headOf (A .to) (map branchClause l) ∙ ap₂ _++_ (A .heads) (named-heads l);
   gets = λ k f.
       let k′ = filled I k l in
@@ -211,8 +208,8 @@ decomposed I s fresh l u q A = record {
         k′,
         a,
         subst (λ c. Each (Follows (withClasses I k′)) (c ++ map branchClause l)) (sym (A .grown))
-            (each-joined (Follows (withClasses I k′)) (A .to) (map branchClause l) (A .gets k′ n (follow-agree I a (s .clauses) u f))
-            (each-map (Follows (withClasses I k′)) branchClause l (each-of (right-follows I k′) l n))),
+            (each-append (Follows (withClasses I k′)) (A .to) (map branchClause l) (A .gets k′ n (follow-agree I a (s .clauses) u f))
+            (each-mapped (Right I k′) (Follows (withClasses I k′)) branchClause (right-follows I k′) l n)),
       );
   says = λ k f.
       let g : Each (Follows (withClasses I k)) (A .to ++ map branchClause l) = subst (λ c. Each (Follows (withClasses I k)) (c ++ map branchClause l)) (A .grown) f in

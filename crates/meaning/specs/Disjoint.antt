@@ -22,19 +22,19 @@ use Rattle.rules.specs.Antecedents.{Alternatives, cross, inHand, encodeAntecede
 use Rattle.rules.specs.Axioms.{laterPairs, pushPair, pushPairs, pairWith, memberWith, coverWith, cover}
 use Rattle.rules.specs.Post.{Post, give, refuses, post-then, post-map}
 use Rattle.rules.specs.Invariants.{Each, Bounds, Bounded, Wf}
-use Rattle.rules.specs.EachLaws.{each-map, each-both}
+use Rattle.rules.specs.EachLaws.{each-map, each-both, each-append, each-left, each-right}
 use Rattle.rules.specs.ShapeLaws.{lengthsOf, shape, shape-of}
 use Rattle.rules.specs.PoolLaws.{post-both}
 use Rattle.rules.specs.Semantics.{Interpretation, withClasses, conceptMeans, means, implies, sameTruth, atomHolds, disjointAt, satisfied}
-use Rattle.meaning.specs.Truth.{and-left, and-right, and-both, or-none, not-intro, not-elim, implies-elim, implies-intro, all-elements, elements-all, any-append}
+use Rattle.meaning.specs.Truth.{and-left, and-right, and-both, or-none, not-intro, not-elim, implies-elim, implies-intro, all-elements, elements-all, any-append, all-each, each-all}
 use Rattle.meaning.specs.Meanings.{means-at}
 use Rattle.meaning.specs.Choices.{Choice, Follows}
-use Rattle.meaning.specs.Valuations.{Valuation, AtomUnder, each-joined, each-left, each-right}
+use Rattle.meaning.specs.Valuations.{Valuation, AtomUnder}
 use Rattle.meaning.specs.Adds.{Setting, Alone, means-agree, Nothing}
 use Rattle.meaning.specs.Antecedents.{Quiet, quiet-trans, and-none, or-left, or-right, or-assoc, someHolds, Encoded, Coded, cross-coded, encode-means}
 use Rattle.meaning.specs.Added.{Stable, each-stable, Added, added-none, added-map, added-then, quiet-added, push-added, defer-added, follows-stable, each-does}
 use Rattle.meaning.specs.Inclusions.{restart-quiet}
-use Rattle.meaning.specs.Pairs.{all-each, each-all, any-gives, every-each, each-every, later-each}
+use Rattle.meaning.specs.Pairs.{any-gives, every-each, each-every, later-each}
 
 -- ---- the rules over a pool that they only read
 module _ (env : Env) where
@@ -57,7 +57,7 @@ module _ (Q : List Atom → Type 0) where
   cross-of : (l k : Alternatives) → Each (λ a. Each (λ b. Q (a ++ b)) k) l → Each Q (cross l k)
   unfolding cross
   cross-of [] k u = tt
-  cross-of (a ∷ l) k u = each-joined Q (map (λ b. a ++ b) k) (cross l k) (map-each a k (u .0)) (cross-of l k (u .1))
+  cross-of (a ∷ l) k u = each-append Q (map (λ b. a ++ b) k) (cross l k) (map-each a k (u .0)) (cross-of l k (u .1))
 
   of-cross : (l k : Alternatives) → Each Q (cross l k) → Each (λ a. Each (λ b. Q (a ++ b)) k) l
   unfolding cross
@@ -114,10 +114,10 @@ module _ (I : Interpretation) (B : Bounds) (env : Env) (base : ℕ) (S : Setting
       → Post (λ _ t. Step s (λ v. Each (λ a. Each (λ b. Empty (a ++ b) v) k) l) (λ v. Each (λ a. Each (λ b. Empty (a ++ b) v) k) l) t) (pushPairs env l k s)
   unfolding pushPairs
   pairs-added l k ul uk s h = loop (Each (AtomUnder base)) (λ a v. Each (λ b. Empty (a ++ b) v) k) (λ a v. Each (λ b. Empty (a ++ b) v) k) (λ a. forEach (λ b. pushPair env (a ++ b) (inHand (a ++ b))) k)
-      (λ a x. each-stable base (Each (AtomUnder base)) (λ b. Empty (a ++ b)) (λ b y. follows-stable I B env base S (a ++ b) [] (each-joined (AtomUnder base) a b x y) tt) k uk)
+      (λ a x. each-stable base (Each (AtomUnder base)) (λ b. Empty (a ++ b)) (λ b y. follows-stable I B env base S (a ++ b) [] (each-append (AtomUnder base) a b x y) tt) k uk)
       (λ a x t c. loop (Each (AtomUnder base)) (λ b. Empty (a ++ b)) (λ b. Empty (a ++ b)) (λ b. pushPair env (a ++ b) (inHand (a ++ b)))
-      (λ b y. follows-stable I B env base S (a ++ b) [] (each-joined (AtomUnder base) a b x y) tt)
-      (λ b y t c. empty-added (a ++ b) t c (each-joined (AtomUnder base) a b x y) (inHand (a ++ b))) k uk t c)
+      (λ b y. follows-stable I B env base S (a ++ b) [] (each-append (AtomUnder base) a b x y) tt)
+      (λ b y t c. empty-added (a ++ b) t c (each-append (AtomUnder base) a b x y) (inHand (a ++ b))) k uk t c)
       l ul s h
 
   both-added : (q : ℕ × ℕ) (s s₁ s₂ : Out) (l k : Alternatives) → base ≤ s .nextFresh → Encoded I B env base S (restarted s) (λ v. meant v (q .0)) 0 l s₁ → Encoded I B env base S s₁ (λ v. meant v (q .1)) 0 k s₂
@@ -271,7 +271,7 @@ module _ (I : Interpretation) (B : Bounds) (env : Env) (base : ℕ) (S : Setting
         (λ k m h x v. implies-intro (k a x) (f k x || false) (λ e. or-none (f k x) ∙ sym (says k m (λ _. x) (λ _. v)) ∙ h .follows (λ _. x) (λ _. v) (and-both e refl)))
         A)
     cover-added (c ∷ l) u head f n says s b = go (classIdOf env (at p c)) (named-by c (at p c) (w c (u .0))) (λ d is more.
-        cover-added l (u .1) (head ++ (Class d 0 ∷ [])) (λ k x. f k x || meant k c x) (each-joined (AtomUnder base) head (Class d 0 ∷ []) n (is, tt)) more s b)
+        cover-added l (u .1) (head ++ (Class d 0 ∷ [])) (λ k x. f k x || meant k c x) (each-append (AtomUnder base) head (Class d 0 ∷ []) n (is, tt)) more s b)
       where
         same : (k : Valuation) (x : ℕ) → (f k x || meant k c x) || any (λ c. meant k c x) l ≡ f k x || (meant k c x || any (λ c. meant k c x) l)
         same k x = or-assoc (f k x) (meant k c x) (any (λ c. meant k c x) l)

@@ -17,8 +17,9 @@ use Rattle.rules.specs.Base.{all, contains}
 use Rattle.rules.specs.Reflexive.{atomsVars}
 use Rattle.rules.specs.Branches.{Top, atRoot, below, unbound, parentOf, topUnder, topWith, topBy, topOf, Home, rootHome, branch, homeless, homeOf, homeOfBoth, atomHome, Groups, joinGroup, intoGroup, placeAtom, grouped}
 use Rattle.rules.specs.Invariants.{Each}
+use Rattle.rules.specs.EachLaws.{each-append}
 use Rattle.meaning.specs.Truth.{and-unit, by-truth, all-append}
-use Rattle.meaning.specs.Valuations.{each-of, each-joined}
+use Rattle.meaning.specs.Valuations.{each-of}
 use Rattle.meaning.specs.Matching.{contains-both, vars-each}
 use Rattle.meaning.specs.Renumbering.{IsTree}
 
@@ -180,7 +181,7 @@ module _ (t : ℕ) (a : Atom) where
   into-homes H (q ∷ l) e h = go (eqb (q .0) t) (λ d. eqb-true (q .0) t d) (into-homes H l (e .1) h)
     where
       go : (b : Bool) → (b ≡ true → q .0 ≡ t) → Each (λ q. Each (H (q .0)) (q .1)) (intoGroup l t a) → Each (λ q. Each (H (q .0)) (q .1)) (joinGroup q a l (intoGroup l t a) b)
-      go true d r = (each-joined (H (q .0)) (q .1) (a ∷ []) (e .0) (subst (λ n. H n a) (sym (d refl)) h, tt), e .1)
+      go true d r = (each-append (H (q .0)) (q .1) (a ∷ []) (e .0) (subst (λ n. H n a) (sym (d refl)) h, tt), e .1)
       go false d r = (e .0, r)
 
   into-all : (p : Atom → Bool) (l : List (ℕ × List Atom)) → allGroups p (intoGroup l t a) ≡ allGroups p l && p a
@@ -220,7 +221,7 @@ module _ (parents : List (ℕ × ℕ)) (root : ℕ) (P : Atom → Type 0) where
                 ∙ sym (and-deep (allSorted p g) (p a) (all p l));
           })
           (r k (record {
-            rooted = each-joined (Rooted root P) (g .rootAtoms) (a ∷ []) (s .rooted) (record { held = e .0; tree = t; vars = each-of (λ v. top-root parents root v) (atomVars a) u }, tt);
+            rooted = each-append (Rooted root P) (g .rootAtoms) (a ∷ []) (s .rooted) (record { held = e .0; tree = t; vars = each-of (λ v. top-root parents root v) (atomVars a) u }, tt);
             homes = s .homes;
             keys = s .keys;
           }))

@@ -25,10 +25,11 @@ use Rattle.rules.specs.Heads.{Emits, isTop, isDkeyQualifier, nameOr, atomicName
 use Rattle.rules.specs.Post.{Post, give, post-then, post-map}
 use Rattle.rules.specs.Invariants.{Each, Bounds, Bounded, Wf, QualifierIn}
 use Rattle.rules.specs.Semantics.{Interpretation, withClasses, elements, count, implies, related, conceptMeans, means, qualifies, atomHolds, chosen}
+use Rattle.rules.specs.EachLaws.{each-append, each-left, each-right}
 use Rattle.meaning.specs.Truth.{or-none, and-left, and-right, and-both, not-intro, implies-elim, implies-intro, all-append, any-append, all-elements, elements-all, any-elements, any-same, count-same, count-more}
 use Rattle.meaning.specs.Meanings.{means-at}
 use Rattle.meaning.specs.Choices.{Choice}
-use Rattle.meaning.specs.Valuations.{Valuation, Agree, AtomUnder, each-of, each-joined, each-left, each-right, atom-under-more, holds-agree, all-agree}
+use Rattle.meaning.specs.Valuations.{Valuation, Agree, AtomUnder, each-of, atom-under-more, holds-agree, all-agree}
 use Rattle.meaning.specs.Adds.{VarsUnder, FineAtom, Setting, Alone, means-agree, Adds, stay, adds-map, seq, Pre, Gives, EmitMeans}
 use Rattle.meaning.specs.Steps.{Always, body-agree, chosen-at, chosen-below, chosen-choice, vars-under-more, visited, nextVariable, nextClass, visit-then, with-then, pre-more, pre-visited, adds-moved, adds-visited, fresh-adds, push-for, defer-adds}
 
@@ -190,7 +191,7 @@ module _ (I : Interpretation) (B : Bounds) (env : Env) (base : ℕ) (S : Setting
   pub deny-adds : (b : List Atom) (c d v : ℕ) (a : Atom) (s : Out) → Pre I B env base S s b v → AtomUnder (s .nextFresh) a → ((k : Valuation) → m k c ≡ meant (Not d) k)
       → ((k : Valuation) → Alone I B env k → (f : ℕ → ℕ) → Choice I f → atomHolds (withClasses I k) f a ≡ m k d (f v))
       → Post (Headed b c v s) (push env (b ++ (a ∷ [])) [] s)
-  deny-adds b c d v a s P u p e = push-for I B env base S (b ++ (a ∷ [])) [] s (each-joined (AtomUnder (s .nextFresh)) b (a ∷ []) (P .under) (u, tt)) tt
+  deny-adds b c d v a s P u p e = push-for I B env base S (b ++ (a ∷ [])) [] s (each-append (AtomUnder (s .nextFresh)) b (a ∷ []) (P .under) (u, tt)) tt
       (λ k w h. record {
         follows = λ f o t.
             let t′ : all (atomHolds (withClasses I k) f) b && (atomHolds (withClasses I k) f a && true) ≡ true = sym (all-append (atomHolds (withClasses I k) f) b (a ∷ [])) ∙ t in
@@ -465,7 +466,7 @@ module _ (I : Interpretation) (B : Bounds) (env : Env) (base : ℕ) (S : Setting
             → (o : Option Atom) (s₁ : Out) → HeadFor c v s o s₁ → Post (λ o t. HeadsFor (c ∷ l) v hs s o t) (headOr env pool emit (λ more. heads env pool emit l v more) hs o s₁)
         go rest none s₁ A = give A
         go rest (some x) s₁ A = with-then hs x s₁ (λ more. heads env pool emit l v more)
-            (post-map (rest (hs ++ (x ∷ [])) s₁ (each-joined (AtomUnder (s₁ .nextFresh)) hs (x ∷ []) (each-of (atom-under-more (A .adds .fresh)) hs w) (A .under, tt)) (pre-more I B env base S (A .adds .fresh) (A .adds .var) R))
+            (post-map (rest (hs ++ (x ∷ [])) s₁ (each-append (AtomUnder (s₁ .nextFresh)) hs (x ∷ []) (each-of (atom-under-more (A .adds .fresh)) hs w) (A .under, tt)) (pre-more I B env base S (A .adds .fresh) (A .adds .var) R))
             (λ o t D. heads-after c l v hs x s s₁ (R .above) A o t D))
 
     or-adds : (b : List Atom) (c v : ℕ) (l : List ℕ) (s : Out) → Pre I B env base S s b v → Each (λ c. c < n) l → ((k : Valuation) → m k c ≡ meant (Or l) k)
@@ -506,8 +507,8 @@ module _ (I : Interpretation) (B : Bounds) (env : Env) (base : ℕ) (S : Setting
           above = P .above;
           root = omega arith;
           var = omega arith;
-          under = each-joined (AtomUnder (s .nextFresh)) b (RoleAtom (canon env r) v (s .nextVar) ∷ []) (P .under) (tt, tt);
-          vars = each-joined (VarsUnder (s .nextVar + 1)) b (RoleAtom (canon env r) v (s .nextVar) ∷ []) (each-of (vars-under-more (omega arith)) b (P .vars)) ((omega (arith, P .var), omega arith), tt);
+          under = each-append (AtomUnder (s .nextFresh)) b (RoleAtom (canon env r) v (s .nextVar) ∷ []) (P .under) (tt, tt);
+          vars = each-append (VarsUnder (s .nextVar + 1)) b (RoleAtom (canon env r) v (s .nextVar) ∷ []) (each-of (vars-under-more (omega arith)) b (P .vars)) ((omega (arith, P .var), omega arith), tt);
         })) (λ _ t A. adds-moved I B env base S s (s .visits) (s .nextVar + 1) (omega arith) (adds-map I B env base S
         (λ k g. all-to b v r d (s .nextVar) k (λ f o e. ap (λ z. z (f v)) (sym (p k)) ∙ g f o e))
         (λ k _. tt)

@@ -20,21 +20,11 @@ use Rattle.rules.specs.State.{Env, canon}
 use Rattle.rules.specs.Invariants.{Each}
 use Rattle.rules.specs.Semantics.{Interpretation, related, everyPair, sameTruth, satisfied}
 use Rattle.rules.specs.Statements.{isInverseAxiom}
-use Rattle.meaning.specs.Truth.{and-left, and-right, or-unit, same-truth, elements-all}
+use Rattle.meaning.specs.Truth.{same-truth, elements-all, all-each}
 
 -- a test over the pairs of elements, at one of them
 pub every-pair : (I : Interpretation) (f : ℕ → ℕ → Bool) → everyPair I f ≡ true → (x y : ℕ) → x < I .size → y < I .size → f x y ≡ true
 every-pair I f h x y u v = elements-all (I .size) (f x) (elements-all (I .size) _ h x u) y v
-
--- a test over a list, at each element
-pub all-each : {A : Type 0} (p : A → Bool) (l : List A) → all p l ≡ true → Each (λ x. p x ≡ true) l
-all-each p [] h = tt
-all-each p (x ∷ l) h = (and-left (p x) (all p l) h, all-each p l (and-right (p x) (all p l) h))
-
--- what passes for all passes for those of a kind
-pub all-some : {A : Type 0} (kind p : A → Bool) (l : List A) → all p l ≡ true → all (λ x. not (kind x) || p x) l ≡ true
-all-some kind p [] h = refl
-all-some kind p (x ∷ l) h = rw (and-left (p x) (all p l) h, or-unit) (all-some kind p l (and-right (p x) (all p l) h))
 
 -- P of either list is P of the one picked
 pub each-pick : {A : Type 0} (P : A → Type 0) (b : Bool) (k l : List A) → Each P k → Each P l → Each P (pick b k l)

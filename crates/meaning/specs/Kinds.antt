@@ -1,6 +1,6 @@
 -- Normal form keeps each axiom's kind, so that what the axioms of some kinds say is said alike before and after. Assumes nothing.
 use mathlib.Core.Path.{_≡_, refl, ap₂}
-use mathlib.Core.Bool.{Bool, true, not, _&&_, _||_}
+use mathlib.Core.Bool.{Bool, not, _&&_, _||_}
 use mathlib.Core.List.{List, [], _∷_, map}
 use Prim.Native.Nat.{ℕ, suc, _+_}
 use native.Mathlib.Omega.{arith}
@@ -12,8 +12,6 @@ use Rattle.rules.specs.Run.{nnfAxioms}
 use Rattle.rules.specs.Post.{Post, gives, give, refuses, post-then}
 use Rattle.rules.specs.LinedPost.{LinedPost, finish, lined-post, lined-then}
 use Rattle.rules.specs.Statements.{isInverseAxiom, isClausified}
-use Rattle.meaning.specs.Truth.{and-left, and-right, and-both}
-use Rattle.meaning.specs.Antecedents.{or-right}
 
 -- the two kinds that the halves ask of
 pub record SameKind (a b : Axiom) : Type 0 where
@@ -74,8 +72,3 @@ every-same says said (a ∷ k) (b ∷ l) h =
     let h₀ : says a ≡ said b = cc in
     let h₁ : map says k ≡ map said l = cc in
     ap₂ _&&_ h₀ (every-same says said k l h₁)
-
--- what all say, those of one kind say
-pub all-some : {A : Type 0} (kind says : A → Bool) (l : List A) → all says l ≡ true → all (λ a. not (kind a) || says a) l ≡ true
-all-some kind says [] h = refl
-all-some kind says (a ∷ l) h = and-both (or-right (not (kind a)) (says a) (and-left (says a) (all says l) h)) (all-some kind says l (and-right (says a) (all says l) h))

@@ -19,9 +19,10 @@ use Rattle.rules.specs.Branches.{Branch, Naming, branchName, memoOf, nameOrNew,
 use Rattle.rules.specs.Post.{Post, give}
 use Rattle.rules.specs.Invariants.{Each}
 use Rattle.rules.specs.Semantics.{Interpretation, withClasses}
+use Rattle.rules.specs.EachLaws.{each-left}
 use Rattle.meaning.specs.Truth.{or-none, and-left, and-right}
 use Rattle.meaning.specs.Choices.{Follows}
-use Rattle.meaning.specs.Valuations.{Valuation, Agree, agree-refl, agree-trans, AtomUnder, each-left}
+use Rattle.meaning.specs.Valuations.{Valuation, Agree, agree-refl, agree-trans, AtomUnder}
 use Rattle.meaning.specs.Matching.{matches, matches-has, matches-agree}
 use Rattle.meaning.specs.Grouping.{Given, nothing, given, given-map}
 

@@ -11,7 +11,6 @@ use Rattle.ir.specs.Pick.{pick}
 use Rattle.rules.specs.Base.{all, any}
 use Rattle.rules.specs.Axioms.{paired, laterPairs, numbered, withOthers, orderedFrom, orderedPairs}
 use Rattle.rules.specs.Invariants.{Each}
-use Rattle.meaning.specs.Truth.{and-left, and-right, and-both}
 
 -- two properties of each element
 each-two : {D : Type 0} (P Q : D → Type 0) (l : List D) → Each P l → Each Q l → Each (λ d. P d × Q d) l
@@ -24,14 +23,6 @@ two-each P Q (d ∷ l) u = let t = two-each P Q l (u .1) in ((u .0 .0, t .0), (u
 
 module _ {A : Type 0} where
   -- ---- tests over a list
-  pub all-each : (f : A → Bool) (l : List A) → all f l ≡ true → Each (λ a. f a ≡ true) l
-  all-each f [] h = tt
-  all-each f (a ∷ l) h = (and-left (f a) (all f l) h, all-each f l (and-right (f a) (all f l) h))
-
-  pub each-all : (f : A → Bool) (l : List A) → Each (λ a. f a ≡ true) l → all f l ≡ true
-  each-all f [] h = refl
-  each-all f (a ∷ l) h = and-both (h .0) (each-all f l (h .1))
-
   pub all-where : (P : A → Type 0) (f g : A → Bool) → ((a : A) → P a → f a ≡ g a) → (l : List A) → Each P l → all f l ≡ all g l
   all-where P f g h [] u = refl
   all-where P f g h (a ∷ l) u = ap₂ _&&_ (h a (u .0)) (all-where P f g h l (u .1))

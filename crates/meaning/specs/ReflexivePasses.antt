@@ -7,7 +7,7 @@ use Rattle.rules.specs.Base.{all}
 use Rattle.rules.specs.Concept.{Axiom}
 use Rattle.rules.specs.Pool.{Pool}
 use Rattle.rules.specs.Inverse.{buildInverseCanon}
-use Rattle.rules.specs.State.{Env, Out, Clause}
+use Rattle.rules.specs.State.{Env, Out}
 use Rattle.rules.specs.Reflexive.{reflexiveRoleIds}
 use Rattle.rules.specs.Run.{reflexivePasses}
 use Rattle.rules.specs.Post.{Post, post-then, post-map, give}

@@ -22,9 +22,9 @@ use Rattle.rules.specs.Reflexive.{inserted, canonId, declaredReflexive, reflexi
 use Rattle.rules.specs.Invariants.{Each}
 use Rattle.rules.specs.Semantics.{Interpretation, related, implies, sameTruth, satisfied}
 use Rattle.rules.specs.Statements.{isInverseAxiom}
-use Rattle.meaning.specs.Truth.{and-left, and-right, implies-elim, same-truth, elements-all}
-use Rattle.meaning.specs.Valuations.{each-joined}
-use Rattle.meaning.specs.InverseMap.{SamePairs, every-pair, all-each, all-some, each-pick, env-keeps}
+use Rattle.rules.specs.EachLaws.{each-append}
+use Rattle.meaning.specs.Truth.{and-left, and-right, implies-elim, same-truth, elements-all, all-each, all-some}
+use Rattle.meaning.specs.InverseMap.{SamePairs, every-pair, each-pick, env-keeps}
 
 -- what holds of each holds of one that is contained
 pub each-contains : (P : ℕ → Type 0) (l : List ℕ) (n : ℕ) → Each P l → contains l n ≡ true → P n
@@ -115,7 +115,7 @@ module _ (I : Interpretation) where
     edges-among : (v : ℕ → Bool) (k l : List ℕ) → Each (Alike v) k → Each (Alike v) l → Each Edge (edgesAmong env k l)
     unfolding edgesAmong
     edges-among v [] l t u = tt
-    edges-among v (a ∷ k) l t u = each-joined Edge (edgesFrom env a l) (edgesAmong env k l) (edges-from v a l (t .0) u) (edges-among v k l (t .1) u)
+    edges-among v (a ∷ k) l t u = each-append Edge (edgesFrom env a l) (edgesAmong env k l) (edges-from v a l (t .0) u) (edges-among v k l (t .1) u)
 
     -- the roles after r in an equivalence
     sameSelf : ℕ → Role × Role → Bool
@@ -163,7 +163,7 @@ module _ (I : Interpretation) where
     all-edges : (axioms : List Axiom) → Each (λ a. satisfied I p a ≡ true) axioms → Each Edge (allEdges env axioms)
     unfolding allEdges
     all-edges [] h = tt
-    all-edges (a ∷ l) h = each-joined Edge (roleEdges env a) (allEdges env l) (axiom-edges a (h .0)) (all-edges l (h .1))
+    all-edges (a ∷ l) h = each-append Edge (roleEdges env a) (allEdges env l) (axiom-edges a (h .0)) (all-edges l (h .1))
 
     pub set-reflexive : (axioms : List Axiom) → all (satisfied I p) axioms ≡ true → Each Reflexive (reflexiveRoleIds env axioms)
     unfolding reflexiveRoleIds

@@ -23,14 +23,14 @@ use Rattle.rules.specs.Post.{Post, give, post-map}
 use Rattle.rules.specs.Invariants.{Bounds, Wf}
 use Rattle.rules.specs.EachLaws.{each-any}
 use Rattle.rules.specs.Semantics.{Interpretation, withClasses, elementsBelow, related, means, implies, chainRelated, rolesClash, satisfied}
-use Rattle.meaning.specs.Truth.{and-left, and-right, and-both, or-none, not-intro, not-elim, implies-elim, implies-intro, all-elements, elements-all, any-at, any-find}
+use Rattle.meaning.specs.Truth.{and-left, and-right, and-both, or-none, not-intro, not-elim, implies-elim, implies-intro, all-elements, elements-all, any-at, any-find, all-each, each-all}
 use Rattle.meaning.specs.Choices.{Choice}
 use Rattle.meaning.specs.Valuations.{Valuation}
 use Rattle.meaning.specs.Adds.{Setting, Nothing}
 use Rattle.meaning.specs.Antecedents.{Quiet}
 use Rattle.meaning.specs.Added.{Added, adds-added, added-none, added-map, quiet-added, push-added, defer-added, each-does}
 use Rattle.meaning.specs.Heads.{emit-means}
-use Rattle.meaning.specs.Pairs.{all-each, each-all, every-each, each-every}
+use Rattle.meaning.specs.Pairs.{every-each, each-every}
 
 -- ---- choices of two and of three elements
 abbrev two : ℕ → ℕ → ℕ → ℕ

@@ -22,12 +22,11 @@ use Rattle.rules.specs.DeckLaws.{or-false, read-in}
 use Rattle.rules.specs.RunLaws.{run-from, run-accepted, run-decoded}
 use Rattle.rules.specs.Semantics.{Interpretation, withClasses}
 use Rattle.rules.specs.Statements.{Proper, isFresh, isInverseAxiom, satisfiesSome, namesFresh, isFreshAtMost, hasFreshAtMost, allHold, DemandThreeFirst, DemandThreeSecond}
-use Rattle.meaning.specs.Truth.{by-truth, and-both, any-append}
+use Rattle.meaning.specs.Truth.{by-truth, and-both, any-append, all-some}
 use Rattle.meaning.specs.Choices.{Follows, all-follow, follow-all}
 use Rattle.meaning.specs.Valuations.{Valuation, Agree, AtomUnder, ClauseUnder, follow-agree}
 use Rattle.meaning.specs.Adds.{FineAtom, Fine}
 use Rattle.meaning.specs.Composition.{Means, run-means}
-use Rattle.meaning.specs.Kinds.{all-some}
 
 module _ (d : Known) (n : ℕ) where
   -- an id that the run has taken and that is not fresh is declared

@@ -8,6 +8,7 @@ use native.Mathlib.Omega.{arith}
 use native.Mathlib.Decide.{ℕ-discrete}
 use Rattle.rules.specs.Base.{all, any}
 use Rattle.rules.specs.Semantics.{elementsBelow, one, count, implies, sameTruth}
+use Rattle.rules.specs.Invariants.{Each}
 
 -- ---- connectives
 pub or-none : (a : Bool) → a || false ≡ a
@@ -85,6 +86,20 @@ any-append p (x ∷ k) l = ap (λ b. p x || b) (any-append p k l) ∙ or-assoc (
     or-assoc : (a b c : Bool) → a || (b || c) ≡ (a || b) || c
     or-assoc true b c = refl
     or-assoc false b c = refl
+
+-- a test of a list's elements, at each of them
+pub all-each : {A : Type 0} (p : A → Bool) (l : List A) → all p l ≡ true → Each (λ x. p x ≡ true) l
+all-each p [] h = tt
+all-each p (x ∷ l) h = (and-left (p x) (all p l) h, all-each p l (and-right (p x) (all p l) h))
+
+pub each-all : {A : Type 0} (p : A → Bool) (l : List A) → Each (λ x. p x ≡ true) l → all p l ≡ true
+each-all p [] h = refl
+each-all p (x ∷ l) h = and-both (h .0) (each-all p l (h .1))
+
+-- what passes for all passes for those of a kind
+pub all-some : {A : Type 0} (kind p : A → Bool) (l : List A) → all p l ≡ true → all (λ x. not (kind x) || p x) l ≡ true
+all-some kind p [] h = refl
+all-some kind p (x ∷ l) h = rw (and-left (p x) (all p l) h, or-unit) (all-some kind p l (and-right (p x) (all p l) h))
 
 -- ---- the elements below n
 pub all-elements : (n : ℕ) (f : ℕ → Bool) → ((y : ℕ) → y < n → f y ≡ true) → all f (elementsBelow n) ≡ true

@@ -2,9 +2,8 @@
 -- only clauses that follow from those before it. Assumes nothing.
 use mathlib.Core.Path.{_≡_, refl, sym, ap, ap₂, _∙_}
 use mathlib.Core.Bool.{Bool, true, false, _&&_, _||_}
-use mathlib.Core.List.{List, [], _∷_, _++_, map, append-assoc}
-use Prim.Native.Nat.{ℕ, zero, suc, _+_, _<_}
-use lib.ListN.{length}
+use mathlib.Core.List.{List, [], _∷_, _++_, map}
+use Prim.Native.Nat.{ℕ, _<_}
 use lib.Dec.{eqb}
 use borrow.Author.Tests.{eq-eqb}
 use Rattle.ir.specs.Pick.{pick}
@@ -13,19 +12,18 @@ use Rattle.ir.specs.Atoms.{substituteAtom, replaced}
 use Rattle.ir.specs.declared.role.Role.{Role}
 use Rattle.ir.specs.declared.atom.Atom.{Atom}
 use Rattle.ir.specs.declared.atom.Atom.the-variants.{Class, Exists, AtMost, AtLeast, Equal, Role as RoleAtom}
-use Rattle.ir.specs.declared.deferral.Deferral.the-variants.{ReflexiveDerivedCap}
-use Rattle.rules.specs.Base.{all, any, contains}
-use Rattle.rules.specs.State.{Env, Out, E, Clause, clause}
-use Rattle.rules.specs.Post.{Post, refuses, post-then, post-map, give}
+use Rattle.rules.specs.Base.{all, any}
+use Rattle.rules.specs.State.{Env, Out, Clause, clause}
+use Rattle.rules.specs.Post.{Post}
 use Rattle.rules.specs.Invariants.{Each}
 use Rattle.rules.specs.Semantics.{Interpretation, related, atomHolds}
 use Rattle.rules.specs.Reflexive.{keptVar, droppedVar, contracted, applyReflexiveRoles}
 use Rattle.rules.specs.Ends.{ends-post, ends-map}
 use Rattle.rules.specs.ReflexiveLaws.{Keeps, reflexive-adds}
+use Rattle.rules.specs.EachLaws.{each-left, each-right, each-append}
 use Rattle.meaning.specs.Truth.{and-left, and-right, and-both, all-append}
 use Rattle.meaning.specs.Choices.{Follows}
-use Rattle.meaning.specs.Valuations.{AtomUnder, ClauseUnder, each-left, each-right, each-joined}
-use Rattle.meaning.specs.InverseMap.{each-pick}
+use Rattle.meaning.specs.Valuations.{AtomUnder, ClauseUnder}
 use Rattle.meaning.specs.ReflexiveSet.{Reflexive, self-pair, each-contains}
 use Rattle.meaning.specs.Passes.{Due, PassMeans, due-own, due-means}
 
@@ -110,7 +108,7 @@ pub contracted-under : (n : ℕ) (before after head : List Atom) (r : Role) (src
 contracted-under n before after head r src tgt u =
     let g = replaced (droppedVar src tgt) (keptVar src tgt) in
     let P = AtomUnder n in
-    let e : Each P (before ++ after) = each-joined P before after (each-left P before (RoleAtom r src tgt ∷ after) (u .body)) (each-right P before (RoleAtom r src tgt ∷ after) (u .body) .1) in
+    let e : Each P (before ++ after) = each-append P before after (each-left P before (RoleAtom r src tgt ∷ after) (u .body)) (each-right P before (RoleAtom r src tgt ∷ after) (u .body) .1) in
     record { body = substituted-under n g (before ++ after) e; head = substituted-under n g head (u .head) }
 
 -- P of a clause is P of it contracted along an atom over a role of the set

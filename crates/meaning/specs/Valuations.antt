@@ -2,7 +2,7 @@
 -- nothing.
 use mathlib.Core.Path.{_≡_, refl, sym, ap, ap₂, _∙_}
 use mathlib.Core.Bool.{Bool, _&&_, _||_}
-use mathlib.Core.List.{List, [], _∷_, _++_}
+use mathlib.Core.List.{List, [], _∷_}
 use Prim.Native.Nat.{ℕ, _≤_, _<_}
 use native.Mathlib.Omega.{arith}
 use lib.Dec.{leb}
@@ -49,18 +49,6 @@ pub record ClauseUnder (n : ℕ) (c : Clause) : Type 0 where
 pub each-of : {A : Type 0} {P Q : A → Type 0} → ((a : A) → P a → Q a) → (l : List A) → Each P l → Each Q l
 each-of h [] u = tt
 each-of h (a ∷ l) u = (h a (u .0), each-of h l (u .1))
-
-pub each-joined : {A : Type 0} (P : A → Type 0) (k l : List A) → Each P k → Each P l → Each P (k ++ l)
-each-joined P [] l u v = v
-each-joined P (a ∷ k) l u v = (u .0, each-joined P k l (u .1) v)
-
-pub each-left : {A : Type 0} (P : A → Type 0) (k l : List A) → Each P (k ++ l) → Each P k
-each-left P [] l u = tt
-each-left P (a ∷ k) l u = (u .0, each-left P k l (u .1))
-
-pub each-right : {A : Type 0} (P : A → Type 0) (k l : List A) → Each P (k ++ l) → Each P l
-each-right P [] l u = u
-each-right P (a ∷ k) l u = each-right P k l (u .1)
 
 qualifier-more : {m n : ℕ} → m ≤ n → (q : Qualifier) → QualifierIn m q → QualifierIn n q
 qualifier-more h Unqualified u = tt
