@@ -48,3 +48,4 @@ pub mod RunLaws
 pub mod Decided
 pub mod Cases
 pub mod Tried
+pub mod PoolEnds
