@@ -31,4 +31,5 @@ pub mod Branches
 pub mod Decomposition
 pub mod Kinds
 pub mod Composition
+pub mod FreshClasses
 pub mod Theorem
