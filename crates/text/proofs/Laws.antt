@@ -1,7 +1,7 @@
 -- One turn of each loop over the bytes. Assumes nothing.
-use mathlib.Core.Path.{_≡_, refl, sym, ap, _∙_}
+use mathlib.Core.Path.{_≡_, refl, sym, _∙_}
 use mathlib.Core.Bool.{true, false}
-use mathlib.Core.List.{List, [], _∷_, _++_}
+use mathlib.Core.List.{List, [], _∷_}
 use Prim.Native.Nat.{ℕ, zero, suc, _+_, _*_, _-_, _<_, _≤_}
 use native.Mathlib.Nat.{sub-zero}
 use native.Mathlib.Numerals.{add-one}
@@ -11,7 +11,7 @@ use lib.Dec.{eqb, leb}
 use lib.ListN.{length, getD, take, drop, length-drop, drop-of-length-le}
 use lib.Seq.{drop-cons, getD-drop, getD-take, length-take-le, drop-length, drop-drop}
 use Rattle.ir.specs.Pick.{pick}
-use Rattle.rules.specs.Text.{mostNumber, isDigit, Columns, spaces, column, columns, numberIn, number, Row, row, brokenRow, rowEnded, rowBy, rowOf}
+use Rattle.rules.specs.Text.{mostNumber, isDigit, Columns, spaces, column, columns, numberIn, number, row, brokenRow, rowEnded, rowBy, rowOf}
 use Rattle.rules.specs.TextLaws.{and-true, number-columns}
 use Rattle.text.specs.Rows.{numbers, rowAt, lineOf}
 use Rattle.text.specs.RowLaws.{row-more}

@@ -7,6 +7,7 @@ use native.Mathlib.Omega.{arith}
 use lib.ListN.{length, getD, drop, drop-of-length-le, List·getD-eq-default}
 use lib.Seq.{drop-cons, drop-drop}
 use Rattle.rules.specs.Text.{number}
+use Rattle.rules.specs.TextLaws.{number-most}
 use Rattle.text.specs.Rows.{numbers, rowAt}
 
 pub length-numbers : (s : List ℕ) (n : ℕ) → length (numbers s n) ≡ n
@@ -36,6 +37,10 @@ module _ (s : List ℕ) (p n : ℕ) where
   -- number k of the line
   pub row-number : (k : ℕ) → k < n → getD (rowAt s p n) k 0 ≡ number (drop (p + 11 * k) s)
   row-number k h = numbers-at (drop p s) n k h ∙ ap number (drop-drop (11 * k) p s)
+
+  -- a field that is no number is 4294967296
+  pub row-most : (k : ℕ) → k < n → getD (rowAt s p n) k 0 ≤ 4294967296
+  row-most k h = rw (row-number k h) (number-most (drop (p + 11 * k) s))
 
   -- one more number
   pub row-more : rowAt s p (n + 1) ≡ rowAt s p n ++ (number (drop (p + 11 * n) s) ∷ [])

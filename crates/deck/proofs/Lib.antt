@@ -1,0 +1,6 @@
+mod ConceptLaws
+mod EnterLaws
+mod KindLaws
+mod LineLaws
+mod RowLaws
+mod TableLaws

@@ -1,0 +1,4 @@
+pub mod Index
+pub mod IndexLaws
+pub mod Records
+pub mod TabLaws

@@ -1,0 +1,9 @@
+mod Runs
+mod Equal
+mod Chain
+mod Interning
+mod Making
+mod Marking
+mod Gathering
+mod Sorting
+mod Joining

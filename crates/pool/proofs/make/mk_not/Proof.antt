@@ -1,0 +1,22 @@
+use borrow.Author.Needs.{needs}
+use mathlib.Core.Path.{refl}
+use Prim.{tt}
+use Rattle.rules.specs.Base.{M}
+use Rattle.pool.specs.Layout.{conceptFrom}
+use Rattle.pool.proofs.make.mk_not.Statement.{statement}
+use Rattle.pool.proofs.make.mk_not.Tie as tie
+
+intern-raw-requires : tie.Need-intern-raw-requires
+unfolding conceptFrom
+intern-raw-requires c κs = let s = c .before .before in
+    (s .pre .0, refl, refl, (s .pre .1, tt))
+
+same-length : tie.Need-same-length
+same-length c = search needs
+
+returns : tie.Need-returns
+unfolding conceptFrom
+returns c = c .before .before .intern-raw .ensures
+
+pub mk-not-spec : {M : Type 1} → statement M
+mk-not-spec = tie.close (tie.spec intern-raw-requires same-length returns)

@@ -1,0 +1,11 @@
+pub mod Layout
+pub mod Index
+pub mod Held
+pub mod Answers
+pub mod Joints
+pub mod Marks
+pub mod Tabs
+pub mod Shapes
+pub mod HeldLaws
+pub mod PutLaws
+pub mod AnswerLaws
