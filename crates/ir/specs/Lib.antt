@@ -1,5 +1,6 @@
 pub mod Pick
 pub mod Roles
+pub mod Scratch
 pub mod Atoms
 pub mod Records
 pub mod Deferrals

@@ -21,3 +21,9 @@ pub enum Headed {
     Absent(Counters),
     Refused(u32),
 }
+
+// Of a pass over all axioms: a refusal's number and the axiom's line.
+pub enum Lined {
+    Finished(Counters),
+    Stopped(u32, u32),
+}

@@ -6,3 +6,4 @@ pub mod deferral;
 pub mod options;
 pub mod record;
 pub mod role;
+pub mod scratch;
