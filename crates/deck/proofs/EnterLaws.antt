@@ -19,12 +19,12 @@ use Rattle.text.specs.Rows.{rowAt}
 use Rattle.text.specs.RowLaws.{length-row}
 use Rattle.deck.specs.Index.{hashOf, Indexed}
 use Rattle.deck.specs.IndexLaws.{indexed-same, indexed-more}
-use Rattle.deck.specs.Records.{firstPart, tab, conceptAt, axiomAt, rowIn, depthIn, axiomRowIn, keyIn, keysIn, conceptsIn, depthsIn, axiomsIn, knownIn, hashIn, withHeader, withKey, withConcept, withAxiom, ConceptsHeld, Held, ConceptLine, Entering, Entered}
-use Rattle.deck.specs.TabLaws.{tab-more}
+use Rattle.deck.specs.Records.{firstPart, tab, conceptAt, axiomAt, rowIn, depthIn, axiomRowIn, keyIn, keysIn, conceptsIn, depthsIn, axiomsIn, knownIn, hashIn, withHeader, withKey, withConcept, withAxiom, sum, axiomFields, ConceptsHeld, AxiomLine, Held, ConceptLine, Entering, Entered}
+use Rattle.deck.specs.TabLaws.{tab-more, sum-more}
 use Rattle.deck.specs.declared.state.State.{State}
 use Rattle.deck.proofs.KindLaws.{section-most, key-kind}
 use Rattle.deck.proofs.ConceptLaws.{line-row, line-parts, counted-known}
-use Rattle.deck.proofs.TableLaws.{Agree, axiomPut, conceptPut, indexPut, row-agree, concepts-agree, depths-agree, axioms-agree, axiom-before, axiom-after, axiom-begin, axiom-fields, concept-before, concept-after, concept-word, concept-begin, head-new, head-old, link-new, link-old}
+use Rattle.deck.proofs.TableLaws.{Agree, axiomPut, conceptPut, indexPut, row-agree, concepts-agree, depths-agree, axiom-row-agree, axioms-agree, fields-agree, axiom-before, axiom-after, axiom-begin, axiom-fields, concept-before, concept-after, concept-word, concept-begin, head-new, head-old, link-new, link-old}
 
 words-long : (s t : List ℕ) (n : ℕ) → ConceptsHeld s t n → 7168 ≤ length (words t)
 words-long s t n H = rw (length-words t) (omega (arith, H .room))
@@ -36,6 +36,7 @@ held-agree s t u n H l A B = record {
   few = H .few;
   lines = λ i h. rw (A (3 * i) (omega arith) (omega arith), A (3 * i + 1) (omega arith) (omega arith)) (H .lines i h);
   rows = λ i h. rw (row-agree s (words t) (words u) n A i h) (H .rows i h);
+  numbers = λ i h. rw (row-agree s (words t) (words u) n A i h) (H .numbers i h);
   depths = λ i h. rw (A (3 * i + 2) (omega arith) (omega arith)) (H .depths i h);
   index =
       indexed-same 5120 6144 (hashIn s (words t)) (hashIn s (words u)) (words t) (words u) n (H .index) (λ i h. ap hashOf (sym (row-agree s (words t) (words u) n A i h)))
@@ -79,6 +80,8 @@ module _ (s t : List ℕ) (p n : ℕ) (k : State) (E : Entering s t p n k) where
           concepts = H .concepts;
           few = H .few;
           lines = H .lines;
+          rows = H .rows;
+          used = omega (arith, H .used);
           keys = omega (arith, E .line);
           lastKey = λ _. omega arith;
           noKey = λ _. z;
@@ -101,6 +104,8 @@ module _ (s t : List ℕ) (p n : ℕ) (k : State) (E : Entering s t p n k) where
           concepts = H .concepts;
           few = H .few;
           lines = H .lines;
+          rows = H .rows;
+          used = omega (arith, H .used);
           keys = omega (arith, E .line);
           lastKey = λ _. omega arith;
           noKey = λ l. absurd (omega arith);
@@ -108,6 +113,9 @@ module _ (s t : List ℕ) (p n : ℕ) (k : State) (E : Entering s t p n k) where
       }
 
   -- ---- an axiom
+  entering-axiom : sectionOf (getD (rowAt s p n) 0 0) ≡ 4 → AxiomLine (rowAt s p n)
+  entering-axiom e = record { section = e; fields = shaped .1; numbers = E .numbers }
+
   pub few-axioms : sectionOf (getD (rowAt s p n) 0 0) ≡ 4 → k .axioms < 1024
   few-axioms e = let l = ltb-true (length (axiomsIn s (words t) (k .axioms))) mostAxioms (room-is 4 e) in rw (counted-known s t k .axioms) at l
 
@@ -151,6 +159,10 @@ module _ (s t u : List ℕ) (p n : ℕ) (k : State) (E : Entering s t p n k) (lo
           lines = λ i l. by-test (ltb i a)
               (λ c. let m = ltb-true i a c in rw (B (3072 + 2 * i) (omega arith) (omega arith), B (3072 + 2 * i + 1) (omega arith) (omega arith)) (H .lines i m))
               (λ c. let m = ltb-false i a c in let z : i ≡ a = omega arith in rw (z, begin, fields) (omega (arith, E .line)));
+          rows = λ i l. by-test (ltb i a)
+              (λ c. let m = ltb-true i a c in rw (axiom-row-agree s w (words u) a B i m) (H .rows i m))
+              (λ c. let m = ltb-false i a c in let z : i ≡ a = omega arith in rw (z, begin, fields) (entering-axiom s t p n k E e));
+          used = rw (sum-more (axiomFields (words u)) a, fields-agree s w (words u) a B, fields) (omega (arith, H .used));
           keys = H .keys;
           lastKey = λ l. absurd (omega arith);
           noKey = λ l. absurd (omega arith);
@@ -196,6 +208,9 @@ module _ (s t u : List ℕ) (p n : ℕ) (k : State) (E : Entering s t p n k) (lo
           rows = λ i l. by-test (ltb i c)
               (λ b. let m = ltb-true i c b in rw (row-agree s (words t) (words u) c A i m) (H .rows i m))
               (λ b. let m = ltb-false i c b in let z : i ≡ c = omega arith in rw (z, row-new) (line-row s p n (getD (rowAt s p n) 0 0) (entering-line s t p n k E e)));
+          numbers = λ i l. by-test (ltb i c)
+              (λ b. let m = ltb-true i c b in rw (row-agree s (words t) (words u) c A i m) (H .numbers i m))
+              (λ b. let m = ltb-false i c b in let z : i ≡ c = omega arith in rw (z, row-new) (E .numbers));
           depths = λ i l. by-test (ltb i c)
               (λ b. let m = ltb-true i c b in rw (A (3 * i + 2) (omega arith) (omega arith)) (H .depths i m))
               (λ b. let m = ltb-false i c b in let z : i ≡ c = omega arith in rw (z, deep, depth) (entering-depth s t p n k E e));
@@ -219,6 +234,8 @@ module _ (s t u : List ℕ) (p n : ℕ) (k : State) (E : Entering s t p n k) (lo
             concepts = concepts-held;
             few = H .few;
             lines = λ i l. rw (B (3072 + 2 * i) (omega arith) (omega arith), B (3072 + 2 * i + 1) (omega arith) (omega arith)) (H .lines i l);
+            rows = λ i l. rw (axiom-row-agree s (words t) (words u) (k .axioms) B i l) (H .rows i l);
+            used = rw (fields-agree s (words t) (words u) (k .axioms) B) (omega (arith, H .used));
             keys = H .keys;
             lastKey = λ l. absurd (omega arith);
             noKey = λ l. absurd (omega arith);

@@ -69,6 +69,12 @@ concept-range : (k : ℕ) → sectionOf k ≡ 3 → (1 ≤ k) × (k ≤ 12)
 concept-range zero e = absurd (omega arith)
 concept-range (suc k) e = by-test (ltb (suc k) 13) (λ c. let l = ltb-true (suc k) 13 c in (omega arith, omega arith)) (λ c. absurd (late 13 (suc k) 3 refl (λ z. absurd (omega arith)) (ltb-false (suc k) 13 c) e))
 
+-- axioms are of kinds 21 to 36
+axiom-range : (k : ℕ) → sectionOf k ≡ 4 → (21 ≤ k) × (k ≤ 36)
+axiom-range k e =
+    by-test (ltb k 21) (λ c. absurd (early 21 k 4 refl (λ z. absurd (omega arith)) (ltb-true k 21 c) e))
+    (λ c. by-test (ltb k 37) (λ d. let a = ltb-false k 21 c in let b = ltb-true k 37 d in (a, omega arith)) (λ d. absurd (late 37 k 4 refl (λ z. absurd (omega arith)) (ltb-false k 37 d) e)))
+
 module _ (P : ℕ → Type 0) where
   from : (k m : ℕ) → m ≤ k → P m → (m + 1 ≤ k → P k) → P k
   from k m l a go = by-test (eqb k m) (λ e. subst P (sym (eqb-true k m e)) a) (λ e. go (omega (arith, eqb-false k m e)))
@@ -78,6 +84,13 @@ module _ (P : ℕ → Type 0) where
       let r = concept-range k s in
       from k 1 (r .0) a (λ o. from k 2 o b (λ o. from k 3 o c (λ o. from k 4 o d (λ o. from k 5 o e (λ o. from k 6 o f
       (λ o. from k 7 o g (λ o. from k 8 o h (λ o. from k 9 o i (λ o. from k 10 o j (λ o. from k 11 o l (λ o. from k 12 o m (λ o. absurd (omega (arith, r .1))))))))))))))
+
+  pub axiom-kinds : P 21 → P 22 → P 23 → P 24 → P 25 → P 26 → P 27 → P 28 → P 29 → P 30 → P 31 → P 32 → P 33 → P 34 → P 35 → P 36 → (k : ℕ) → sectionOf k ≡ 4 → P k
+  axiom-kinds a b c d e f g h i j l m n p q t k s =
+      let r = axiom-range k s in
+      from k 21 (r .0) a (λ o. from k 22 o b (λ o. from k 23 o c (λ o. from k 24 o d (λ o. from k 25 o e (λ o. from k 26 o f
+      (λ o. from k 27 o g (λ o. from k 28 o h (λ o. from k 29 o i (λ o. from k 30 o j (λ o. from k 31 o l (λ o. from k 32 o m
+      (λ o. from k 33 o n (λ o. from k 34 o p (λ o. from k 35 o q (λ o. from k 36 o t (λ o. absurd (omega (arith, r .1))))))))))))))))))
 
 -- ---- rows of one to four numbers, and of one or more
 one : (r : List ℕ) → eqb (length r) 1 ≡ true → getD r 0 0 ∷ [] ≡ r

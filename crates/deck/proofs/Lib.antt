@@ -1,6 +1,6 @@
 mod ConceptLaws
 mod EnterLaws
-mod KindLaws
+pub mod KindLaws
 mod LineLaws
 mod RowLaws
 mod TableLaws

@@ -11,10 +11,11 @@ use Rattle.words.specs.Words.{words}
 use Rattle.words.specs.Laws.{length-words}
 use Rattle.words.specs.Runs.{getD-sets-in}
 use Rattle.rules.specs.Text.{Row, row, brokenRow, rowOf}
+use Rattle.rules.specs.TextLaws.{row-numbers}
 use Rattle.rules.specs.Deck.{Known, verdict, entered, Told, fine, refused, readBy, nothing, readLines, mostBytes}
 use Rattle.text.specs.Rows.{rowAt, lineOf}
 use Rattle.deck.specs.Index.{last}
-use Rattle.deck.specs.Records.{tab, knownIn, tableBytes, Held, Entered, Fresh}
+use Rattle.deck.specs.Records.{tab, sum, knownIn, tableBytes, Numbers, Held, Entered, Fresh}
 use Rattle.deck.specs.declared.state.State.{State}
 
 -- a table whose index was cleared
@@ -50,7 +51,7 @@ first-rest [] h = absurd (h refl)
 first-rest (b ∷ s) h = let e : length (b ∷ s) + 2 - 1 ≡ suc (length (b ∷ s)) = omega arith in rw e refl
 
 pub going-first : (s t : List ℕ) → length s ≤ mostBytes → Fresh t → (length s ≡ 0 → ⊥) → Going s t t started 0 1
-unfolding tab last
+unfolding tab sum last
 going-first s t m F e = record {
   held = record {
     small = m;
@@ -59,11 +60,14 @@ going-first s t m F e = record {
       few = omega arith;
       lines = λ i l. absurd (omega arith);
       rows = λ i l. absurd (omega arith);
+      numbers = λ i l. absurd (omega arith);
       depths = λ i l. absurd (omega arith);
       index = record { heads = λ h l. F .heads h l; links = λ i l. absurd (omega arith) };
     };
     few = omega arith;
     lines = λ i l. absurd (omega arith);
+    rows = λ i l. absurd (omega arith);
+    used = omega arith;
     keys = omega arith;
     lastKey = λ _. omega arith;
     noKey = λ _. refl;
@@ -97,6 +101,9 @@ module _ (s t₀ t : List ℕ) (k : State) (p line : ℕ) (G : Going s t₀ t k 
     module _ (z : n ≡ 0 → ⊥) where
       is-row : rowOf (drop p s) ≡ row (rowAt s p n) (drop (p + 11 * n + 1) s)
       is-row = sym e ∙ rw (ne-eqb _ _ z) refl
+
+      pub going-numbers : Numbers (rowAt s p n)
+      going-numbers = row-numbers (drop p s) (rowAt s p n) (drop (p + 11 * n + 1) s) is-row .0
 
       pub going-bad : (v : ℕ) → v ≡ verdict (knownIn s t k) (getD (rowAt s p n) 0 0) (rowAt s p n) → (v ≡ 0 → ⊥) → refused v line ≡ readLines s
       unfolding readBy

@@ -6,8 +6,8 @@ use native.Mathlib.Omega.{arith}
 use lib.ListN.{length, getD, set, length-set}
 use lib.Seq.{sets, length-sets, getD-set-same, getD-set-other}
 use Rattle.words.specs.Runs.{getD-sets-before, getD-sets-after, getD-sets-in}
-use Rattle.deck.specs.Records.{conceptAt, axiomAt, rowIn, depthIn, axiomRowIn, conceptsIn, depthsIn, axiomsIn}
-use Rattle.deck.specs.TabLaws.{tab-same}
+use Rattle.deck.specs.Records.{conceptAt, axiomAt, rowIn, depthIn, axiomFields, axiomRowIn, conceptsIn, depthsIn, axiomsIn, sum}
+use Rattle.deck.specs.TabLaws.{tab-same, sum-same}
 
 -- stores one behind the other
 pub two-stores : (w x y : List ℕ) (i j a b : ℕ) → j ≡ i + 1 → x ≡ set w i a → y ≡ set x j b → y ≡ sets w i (a ∷ b ∷ [])
@@ -33,10 +33,15 @@ module _ (s w v : List ℕ) (n : ℕ) (A : Agree w v 0 (3 * n)) where
   pub depths-agree : depthsIn v n ≡ depthsIn w n
   depths-agree = tab-same (depthIn v) (depthIn w) n (λ i l. A (3 * i + 2) (omega arith) (omega arith))
 
-pub axioms-agree : (s w v : List ℕ) (n : ℕ) → Agree w v 3072 (3072 + 2 * n) → axiomsIn s v n ≡ axiomsIn s w n
-axioms-agree s w v n A =
-    tab-same (λ i. axiomAt (axiomRowIn s v i)) (λ i. axiomAt (axiomRowIn s w i)) n
-    (λ i l. rw (A (3072 + 2 * i) (omega arith) (omega arith), A (3072 + 2 * i + 1) (omega arith) (omega arith)) refl)
+module _ (s w v : List ℕ) (n : ℕ) (A : Agree w v 3072 (3072 + 2 * n)) where
+  pub axiom-row-agree : (i : ℕ) → i < n → axiomRowIn s v i ≡ axiomRowIn s w i
+  axiom-row-agree i l = rw (A (3072 + 2 * i) (omega arith) (omega arith), A (3072 + 2 * i + 1) (omega arith) (omega arith)) refl
+
+  pub axioms-agree : axiomsIn s v n ≡ axiomsIn s w n
+  axioms-agree = tab-same (λ i. axiomAt (axiomRowIn s v i)) (λ i. axiomAt (axiomRowIn s w i)) n (λ i l. ap axiomAt (axiom-row-agree i l))
+
+  pub fields-agree : sum (axiomFields v) n ≡ sum (axiomFields w) n
+  fields-agree = sum-same (axiomFields v) (axiomFields w) n (λ i l. A (3072 + 2 * i + 1) (omega arith) (omega arith))
 
 -- ---- an axiom's record
 abbrev pub axiomPut : List ℕ → ℕ → ℕ → ℕ → List ℕ

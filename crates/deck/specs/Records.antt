@@ -10,8 +10,10 @@ use lib.ListN.{length, getD}
 use lib.Dec.{eqb}
 use Rattle.words.specs.Words.{words}
 use Rattle.ir.specs.Pick.{pick}
+use Rattle.rules.specs.Text.{mostNumber}
 use Rattle.rules.specs.Concept.{Concept, Axiom, conceptRow}
 use Rattle.rules.specs.Deck.{mostBytes, mostConceptLines, mostAxioms, mostDepth, sectionOf, conceptOf, axiomOf, Header, Known, known, fieldsOk, Member, trivial, andList, orList, plain, underAnd, underOr, verdict, entered, Told, fine, refused}
+use Rattle.rules.specs.Invariants.{Each}
 use Rattle.text.specs.Rows.{rowAt}
 use Rattle.deck.specs.Index.{hashOf, Indexed}
 use Rattle.deck.specs.declared.state.State.{State}
@@ -77,6 +79,11 @@ unfoldable pub tab : {A : Type 0} → (ℕ → A) → ℕ → List A
 tab f zero = []
 tab f (suc n) = tab f n ++ (f n ∷ [])
 
+-- and their sum
+unfoldable pub sum : (ℕ → ℕ) → ℕ → ℕ
+sum f zero = 0
+sum f (suc n) = sum f n + f n
+
 abbrev pub conceptAt : List ℕ → Concept
 conceptAt r = conceptOf (getD r 0 0) r
 
@@ -90,8 +97,11 @@ rowIn s w i = rowAt s (getD w (3 * i) 0) (getD w (3 * i + 1) 0)
 abbrev pub depthIn : List ℕ → ℕ → ℕ
 depthIn w i = getD w (3 * i + 2) 0
 
+abbrev pub axiomFields : List ℕ → ℕ → ℕ
+axiomFields w i = getD w (axiomsAt + 2 * i + 1) 0
+
 abbrev pub axiomRowIn : List ℕ → List ℕ → ℕ → List ℕ
-axiomRowIn s w i = rowAt s (getD w (axiomsAt + 2 * i) 0) (getD w (axiomsAt + 2 * i + 1) 0)
+axiomRowIn s w i = rowAt s (getD w (axiomsAt + 2 * i) 0) (axiomFields w i)
 
 -- key mark i: each is a line of two fields
 abbrev pub keyIn : List ℕ → ℕ → ℕ → ℕ
@@ -117,21 +127,35 @@ knownIn s t k = known (k .section) (headerIn k) (keysIn s (k .marks) (k .keys)) 
 abbrev pub hashIn : List ℕ → List ℕ → ℕ → ℕ
 hashIn s w i = hashOf (rowIn s w i)
 
+-- each number of a line is one
+abbrev pub Numbers : List ℕ → Type 0
+Numbers r = Each (λ x. x ≤ mostNumber) r
+
 -- the records of n concept lines: each lies in the deck, is its concept's row and is at most 64 deep, and the index holds them
 pub record ConceptsHeld (s t : List ℕ) (n : ℕ) : Type 0 where
   pub room : tableBytes ≤ length t
   pub few : n ≤ mostConceptLines
   pub lines : (i : ℕ) → i < n → getD (words t) (3 * i) 0 + 11 * getD (words t) (3 * i + 1) 0 ≤ length s
   pub rows : (i : ℕ) → i < n → conceptRow (conceptAt (rowIn s (words t) i)) ≡ rowIn s (words t) i
+  pub numbers : (i : ℕ) → i < n → Numbers (rowIn s (words t) i)
   pub depths : (i : ℕ) → i < n → depthIn (words t) i ≤ mostDepth
   pub index : Indexed headsAt linksAt (hashIn s (words t)) (words t) n
 
--- before the line at p: the same of the axiom lines, and the key marks end here, as long as there may be more
+-- the row of an axiom line
+pub record AxiomLine (r : List ℕ) : Type 0 where
+  pub section : sectionOf (getD r 0 0) ≡ 4
+  pub fields : fieldsOk (getD r 0 0) (length r) ≡ true
+  pub numbers : Numbers r
+
+-- before the line at p: the axiom lines lie in the deck, apart and of their kinds, and the key marks end here, as long as there may
+-- be more
 pub record Held (s t : List ℕ) (k : State) (p : ℕ) : Type 0 where
   pub small : length s ≤ mostBytes
   pub concepts : ConceptsHeld s t (k .concepts)
   pub few : k .axioms ≤ mostAxioms
-  pub lines : (i : ℕ) → i < k .axioms → getD (words t) (axiomsAt + 2 * i) 0 + 11 * getD (words t) (axiomsAt + 2 * i + 1) 0 ≤ length s
+  pub lines : (i : ℕ) → i < k .axioms → getD (words t) (axiomsAt + 2 * i) 0 + 11 * axiomFields (words t) i ≤ length s
+  pub rows : (i : ℕ) → i < k .axioms → AxiomLine (axiomRowIn s (words t) i)
+  pub used : 11 * sum (axiomFields (words t)) (k .axioms) ≤ p
   pub keys : k .marks + 23 * k .keys ≤ length s
   pub lastKey : k .section ≤ 2 → k .marks + 23 * k .keys ≡ p
   pub noKey : k .section ≤ 1 → k .keys ≡ 0
@@ -147,6 +171,7 @@ pub record ConceptLine (s : List ℕ) (p n j : ℕ) : Type 0 where
 pub record Entering (s t : List ℕ) (p n : ℕ) (k : State) : Type 0 where
   pub line : p + 11 * n < length s
   pub held : Held s t k p
+  pub numbers : Numbers (rowAt s p n)
   pub good : verdict (knownIn s t k) (getD (rowAt s p n) 0 0) (rowAt s p n) ≡ 0
 
 pub record Entered (s t t₁ : List ℕ) (p n : ℕ) (k k₁ : State) : Type 0 where

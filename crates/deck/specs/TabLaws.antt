@@ -2,7 +2,7 @@
 use mathlib.Core.Path.{_≡_, refl, sym, ap, ap₂, subst, _∙_}
 use mathlib.Core.Bool.{Bool, true, false, _||_}
 use mathlib.Core.List.{List, [], _∷_, _++_}
-use Prim.Native.Nat.{ℕ, zero, suc, _+_, _<_}
+use Prim.Native.Nat.{ℕ, zero, suc, _+_, _<_, _≤_}
 use native.Mathlib.Numerals.{add-one}
 use native.Mathlib.Omega.{arith}
 use borrow.Author.Tests.{ltb-true, ltb-false}
@@ -11,7 +11,7 @@ use lib.ListN.{length, getD, length-append, List·getD-append}
 use lib.Seq.{getD-append-seam}
 use Rattle.rules.specs.Base.{any}
 use Rattle.rules.specs.TextLaws.{by-test}
-use Rattle.deck.specs.Records.{tab}
+use Rattle.deck.specs.Records.{tab, sum}
 
 module _ {A : Type 0} (f : ℕ → A) where
   pub length-tab : (n : ℕ) → length (tab f n) ≡ n
@@ -44,3 +44,21 @@ pub tab-same : {A : Type 0} (f g : ℕ → A) (n : ℕ) → ((i : ℕ) → i < n
 unfolding tab
 tab-same f g zero h = refl
 tab-same f g (suc n) h = rw (h n (omega arith), tab-same f g n (λ i l. h i (omega arith))) refl
+
+-- sums
+module _ (f : ℕ → ℕ) where
+  pub sum-more : (n : ℕ) → sum f (n + 1) ≡ sum f n + f n
+  unfolding sum
+  sum-more n = rw (add-one n) refl
+
+  pub sum-rise : (i n : ℕ) → i ≤ n → sum f i ≤ sum f n
+  unfolding sum
+  sum-rise i zero h = let e : i ≡ 0 = omega arith in rw e (omega arith)
+  sum-rise i (suc n) h = by-test (ltb i (suc n))
+      (λ e. let l = ltb-true i (suc n) e in omega (arith, sum-rise i n (omega arith)))
+      (λ e. let l = ltb-false i (suc n) e in let q : i ≡ suc n = omega arith in rw q (omega arith))
+
+pub sum-same : (f g : ℕ → ℕ) (n : ℕ) → ((i : ℕ) → i < n → f i ≡ g i) → sum f n ≡ sum g n
+unfolding sum
+sum-same f g zero h = refl
+sum-same f g (suc n) h = rw (h n (omega arith), sum-same f g n (λ i l. h i (omega arith))) refl

@@ -3,7 +3,7 @@ use mathlib.Core.Path.{sym, _∙_}
 use Prim.Native.Nat.{_-_}
 use lib.ListN.{length}
 use Rattle.rules.specs.Deck.{verdict}
-use Rattle.deck.proofs.LineLaws.{Going, read-none, going-first, going-broken, going-bad, going-on, going-end, going-held}
+use Rattle.deck.proofs.LineLaws.{Going, read-none, going-first, going-broken, going-numbers, going-bad, going-on, going-end, going-held}
 use Rattle.deck.proofs.read_lines.Statement.{statement}
 use Rattle.deck.proofs.read_lines.Tie as tie
 
@@ -38,7 +38,7 @@ returns-3 : tie.Need-returns-3 Inv-loop μ-loop
 returns-3 c = (going-bad (c .before .before .before .before .before .before .before .before .before .before .args .deck .now) (c .before .before .before .before .before .before .before .before .before .before .args .t .now) (c .before .before .before .before .before .before .loop .t) (c .before .before .before .before .before .before .loop .st) (c .before .before .before .before .before .before .loop .p) (c .before .before .before .before .before .before .loop .line) (c .before .before .before .before .before .before .loop .inv) (c .before .before .before .before .before .loop-test .taken) (c .before .before .before .before .fields .result) (c .before .before .before .before .fields .ensures .0) (c .before .before .before .if2 .left) (c .before .verdict .result) (c .before .verdict .ensures) (c .if3 .taken), tt)
 
 enter-requires : tie.Need-enter-requires Inv-loop μ-loop
-enter-requires c κs = record { line = c .before .before .before .before .before .fields .ensures .1; held = c .before .before .before .before .before .before .before .loop .inv .held; good = sym (c .before .before .verdict .ensures) ∙ c .before .if3 .left }
+enter-requires c κs = record { line = c .before .before .before .before .before .fields .ensures .1; held = c .before .before .before .before .before .before .before .loop .inv .held; numbers = going-numbers (c .before .before .before .before .before .before .before .before .before .before .before .args .deck .now) (c .before .before .before .before .before .before .before .before .before .before .before .args .t .now) (c .before .before .before .before .before .before .before .loop .t) (c .before .before .before .before .before .before .before .loop .st) (c .before .before .before .before .before .before .before .loop .p) (c .before .before .before .before .before .before .before .loop .line) (c .before .before .before .before .before .before .before .loop .inv) (c .before .before .before .before .before .before .loop-test .taken) (c .before .before .before .before .before .fields .result) (c .before .before .before .before .before .fields .ensures .0) (c .before .before .before .before .if2 .left); good = sym (c .before .before .verdict .ensures) ∙ c .before .if3 .left }
 
 mul-p : tie.Need-mul-p Inv-loop μ-loop
 mul-p c = omega (arith, c .before .before .before .before .before .before .before .before .fields .ensures .1, c .before .before .before .before .before .before .before .before .before .before .before .before .before .before .pre .0)
