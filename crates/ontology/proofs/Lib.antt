@@ -1,0 +1,9 @@
+mod AnswerLaws
+mod AxiomLaws
+mod ConceptLaws
+mod KeyLaws
+mod LoadLaws
+mod PoolLaws
+mod ReadLaws
+mod RowLaws
+mod TableLaws
