@@ -1,0 +1,4 @@
+pub mod PartLaws
+pub mod RebuildLaws
+pub mod Turns
+pub mod Visits

@@ -1,0 +1,9 @@
+pub mod Steps
+pub mod States
+pub mod Axioms
+pub mod StepLaws
+pub mod StateLaws
+pub mod KeptLaws
+pub mod AxiomRows
+pub mod AxiomLaws
+pub mod AxiomTurns
