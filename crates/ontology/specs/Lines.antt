@@ -1,4 +1,4 @@
--- The lines of an accepted deck s, which the reader's table says, and what of them stands in the words w of scratch.
+-- The lines of an accepted deck s, as the reader's table gives them, and what of them stands in the words w of scratch.
 use mathlib.Core.Path.{_≡_}
 use mathlib.Core.List.{List, [], _∷_}
 use mathlib.Core.Option.{none}
@@ -60,7 +60,7 @@ pub record LineIn (s : List ℕ) (l : Line) : Type 0 where
   pub within : l .begin + 11 * l .fields ≤ length s
   pub numbers : reader.Numbers (rowAt s (l .begin) (l .fields))
 
--- the header's numbers and the counts, as counters that can be made of them
+-- the header's numbers and the counts of lines fit the counters
 pub record Declared (k : State) : Type 0 where
   pub classes : k .classes ≤ mostClasses
   pub individuals : k .individuals ≤ mostIndividuals

@@ -4,6 +4,7 @@ mod builder;
 mod counts;
 mod deep;
 mod draw;
+mod forms;
 mod full;
 mod lists;
 mod mixed;
@@ -109,4 +110,11 @@ pub fn any(rng: &mut Random) -> (Shape, Deck) {
     });
     let shape = Shape::ALL[rng.weighted(&weights)];
     (shape, generate(rng, shape))
+}
+
+/// A deck whose normal forms alone end around one million visits or 2,048 concepts. `any` has none: they take long.
+pub fn forms_at_limits(rng: &mut Random) -> Deck {
+    let mut builder = Builder::new(rng);
+    forms::forms(&mut builder);
+    builder.finish()
 }

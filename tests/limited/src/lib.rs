@@ -10,7 +10,7 @@ pub use vocab::Vocabulary;
 
 use clause::{ClauseStats, DlClause};
 use limits::{Refused, Report, Settings};
-use ontology::InternalOntology;
+use ontology::{Axiom, InternalOntology};
 
 /// Class IRIs that begin so are data keys.
 pub const KEY: &str = "key:";
@@ -28,5 +28,17 @@ pub fn clausify(
 ) -> (Result<(Vec<DlClause>, ClauseStats), Refused>, Report) {
     limits::run(settings, &ontology.concepts, || {
         clause::clausify_with_stats(ontology)
+    })
+}
+
+/// `nnf_axioms` under limits: the pool that it leaves, and the axioms.
+pub fn normalise(
+    ontology: &InternalOntology,
+    settings: Settings,
+) -> (Result<(ConceptPool, Vec<Axiom>), Refused>, Report) {
+    limits::run(settings, &ontology.concepts, || {
+        let mut ontology = ontology.clone();
+        let axioms = normalize::nnf_axioms(&mut ontology);
+        (ontology.concepts, axioms)
     })
 }

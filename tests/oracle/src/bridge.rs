@@ -4,7 +4,7 @@
 use std::collections::HashSet;
 
 use library::clause::{Atom, ClauseStats, DlClause};
-use library::ir::{ClassId, ConceptId, ConceptPool, IndividualId, Role, RoleId};
+use library::ir::{ClassId, ConceptExpr, ConceptId, ConceptPool, IndividualId, Role, RoleId};
 use library::ontology::{Axiom, InternalOntology, SubRolePath};
 use library::vocab::Vocabulary;
 
@@ -128,6 +128,75 @@ fn role(code: u32) -> Role {
 
 pub fn code(role: Role) -> u32 {
     2 * role.role_id().index() + u32::from(role.is_inverse())
+}
+
+/// A record of the pool as a deck's line.
+pub fn concept(expr: &ConceptExpr) -> deck::Concept {
+    use deck::Concept;
+    match *expr {
+        ConceptExpr::Top => Concept::Top,
+        ConceptExpr::Bot => Concept::Bot,
+        ConceptExpr::Atomic(class) => Concept::Atomic(class.index()),
+        ConceptExpr::Nominal(individual) => Concept::Nominal(individual.index()),
+        ConceptExpr::SelfRestriction(role) => Concept::SelfRestriction(code(role)),
+        ConceptExpr::Not(part) => Concept::Not(part.index()),
+        ConceptExpr::And(ref list) => Concept::And(numbers(list)),
+        ConceptExpr::Or(ref list) => Concept::Or(numbers(list)),
+        ConceptExpr::Some(role, part) => Concept::Some(code(role), part.index()),
+        ConceptExpr::All(role, part) => Concept::All(code(role), part.index()),
+        ConceptExpr::Min(n, role, part) => Concept::Min(n, code(role), part.index()),
+        ConceptExpr::Max(n, role, part) => Concept::Max(n, code(role), part.index()),
+    }
+}
+
+/// An axiom as a deck's line.
+pub fn line(axiom: &Axiom) -> deck::Axiom {
+    use deck::Axiom as Line;
+    match *axiom {
+        Axiom::SubClassOf { sub, sup } => Line::SubClassOf(sub.index(), sup.index()),
+        Axiom::EquivalentClasses(ref list) => Line::EquivalentClasses(numbers(list)),
+        Axiom::DisjointClasses(ref list) => Line::DisjointClasses(numbers(list)),
+        Axiom::DisjointUnion { class, ref members } => {
+            Line::DisjointUnion(class.index(), numbers(members))
+        }
+        Axiom::ObjectPropertyDomain { role, domain } => Line::Domain(code(role), domain.index()),
+        Axiom::ObjectPropertyRange { role, range } => Line::Range(code(role), range.index()),
+        Axiom::SubObjectPropertyOf {
+            sub: SubRolePath::Chain(ref parts),
+            sup,
+        } => Line::Chain(code(sup), codes(parts)),
+        Axiom::SubObjectPropertyOf {
+            sub: SubRolePath::Role(sub),
+            sup,
+        } => Line::RoleInclusion(code(sub), code(sup)),
+        Axiom::TransitiveRole(role) => Line::Transitive(code(role)),
+        Axiom::IrreflexiveRole(role) => Line::Irreflexive(code(role)),
+        Axiom::AsymmetricRole(role) => Line::Asymmetric(code(role)),
+        Axiom::DisjointObjectProperties(ref list) => Line::DisjointRoles(codes(list)),
+        Axiom::InverseObjectProperties(first, second) => Line::Inverse(code(first), code(second)),
+        Axiom::EquivalentObjectProperties(ref list) => Line::EquivalentRoles(codes(list)),
+        Axiom::ReflexiveRole(role) => Line::Reflexive(code(role)),
+        Axiom::ClassAssertion { class, individual } => {
+            Line::ClassAssertion(class.index(), individual.index())
+        }
+        ref other => panic!("no deck has a line for {other:?}"),
+    }
+}
+
+fn numbers(list: &[ConceptId]) -> Vec<u32> {
+    list.iter().map(|id| id.index()).collect()
+}
+
+fn codes(list: &[Role]) -> Vec<u32> {
+    list.iter().map(|&role| code(role)).collect()
+}
+
+/// The pool's records and the axioms, as lines.
+pub fn lines(pool: &ConceptPool, axioms: &[Axiom]) -> crate::Normalised {
+    (
+        pool.iter_exprs().map(concept).collect(),
+        axioms.iter().map(line).collect(),
+    )
 }
 
 pub fn clause(clause: &DlClause) -> crate::Clause {

@@ -2,6 +2,7 @@
 //! agree.
 
 pub mod decided;
+mod forms;
 mod listing;
 mod stages;
 
@@ -19,7 +20,8 @@ mod instrumented {
 
 use std::sync::{Mutex, PoisonError};
 
-use deck::{Concept, Deck, Refusal};
+use deck::{Axiom, Concept, Deck, Refusal};
+pub use forms::{Forms, forms};
 pub use limited::limits::{Limits, Pass};
 use limited::limits::{Options, Settings};
 pub use listing::{Answer, Clause, Listing};
@@ -95,18 +97,7 @@ pub fn run_with_stages(deck: &Deck, limits: &Limits) -> Run {
 }
 
 fn run_instrumented(deck: &Deck, limits: &Limits, keep_stages: bool) -> Run {
-    let ontology = instrumented::load(deck, |pool, role, part| Some(pool.min_zero(role, part)))
-        .expect("every line is held");
-    let options = Options {
-        decompose: decomposes(deck),
-        card_disjunct_atoms: has_card_disjunct_atoms(deck),
-    };
-    let settings = Settings {
-        limits: *limits,
-        options,
-        first_line: deck.axiom_line(0),
-        keep_stages,
-    };
+    let (ontology, settings) = instrumented_deck(deck, limits, keep_stages);
     let (answer, report) = limited::clausify(&ontology, settings);
     let listing = |(clauses, stats): (Vec<_>, _)| Listing {
         clauses: clauses.iter().map(instrumented::clause).collect(),
@@ -123,6 +114,54 @@ fn run_instrumented(deck: &Deck, limits: &Limits, keep_stages: bool) -> Run {
         most: report.most,
         stages: Stages::from(&report.stages),
     }
+}
+
+/// The deck as the instrumented copy takes it, Min 0 lines held.
+fn instrumented_deck(
+    deck: &Deck,
+    limits: &Limits,
+    keep_stages: bool,
+) -> (limited::ontology::InternalOntology, Settings) {
+    let ontology = instrumented::load(deck, |pool, role, part| Some(pool.min_zero(role, part)))
+        .expect("every line is held");
+    let options = Options {
+        decompose: decomposes(deck),
+        card_disjunct_atoms: has_card_disjunct_atoms(deck),
+    };
+    let settings = Settings {
+        limits: *limits,
+        options,
+        first_line: deck.axiom_line(0),
+        keep_stages,
+    };
+    (ontology, settings)
+}
+
+/// The pool's records and the axioms once all axioms are normalised.
+pub type Normalised = (Vec<Concept>, Vec<Axiom>);
+
+/// [`Normalised`], from the instrumented copy, or refusal 10 or 11; and what the run used.
+///
+/// # Panics
+/// If the unmodified build, which holds no Min 0 line, gives other records or axioms.
+fn normalise(deck: &Deck, limits: &Limits) -> (Result<Normalised, Refusal>, Limits) {
+    let (ontology, settings) = instrumented_deck(deck, limits, false);
+    let (answer, report) = limited::normalise(&ontology, settings);
+    let answer = answer
+        .map(|(pool, axioms)| instrumented::lines(&pool, &axioms))
+        .map_err(|refused| Refusal {
+            number: refused.number,
+            line: refused.line,
+        });
+    if let Ok(normalised) = &answer
+        && !has_min_zero(deck)
+    {
+        let mut ontology = unmodified::load(deck, |_, _, _| None).expect("a deck without Min 0");
+        let axioms = rustdl::normalize::nnf_axioms(&mut ontology);
+        let unmodified = unmodified::lines(&ontology.concepts, &axioms);
+        assert_eq!(*normalised, unmodified, "the two builds differ on {deck:?}");
+    }
+    (answer, report.most)
 }
 
 /// The original reads its options from the environment of the process.

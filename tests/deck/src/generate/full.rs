@@ -5,7 +5,7 @@ use crate::Axiom;
 use crate::limits::LIST;
 
 /// What the pool holds.
-const POOL_CONCEPTS: u32 = 2_048;
+pub const POOL_CONCEPTS: u32 = 2_048;
 const POOL_MEMBERS: u32 = 16_384;
 
 pub fn pool_full(builder: &mut Builder) {
@@ -46,6 +46,17 @@ fn many_concepts(builder: &mut Builder) {
 /// 2,048 concepts, or one more or less.
 fn last_concepts(builder: &mut Builder) {
     builder.declare(1_000, 1, 2);
+    let (chains, pool) = complemented_chains(builder);
+    let classes = builder.rng.between(POOL_CONCEPTS - 1, POOL_CONCEPTS + 1) - pool;
+    for class in chains..chains + classes {
+        builder.atomic(class);
+    }
+}
+
+/// Ten or eleven chains in axioms with their complements: how many, and the concepts that their lines and normal forms
+/// bring.
+pub fn complemented_chains(builder: &mut Builder) -> (u32, u32) {
+    let before = builder.len();
     let chains = builder.rng.between(10, 11);
     for class in 0..chains {
         let end = tall_chain(builder, class, 60, 1_024);
@@ -59,12 +70,8 @@ fn last_concepts(builder: &mut Builder) {
     }
     // Of a chain's lines, the class, the Some and the two negations have no complement that is new; the negated Some's
     // normal form comes with the negated class.
-    let lines = builder.len();
-    let pool = lines + 2 * chains + 2 * (lines - 4 * chains);
-    let classes = builder.rng.between(POOL_CONCEPTS - 1, POOL_CONCEPTS + 1) - pool;
-    for class in chains..chains + classes {
-        builder.atomic(class);
-    }
+    let lines = builder.len() - before;
+    (chains, lines + 2 * chains + 2 * (lines - 4 * chains))
 }
 
 /// 16,384 list members, or one more or less: an Or of 128 and its complement, Ands that flatten it, and one plain And.

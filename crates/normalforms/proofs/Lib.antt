@@ -1,0 +1,4 @@
+pub mod AxiomLaws
+pub mod LineLaws
+pub mod RoomLaws
+pub mod FormLaws
