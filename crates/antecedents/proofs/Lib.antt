@@ -1,0 +1,4 @@
+mod Combined
+mod Counting
+mod Rows
+mod Writing

@@ -1,0 +1,11 @@
+pub mod States
+pub mod Counts
+pub mod CountLaws
+pub mod Stands
+pub mod Kinds
+pub mod Table
+pub mod TableLaws
+pub mod Picks
+pub mod PickLaws
+pub mod Writes
+pub mod WriteLaws

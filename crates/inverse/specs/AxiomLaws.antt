@@ -1,0 +1,184 @@
+-- The loop over the axioms. Assumes nothing.
+use mathlib.Core.Path.{_≡_, refl, sym, ap, subst, _∙_}
+use mathlib.Core.Bool.{Bool, true, false}
+use mathlib.Core.List.{List, []}
+use Prim.Native.Nat.{ℕ, suc, _+_, _*_, _-_, _/_, _%_, _<_, _≤_}
+use native.Mathlib.Omega.{arith}
+use native.Mathlib.Nat.{zero-add}
+use borrow.Author.Tests.{eqb-true, leb-true}
+use lib.Dec.{eqb, leb}
+use lib.ListN.{length, getD}
+use Rattle.words.specs.Words.{words}
+use Rattle.ir.specs.Scratch.{axiomsAt, numbersAt, linesAt}
+use Rattle.ir.specs.Roles.{roleOf}
+use Rattle.rules.specs.Concept.{Axiom, InverseObjectProperties}
+use Rattle.rules.specs.Deck.{mostRoles, sectionOf, fixedOf, isListKind, fieldsOk, axiomOf}
+use Rattle.rules.specs.Inverse.{InverseCanon, declared, inverseOf, buildFrom}
+use Rattle.rules.specs.Invariants.{Bounds, RoleIn, AxiomIn}
+use Rattle.pool.specs.Layout.{tab, run}
+use Rattle.pool.specs.Tabs.{getD-tab, tab-each, tab-same}
+use Rattle.deck.proofs.KindLaws.{axiom-kinds}
+use Rattle.ontology.specs.Layout.{axiomStart, axiomCount, axiomNumber, axiomRow, axiomAt, axiomsOf, AxiomsHeld}
+use Rattle.inverse.specs.Layout.{Mapped, Beside, Building}
+use Rattle.inverse.specs.BuildLaws.{beside-refl, beside-trans}
+
+-- ---- one axiom
+abbrev Idle : InverseCanon → List ℕ → ℕ → Type 0
+Idle m r k = (k ≡ 32 → ⊥) → inverseOf m (axiomOf k r) ≡ m
+
+-- an axiom of another kind makes no entry
+pub other-kind : (m : InverseCanon) (r : List ℕ) (k : ℕ) → sectionOf k ≡ 4 → Idle m r k
+unfolding axiomOf
+other-kind m r =
+    axiom-kinds (Idle m r) (λ _. refl) (λ _. refl) (λ _. refl) (λ _. refl) (λ _. refl) (λ _. refl) (λ _. refl) (λ _. refl) (λ _. refl) (λ _. refl) (λ _. refl)
+    (λ h. absurd (h refl)) (λ _. refl) (λ _. refl) (λ _. refl) (λ _. refl)
+
+module _ (w : List ℕ) (n i : ℕ) (H : AxiomsHeld w n) (h : i < n) (k : axiomNumber w i 0 ≡ 32) where
+  pub three : axiomCount w i ≡ 3
+  three = eqb-true (axiomCount w i) 3 (subst (λ (x : ℕ). fieldsOk x (axiomCount w i) ≡ true) k (H .fields i h))
+
+  number : (j : ℕ) → j < 3 → getD (axiomRow w i) j 0 ≡ axiomNumber w i j
+  number j l = getD-tab (λ x. getD w x 0) 0 (numbersAt + axiomStart w i) (axiomCount w i) j (omega (arith, three))
+
+  pub inverse-axiom : axiomAt w i ≡ InverseObjectProperties (roleOf (axiomNumber w i 1)) (roleOf (axiomNumber w i 2))
+  unfolding axiomOf
+  inverse-axiom =
+      ap (λ (x : ℕ). axiomOf x (axiomRow w i)) k
+      ∙ ap (λ (x : ℕ). InverseObjectProperties (roleOf x) (roleOf (getD (axiomRow w i) 2 0))) (number 1 (omega arith))
+      ∙ ap (λ (x : ℕ). InverseObjectProperties (roleOf (axiomNumber w i 1)) (roleOf x)) (number 2 (omega arith))
+
+-- the code of a role of the deck
+code-small : (B : Bounds) (c : ℕ) → B .roles ≤ mostRoles → RoleIn B (roleOf c) → c < 2 * mostRoles
+code-small B c l h = by (eqb (c % 2) 0) refl
+  where
+    by : (b : Bool) → eqb (c % 2) 0 ≡ b → c < 2 * mostRoles
+    by true e = let q : c / 2 < B .roles = rw e at h in omega arith
+    by false e = let q : c / 2 < B .roles = rw e at h in omega arith
+
+-- a line has its kind
+abbrev Some : ℕ → Type 0
+Some k = (n : ℕ) → fieldsOk k n ≡ true → 1 ≤ n
+
+some-fields : (k : ℕ) → sectionOf k ≡ 4 → Some k
+some-fields k e n h = by (isListKind k) refl
+  where
+    by : (b : Bool) → isListKind k ≡ b → 1 ≤ n
+    by true q = let z : leb (1 + fixedOf k) n ≡ true = sym (rw q refl) ∙ h in omega (arith, leb-true (1 + fixedOf k) n z)
+    by false q = let z : eqb n (1 + fixedOf k) ≡ true = sym (rw q refl) ∙ h in omega (arith, eqb-true n (1 + fixedOf k) z)
+
+-- ---- the numbers that the code reads
+module _ (s : List ℕ) (n i : ℕ) (A : Building s n) (h : i < n) where
+  pub kind-inside : numbersAt + axiomStart (words s) i + 0 < linesAt
+  kind-inside =
+      let H = A .held in
+      let q = H .within i h in
+      let c = some-fields (axiomNumber (words s) i 0) (H .kinds i h) (axiomCount (words s) i) (H .fields i h) in
+      omega arith
+
+  pub axiom-idle : (k : ℕ) → k ≡ axiomNumber (words s) i 0 → (k ≡ 32 → ⊥) → (m : InverseCanon) → Mapped (words s) m mostRoles → Mapped (words s) (inverseOf m (axiomAt (words s) i)) mostRoles
+  axiom-idle k e d m M = subst (λ (x : InverseCanon). Mapped (words s) x mostRoles) (sym (other-kind m (axiomRow (words s) i) (axiomNumber (words s) i 0) (A .held .kinds i h) (λ z. d (e ∙ z)))) M
+
+  module _ (k : axiomNumber (words s) i 0 ≡ 32) where
+    pub roles-inside : (j : ℕ) → j < 3 → numbersAt + axiomStart (words s) i + j < linesAt
+    roles-inside j l =
+        let q = A .held .within i h in
+        let c = three (words s) n i (A .held) h k in
+        omega arith
+
+    roles-in : RoleIn (A .bounds) (roleOf (axiomNumber (words s) i 1)) × RoleIn (A .bounds) (roleOf (axiomNumber (words s) i 2))
+    roles-in =
+        let e : 0 + i ≡ i = zero-add i in
+        subst (AxiomIn (A .bounds) (A .concepts)) (inverse-axiom (words s) n i (A .held) h k) (rw e at (tab-each (axiomAt (words s)) (AxiomIn (A .bounds) (A .concepts)) 0 n (A .inside) i h))
+
+    pub first-small : (r : ℕ) → r ≡ axiomNumber (words s) i 1 → r < 2 * mostRoles
+    first-small r e = rw e (code-small (A .bounds) (axiomNumber (words s) i 1) (A .few) (roles-in .0))
+
+    pub second-small : (r : ℕ) → r ≡ axiomNumber (words s) i 2 → r < 2 * mostRoles
+    second-small r e = rw e (code-small (A .bounds) (axiomNumber (words s) i 2) (A .few) (roles-in .1))
+
+    pub axiom-entry : (r t : ℕ) (w' : List ℕ) → r ≡ axiomNumber (words s) i 1 → t ≡ axiomNumber (words s) i 2
+        → ((m : InverseCanon) → Mapped (words s) m mostRoles → Mapped w' (declared m (roleOf r) (roleOf t)) mostRoles)
+        → (m : InverseCanon) → Mapped (words s) m mostRoles → Mapped w' (inverseOf m (axiomAt (words s) i)) mostRoles
+    axiom-entry r t w' er et D m M =
+        let e : InverseObjectProperties (roleOf r) (roleOf t) ≡ axiomAt (words s) i =
+        ap (λ (x : ℕ). InverseObjectProperties (roleOf x) (roleOf t)) er ∙ ap (λ (x : ℕ). InverseObjectProperties (roleOf (axiomNumber (words s) i 1)) (roleOf x)) et ∙ sym (inverse-axiom (words s) n i (A .held) h k) in
+        subst (λ (a : Axiom). Mapped w' (inverseOf m a) mostRoles) e (D m M)
+
+-- ---- a write to the map leaves the axioms as they are
+module _ (s₀ s : List ℕ) (n : ℕ) (A : Building s₀ n) (B : Beside (words s₀) (words s)) (l : length s ≡ length s₀) where
+  start-kept : (i : ℕ) → axiomStart (words s) i ≡ axiomStart (words s₀) i
+  start-kept i = B .above (axiomsAt + 2 * i) (omega arith)
+
+  count-kept : (i : ℕ) → axiomCount (words s) i ≡ axiomCount (words s₀) i
+  count-kept i = B .above (axiomsAt + 2 * i + 1) (omega arith)
+
+  number-kept : (i j : ℕ) → axiomNumber (words s) i j ≡ axiomNumber (words s₀) i j
+  number-kept i j = rw (start-kept i) (B .above (numbersAt + axiomStart (words s₀) i + j) (omega arith))
+
+  axiom-kept : (i : ℕ) → axiomAt (words s) i ≡ axiomAt (words s₀) i
+  axiom-kept i =
+      let r : axiomRow (words s) i ≡ axiomRow (words s₀) i = ap (λ (x : ℕ). run (words s) (numbersAt + x) (axiomCount (words s) i)) (start-kept i) ∙ ap (run (words s) (numbersAt + axiomStart (words s₀) i)) (count-kept i)
+      ∙ tab-same (λ x. getD (words s) x 0) (λ x. getD (words s₀) x 0) _ _ (axiomCount (words s₀) i) (λ k h. B .above (numbersAt + axiomStart (words s₀) i + k) (omega arith)) in
+      ap (λ (x : ℕ). axiomOf x (axiomRow (words s) i)) (number-kept i 0) ∙ ap (axiomOf (axiomNumber (words s₀) i 0)) r
+
+  pub axioms-kept : axiomsOf (words s) n ≡ axiomsOf (words s₀) n
+  axioms-kept = tab-same (axiomAt (words s)) (axiomAt (words s₀)) 0 0 n (λ k h. axiom-kept (0 + k))
+
+  pub building-kept : Building s n
+  building-kept = record {
+    space = omega (arith, A .space);
+    held = record {
+      few = A .held .few;
+      within = λ i h. rw (start-kept i, count-kept i) (A .held .within i h);
+      apart = λ i j h k. rw (start-kept i, count-kept i, start-kept j) (A .held .apart i j h k);
+      kinds = λ i h. rw (number-kept i 0) (A .held .kinds i h);
+      fields = λ i h. rw (number-kept i 0, count-kept i) (A .held .fields i h);
+    };
+    bounds = A .bounds;
+    few = A .few;
+    concepts = A .concepts;
+    inside = rw axioms-kept (A .inside);
+  }
+
+-- ---- the loop: of scratch's bytes s₀ before it and s now, i axioms are read
+pub record Reading (s₀ s : List ℕ) (n i : ℕ) : Type 0 where
+  pub asked : Building s₀ n
+  pub within : i ≤ n
+  pub map : InverseCanon
+  pub mapped : Mapped (words s) map mostRoles
+  pub rest : buildFrom [] (axiomsOf (words s₀) n) ≡ buildFrom map (tab (axiomAt (words s₀)) i (n - i))
+  pub beside : Beside (words s₀) (words s)
+  pub long : length s ≡ length s₀
+
+pub reading-first : (s : List ℕ) (n : ℕ) → Building s n → Mapped (words s) [] mostRoles → Reading s s n 0
+reading-first s n A M = record {
+  asked = A;
+  within = omega arith;
+  map = [];
+  mapped = M;
+  beside = beside-refl (words s);
+  long = refl;
+  rest = let e : n - 0 ≡ n = omega arith in rw e refl;
+}
+
+module _ (s₀ s : List ℕ) (n i : ℕ) (R : Reading s₀ s n i) where
+  pub reading-asks : Building s n
+  reading-asks = building-kept s₀ s n (R .asked) (R .beside) (R .long)
+
+  pub reading-next : i < n → (s' : List ℕ) → ((m : InverseCanon) → Mapped (words s) m mostRoles → Mapped (words s') (inverseOf m (axiomAt (words s) i)) mostRoles) → Beside (words s) (words s') → length s' ≡ length s → Reading s₀ s' n (i + 1)
+  unfolding buildFrom tab
+  reading-next h s' M B l = record {
+    asked = R .asked;
+    within = omega arith;
+    map = inverseOf (R .map) (axiomAt (words s₀) i);
+    mapped = subst (λ (a : Axiom). Mapped (words s') (inverseOf (R .map) a) mostRoles) (axiom-kept s₀ s n (R .asked) (R .beside) (R .long) i) (M (R .map) (R .mapped));
+    beside = beside-trans (words s₀) (words s) (words s') (R .beside) B;
+    long = l ∙ R .long;
+    rest = R .rest ∙ (let e : n - i ≡ suc (n - (i + 1)) = omega arith in rw e refl);
+  }
+
+  pub reading-end : n ≤ i → Mapped (words s) (buildFrom [] (axiomsOf (words s₀) n)) mostRoles
+  unfolding buildFrom tab
+  reading-end h =
+      let e : n - i ≡ 0 = omega arith in
+      subst (λ (m : InverseCanon). Mapped (words s) m mostRoles) (sym (R .rest ∙ rw e refl)) (R .mapped)
