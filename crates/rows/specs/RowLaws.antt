@@ -188,9 +188,6 @@ field-put w s from at i p x out h e f g =
     rw (g, q, f, columns-more w from i h) (sets-append (columnsText (take i (drop from w))) (fieldText (getD w (from + i) 0)) s at)
 
 -- ---- texts that are put one behind the other
-pub put-long : (s : List ℕ) (at : ℕ) (t s' : List ℕ) (r : ℕ) → Put s at t s' r → length s' ≡ length s
-put-long s at t s' r h = ap length (h .bytes) ∙ length-sets s at t
-
 pub put-then : {s s' s'' t u : List ℕ} {at p q : ℕ} → Put s at t s' p → Put s' p u s'' q → Put s at (t ++ u) s'' q
 put-then {s} {s'} {s''} {t} {u} {at} {p} {q} h k = record {
   bytes = k .bytes ∙ ap₂ (λ (b : List ℕ) (i : ℕ). sets b i u) (h .bytes) (h .end) ∙ sets-append t u s at;
