@@ -30,8 +30,7 @@ returns : tie.Need-returns
 returns c =
     let a = c .before .before .before .before .before .before .before .before .before in
     let x = c .before .before .before .before .before .before .clear-roles in
-    let y = c .before .before .declare-all .ensures in
-    (
+    let y = c .before .before .declare-all .ensures in (
       subst (λ (l : List Axiom). RolesHeld (words (c .before .before .declare-all .last .0)) (buildInverseCanon l)) (axioms-kept (a .args .scratch .now) _ (a .args .n) (a .pre) (x .ensures .1) (x .kept .0)) (mapped-held _ _ (y .0)),
       beside-trans _ _ _ (x .ensures .1) (y .1),
     )

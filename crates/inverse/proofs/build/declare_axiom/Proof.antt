@@ -27,7 +27,7 @@ number-requires-3 c κs = let a = c .before .before .before .before .before .bef
 
 declare-requires : tie.Need-declare-requires
 declare-requires c κs =
-    let a = c .before .before .before .before .before .before .before .before .before in 
+    let a = c .before .before .before .before .before .before .before .before .before in
     let k = sym (c .before .before .before .before .before .before .number .ensures) ∙ c .before .before .before .before .before .if1 .left in
     (first-small (a .args .scratch .now) _ _ (a .pre .0) (a .pre .1) k _ (c .before .before .before .number2 .ensures), second-small (a .args .scratch .now) _ _ (a .pre .0) (a .pre .1) k _ (c .before .number3 .ensures), omega (arith, a .pre .0 .space))
 
@@ -36,7 +36,7 @@ same-length-2 c = search needs
 
 returns-2 : tie.Need-returns-2
 returns-2 c =
-    let a = c .before .before .before .before .before .before .before .before .before .before .before .before in 
+    let a = c .before .before .before .before .before .before .before .before .before .before .before .before in
     let k = sym (c .before .before .before .before .before .before .before .before .before .number .ensures) ∙ c .before .before .before .before .before .before .before .before .if1 .left in
     let d = c .before .before .declare .ensures in
     (axiom-entry (a .args .scratch .now) _ _ (a .pre .0) (a .pre .1) k _ _ _ (c .before .before .before .before .before .before .number2 .ensures) (c .before .before .before .before .number3 .ensures) (d .0), d .1)

@@ -23,9 +23,10 @@ of-code-requires : tie.Need-of-code-requires
 of-code-requires c κs = search needs
 
 returns : tie.Need-returns
-returns c = let s = c .before .before .before .before in let q = c .before .canon-role in
-    (λ env E. c .of-code .ensures ∙ ap roleOf (q .ensures (env .inverseCanon) (E .roles)) ∙ role-code (canon env (roleOf (c .before .before .role .result))) ∙ ap (λ (x : ℕ). canon env (roleOf x)) (c .before .before .role .ensures),
-    rw (c .of-code .ensures) (role-of-code (q .result) (omega arith)))
+returns c = let s = c .before .before .before .before in let q = c .before .canon-role in (
+  λ env E. c .of-code .ensures ∙ ap roleOf (q .ensures (env .inverseCanon) (E .roles)) ∙ role-code (canon env (roleOf (c .before .before .role .result))) ∙ ap (λ (x : ℕ). canon env (roleOf x)) (c .before .before .role .ensures),
+  rw (c .of-code .ensures) (role-of-code (q .result) (omega arith)),
+)
 
 pub canon-spec : {M : Type 1} → statement M
 canon-spec = tie.close (tie.spec role-requires canon-role-requires of-code-requires returns)
