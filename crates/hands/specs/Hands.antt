@@ -2,7 +2,7 @@
 use mathlib.Core.Path.{_≡_}
 use mathlib.Core.Bool.{false}
 use mathlib.Core.List.{List, _++_}
-use Prim.Native.Nat.{ℕ, _+_, _*_, _≤_}
+use Prim.Native.Nat.{ℕ, _+_, _*_, _<_, _≤_}
 use lib.ListN.{length, take}
 use Rattle.ir.specs.Options.{cardDisjunctAtoms}
 use Rattle.ir.specs.declared.counters.Counters.{Counters}

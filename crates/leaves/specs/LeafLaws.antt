@@ -1,21 +1,21 @@
 -- emit_head and head_atom_for by what they do first. Assumes nothing.
-use mathlib.Core.Path.{_≡_, refl, sym, ap, _∙_}
+use mathlib.Core.Path.{_≡_, refl}
 use mathlib.Core.Bool.{Bool, true, false, not, _||_}
 use lib.Dec.{eqb}
 use borrow.Author.Tests.{not-true}
 use Rattle.ir.specs.declared.role.Role.{Role}
-use mathlib.Core.List.{List, [], _∷_}
-use mathlib.Core.Option.{Option, none, some}
-use Prim.Native.Nat.{ℕ, zero, suc, _+_}
+use mathlib.Core.List.{List}
+use mathlib.Core.Option.{some}
+use Prim.Native.Nat.{ℕ, zero, suc}
 use native.Mathlib.Omega.{arith}
 use Rattle.ir.specs.declared.atom.Atom.{Atom}
-use Rattle.ir.specs.declared.atom.Atom.the-variants.{Class, AtMost, AtLeast}
+use Rattle.ir.specs.declared.atom.Atom.the-variants.{AtMost, AtLeast}
 use Rattle.ir.specs.declared.atom.Qualifier.the-variants.{Unqualified, Qualified}
-use Rattle.rules.specs.Base.{Res, ok, refused, then, return}
+use Rattle.rules.specs.Base.{Res, ok, refused, then}
 use Rattle.rules.specs.Concept.{Concept}
 use Rattle.rules.specs.Concept.{Top, Bot, Atomic, Nominal, SelfRestriction, Not, And, Or, Some, All, Min, Max}
 use Rattle.rules.specs.Pool.{Pool, at}
-use Rattle.rules.specs.State.{Env, Out, E, canon, classIdOf, isDkey}
+use Rattle.rules.specs.State.{Env, Out, canon, classIdOf, isDkey}
 use Rattle.rules.specs.Heads.{Emits, isTop, isDkeyQualifier, unlessDkey, emitStep, emitNot, atomicNameOf, cardinalityQualifier, qualifierOr, atomOr, compoundAtom, notAtom, nameAtom, minAtom, maxAtom}
 use Rattle.leaves.specs.Leaves.{isLeaf, leafOf, emitLeaf, emitNamed, disjunctOf, disjunctAtom, fillerOf, negatedAtom, bodyOr, negatedOr, countedOr}
 

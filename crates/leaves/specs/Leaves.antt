@@ -5,8 +5,6 @@ use mathlib.Core.List.{List, [], _∷_}
 use mathlib.Core.Option.{Option, none, some}
 use Prim.Native.Nat.{ℕ, zero, suc, _+_}
 use lib.Dec.{eqb}
-use Rattle.ir.specs.Pick.{pick}
-use Rattle.ir.specs.declared.role.Role.{Role}
 use Rattle.ir.specs.declared.atom.Atom.{Atom}
 use Rattle.ir.specs.declared.atom.Atom.the-variants.{Class, Exists, AtMost, AtLeast, Role as RoleAtom}
 use Rattle.ir.specs.declared.atom.Qualifier.the-variants.{Unqualified, Qualified}

@@ -1,24 +1,24 @@
 -- The head of a restriction whose filler is named. Assumes nothing.
 use mathlib.Core.Path.{_≡_, refl, sym, ap, subst, _∙_}
-use mathlib.Core.Bool.{Bool, true, false}
+use mathlib.Core.Bool.{true, false}
 use mathlib.Core.List.{List, [], _∷_}
 use Prim.{Unit, tt}
-use Prim.Native.Nat.{ℕ, _+_, _*_}
+use Prim.Native.Nat.{ℕ}
 use native.Mathlib.Omega.{arith}
 use Rattle.ir.specs.declared.counters.Counters.{Counters}
 use Rattle.ir.specs.declared.answer.Answer.{Answer}
 use Rattle.ir.specs.declared.answer.Answer.the-variants.{Done, Refused}
 use Rattle.ir.specs.declared.atom.Atom.{Atom}
-use Rattle.rules.specs.Base.{Res, ok, refused, then, return}
+use Rattle.rules.specs.Base.{ok, then}
 use Rattle.rules.specs.Concept.{Concept}
 use Rattle.rules.specs.Concept.{Top, Bot, Atomic, Nominal, SelfRestriction, Not, And, Or, Some, All, Min, Max}
 use Rattle.rules.specs.Pool.{Pool}
 use Rattle.rules.specs.State.{Env, Out, push}
-use Rattle.tables.specs.Drawn.{tables, show, shown, after}
-use Rattle.tables.specs.Good.{Good, GoodAnswer, Alike, KeptAnswer}
-use Rattle.hands.specs.Hands.{Four, four, EnvIn, EnvHeld, Did}
+use Rattle.tables.specs.Drawn.{tables, shown, after}
+use Rattle.tables.specs.Good.{GoodAnswer, KeptAnswer}
+use Rattle.hands.specs.Hands.{Four, EnvIn, Did}
 use Rattle.leaves.specs.Classes.{Restricts}
-use Rattle.leaves.specs.Leaves.{emitNamed, unlessKey, dropsHead, fillerAtom}
+use Rattle.leaves.specs.Leaves.{emitNamed, dropsHead, fillerAtom}
 use Rattle.leaves.specs.Made.{DidAfter}
 use Rattle.leaves.specs.StepLaws.{env-alike, shown-alike, drawn-alike, kept-then, after-done, after-no}
 

@@ -1,45 +1,38 @@
 -- What a concept is, by the words of its record. Assumes nothing.
 use mathlib.Core.Path.{_≡_, refl, sym, ap, subst, _∙_}
 use mathlib.Core.Bool.{Bool, true, false, not, _||_}
-use mathlib.Core.List.{List, []}
-use mathlib.Core.Option.{Option, none, some}
+use mathlib.Core.List.{List}
+use mathlib.Core.Option.{none, some}
 use Prim.{tt}
-use Prim.Native.Nat.{ℕ, zero, suc, _+_, _*_, _%_, _/_, _<_, _≤_, _^_}
+use Prim.Native.Nat.{ℕ, zero, suc, _+_, _*_, _%_, _<_, _≤_, _^_}
 use native.Mathlib.Omega.{arith}
 use lib.Dec.{eqb, ltb}
-use lib.ListN.{length, getD}
 use borrow.Author.Tests.{eqb-true, eqb-false, ltb-true, ltb-false}
 use Rattle.words.specs.Words.{words}
 use Rattle.ir.specs.Pick.{pick}
 use Rattle.ir.specs.Roles.{roleId, roleCode, roleOf}
-use Rattle.ir.specs.Records.{Fits}
 use Rattle.ir.specs.declared.counters.Counters.{Counters}
 use Rattle.ir.specs.declared.role.Role.{Role}
 use Rattle.ir.specs.declared.role.Role.the-variants.{Named, Inverse}
-use Rattle.ir.specs.declared.atom.Atom.{Atom}
-use Rattle.ir.specs.declared.atom.Atom.the-variants.{Class, Exists, AtMost, AtLeast, Role as RoleAtom}
-use Rattle.ir.specs.declared.atom.Qualifier.the-variants.{Unqualified, Qualified}
+use Rattle.ir.specs.declared.atom.Atom.the-variants.{Class, AtLeast}
+use Rattle.ir.specs.declared.atom.Qualifier.the-variants.{Unqualified}
 use Rattle.rules.specs.Concept.{Concept}
 use Rattle.rules.specs.Concept.{Top, Bot, Atomic, Nominal, SelfRestriction, Not, And, Or, Some, All, Min, Max}
 use Rattle.rules.specs.Pool.{Pool, at, members}
 use Rattle.rules.specs.Deck.{mostClasses, mostIndividuals, mostRoles}
 use Rattle.rules.specs.State.{Env, canon, classIdOf, isDkey}
 use Rattle.rules.specs.Heads.{isTop}
-use Rattle.rules.specs.Invariants.{Bounds, Bounded, RoleIn}
+use Rattle.rules.specs.Invariants.{Bounds, Bounded}
 use Rattle.pool.specs.declared.record.Record.{Record}
 use Rattle.pool.specs.Layout.{field, conceptFrom, conceptAt, poolOf, plain, startsAt, membersAt, run}
 use Rattle.pool.specs.HeldLaws.{pool-length, pool-at, record-kind, concept-is, kind-range}
 use Rattle.pool.specs.Shapes.{by-test}
-use Rattle.leaves.specs.declared.read.ClassId.{ClassId}
-use Rattle.leaves.specs.declared.read.ClassId.the-variants as ClassIs
 use Rattle.leaves.specs.declared.leaf.Leaf.{Leaf}
 use Rattle.leaves.specs.declared.leaf.Leaf.the-variants as LeafIs
-use Rattle.leaves.specs.declared.disjunct.Disjunct.{Disjunct}
 use Rattle.leaves.specs.declared.disjunct.Disjunct.the-variants as DisjunctIs
-use Rattle.leaves.specs.declared.form.Form.{Form}
 use Rattle.leaves.specs.declared.form.Form.the-variants as FormIs
-use Rattle.leaves.specs.Classes.{classIn, HasRole, Restricts, atLeastNone}
-use Rattle.leaves.specs.Leaves.{negatedAtom, leafOf, countedOr, disjunctOf, noAtom, overTop, fillerAtom, dropsHead}
+use Rattle.leaves.specs.Classes.{HasRole, Restricts, atLeastNone}
+use Rattle.leaves.specs.Leaves.{negatedAtom, leafOf, countedOr, disjunctOf, noAtom, overTop, dropsHead}
 use Rattle.leaves.specs.Reading.{Reading, formOf}
 
 -- ---- the concept, where its record's kind is known

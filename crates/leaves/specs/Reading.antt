@@ -1,5 +1,4 @@
 -- What the code asks of scratch to read a concept, and the ways that emit_head goes.
-use mathlib.Core.Path.{_≡_}
 use mathlib.Core.List.{List}
 use mathlib.Core.Option.{Option, none, some}
 use Prim.{Unit}
@@ -19,6 +18,7 @@ use Rattle.rules.specs.Heads.{isTop}
 use Rattle.rules.specs.Invariants.{Bounds, Wf}
 use Rattle.pool.specs.Layout.{poolOf}
 use Rattle.pool.specs.Held.{Ready}
+use Rattle.leaves.specs.Classes.{Restricts}
 use Rattle.leaves.specs.declared.leaf.Leaf.{Leaf}
 use Rattle.leaves.specs.declared.leaf.Leaf.the-variants as LeafIs
 use Rattle.leaves.specs.declared.leaf.Literal.{Literal}
@@ -71,9 +71,10 @@ abbrev pub LiteralFits : Literal → Type 0
 LiteralFits (LiteralIs.Atom a) = Fits a
 LiteralFits LiteralIs.None = Unit {0}
 
-abbrev pub DisjunctFits : Disjunct → Type 0
-DisjunctFits (DisjunctIs.Ready a) = Fits a
-DisjunctFits (DisjunctIs.Negated a) = Fits a
-DisjunctFits DisjunctIs.Absent = Unit {0}
-DisjunctFits DisjunctIs.Whole = Unit {0}
-DisjunctFits DisjunctIs.Filler = Unit {0}
+-- and a filler is a restriction's
+abbrev pub DisjunctFits : Concept → Disjunct → Type 0
+DisjunctFits e (DisjunctIs.Ready a) = Fits a
+DisjunctFits e (DisjunctIs.Negated a) = Fits a
+DisjunctFits e DisjunctIs.Absent = Unit {0}
+DisjunctFits e DisjunctIs.Whole = Unit {0}
+DisjunctFits e DisjunctIs.Filler = Restricts e

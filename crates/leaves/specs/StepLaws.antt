@@ -1,26 +1,21 @@
 -- Steps over plain values: what goes on after an answer, one counter more, and what a write above the regions leaves alone.
 -- Assumes nothing.
 use mathlib.Core.Path.{_≡_, refl, sym, ap, subst, _∙_}
-use mathlib.Core.Bool.{Bool, true, false}
 use mathlib.Core.List.{List, [], _∷_, _++_, append-nil}
-use mathlib.Core.Option.{Option, none, some}
-use Prim.{Unit, tt}
-use Prim.Native.Nat.{ℕ, zero, suc, _+_, _*_, _≤_, _<_, _^_}
+use mathlib.Core.Option.{Option, some}
+use Prim.{tt}
+use Prim.Native.Nat.{ℕ, _+_, _*_, _≤_, _<_, _^_}
 use native.Mathlib.Omega.{arith}
-use borrow.Author.Tests.{lt-ltb, le-ltb, ltb-true}
-use lib.Dec.{ltb, eqb}
+use borrow.Author.Tests.{lt-ltb, le-ltb}
 use lib.ListN.{length, getD, take}
-use lib.Seq.{sets, take-take, getD-take, length-sets}
+use lib.Seq.{sets, take-take, getD-take}
 use Rattle.words.specs.Words.{words}
 use Rattle.words.specs.Laws.{length-words}
-use Rattle.ir.specs.Pick.{pick}
-use Rattle.ir.specs.Counts.{tick, visited, freshVar, freshClass}
+use Rattle.ir.specs.Counts.{tick, freshVar, freshClass}
 use Rattle.ir.specs.Options.{cardDisjunctAtoms}
-use Rattle.ir.specs.Records.{six, Fits}
+use Rattle.ir.specs.Records.{six}
 use Rattle.ir.specs.Scratch.{handsAt, keysAt, rolesAt}
 use Rattle.ir.specs.declared.counters.Counters.{Counters}
-use Rattle.ir.specs.declared.counters.Visit.{Visit}
-use Rattle.ir.specs.declared.counters.Visit.the-variants.{Begun, Full}
 use Rattle.ir.specs.declared.answer.Answer.{Answer}
 use Rattle.ir.specs.declared.answer.Answer.the-variants.{Done, Refused}
 use Rattle.ir.specs.declared.answer.Headed.{Headed}
@@ -28,20 +23,17 @@ use Rattle.ir.specs.declared.answer.Headed.the-variants as Head
 use Rattle.ir.specs.declared.atom.Atom.{Atom}
 use Rattle.ir.specs.declared.atom.Atom.the-variants.{Class}
 use Rattle.ir.specs.declared.deferral.Deferral.the-variants.{HeadNotNonatomic}
-use Rattle.rules.specs.Base.{Res, ok, refused, then, contains}
-use Rattle.rules.specs.Deck.{mostClasses, mostRoles}
+use Rattle.rules.specs.Base.{Res, ok, refused, then}
 use Rattle.rules.specs.State.{Env, Out, out, Rooms, push, with, defer, freshClass as newClass}
 use Rattle.rules.specs.Run.{flat}
-use Rattle.inverse.specs.Layout.{RolesHeld}
-use Rattle.ontology.specs.Layout.{KeysHeld, isKey}
-use Rattle.tables.specs.Drawn.{Tables, tables, countersOf, show, shown, after, Lent}
+use Rattle.tables.specs.Drawn.{Tables, tables, show, shown, after, Lent}
 use Rattle.tables.specs.Good.{Good, GoodAnswer, Alike, KeptAnswer}
 use Rattle.hands.specs.Hands.{InHand, Four, four, EnvIn, EnvHeld, Did}
 use Rattle.hands.specs.HandLaws.{put-frame, hand-more}
 use Rattle.leaves.specs.declared.leaf.Leaf.{Leaf}
-use Rattle.leaves.specs.declared.leaf.Leaf.the-variants.{Nothing, Empty, Head as LeafHead, Body, Deferred}
+use Rattle.leaves.specs.declared.leaf.Leaf.the-variants.{Nothing, Body, Deferred}
 use Rattle.leaves.specs.Leaves.{emitLeaf, nameNegated}
-use Rattle.leaves.specs.Made.{headed, shownAtom, GoodHeaded, KeptHeaded, DidAtom}
+use Rattle.leaves.specs.Made.{headed, shownAtom, KeptHeaded, DidAtom}
 
 -- ---- counters that are alike
 pub alike-same : (k : Counters) → Alike k k

@@ -12,12 +12,13 @@ use ir::options;
 use ir::record;
 use pool::record as concept;
 ghost use mathlib.Core.Path.{_≡_};
-ghost use mathlib.Core.List.{List, []};
+ghost use mathlib.Core.List.{[], List};
 ghost use Prim.Native.Nat.{ℕ, _+_, _*_, _<_, _≤_, _^_};
 ghost use lib.ListN.{length};
 ghost use Rattle.words.specs.Words.{words};
 ghost use Rattle.ir.specs.Scratch.{handsAt};
 ghost use Rattle.ir.specs.Records.{Fits};
+ghost use Rattle.rules.specs.Concept.{Concept};
 ghost use Rattle.rules.specs.Pool.{Pool};
 ghost use Rattle.rules.specs.State.{Env, classIdOf, isDkey};
 ghost use Rattle.pool.specs.Layout.{field, conceptAt, poolOf};
@@ -42,7 +43,7 @@ pub enum Disjunct {
 fn excluded(x: Literal) -> Disjunct
     requires { ⌜ LiteralFits x ⌝ }
     ensures { λ r. ⌜ ((env : Env) (p : Pool) → r ≡ negatedOr env p (literalIn x)) ⌝ }
-    ensures { λ r. ⌜ DisjunctFits r ⌝ }
+    ensures { λ r. ⌜ ((e : Concept) → DisjunctFits e r) ⌝ }
 {
     match x {
         Literal::Atom(a) => Disjunct::Negated(a),
@@ -93,7 +94,7 @@ fn unqualified(scratch: &[u8], k: Counters, c: u32, v: u32) -> Atom
 fn counted(scratch: &[u8], k: Counters, c: u32, v: u32) -> Disjunct
     requires { ⌜ Reading (now scratch) k × (c < k .concepts) × (11 ≤ field (words (now scratch)) c 0) ⌝ }
     ensures { λ r. ⌜ ((env : Env) → EnvIn env k (words (now (scratch .entry))) → r ≡ disjunctOf env (poolOf (words (now (scratch .entry))) (k .concepts)) v (conceptAt (words (now (scratch .entry))) c)) ⌝ }
-    ensures { λ r. ⌜ DisjunctFits r ⌝ }
+    ensures { λ r. ⌜ DisjunctFits (conceptAt (words (now (scratch .entry))) c) r ⌝ }
 {
     if no_atom(scratch, k, c) {
         return Disjunct::Whole;
@@ -107,7 +108,7 @@ fn counted(scratch: &[u8], k: Counters, c: u32, v: u32) -> Disjunct
 pub fn disjunct_of(scratch: &[u8], k: Counters, c: u32, v: u32) -> Disjunct
     requires { ⌜ Reading (now scratch) k × (c < k .concepts) ⌝ }
     ensures { λ r. ⌜ ((env : Env) → EnvIn env k (words (now (scratch .entry))) → r ≡ disjunctOf env (poolOf (words (now (scratch .entry))) (k .concepts)) v (conceptAt (words (now (scratch .entry))) c)) ⌝ }
-    ensures { λ r. ⌜ DisjunctFits r ⌝ }
+    ensures { λ r. ⌜ DisjunctFits (conceptAt (words (now (scratch .entry))) c) r ⌝ }
 {
     match concept::kind(scratch, c) {
         3 => Disjunct::Ready(Atom::Class(concept::number(scratch, c), v)),

@@ -70,5 +70,7 @@ pub fn canon(scratch: &[u8], k: Counters, c: u32) -> Role
     ensures { λ r. ⌜ ((env : Env) → EnvIn env k (words (now (scratch .entry))) → r ≡ canon env (roleOf (field (words (now (scratch .entry))) c 1))) ⌝ }
     ensures { λ r. ⌜ roleId r < 2 ^ 31 ⌝ }
 {
-    Role::of_code(inverse::canon_role(scratch, record::role(scratch, c)))
+    let code = record::role(scratch, c);
+    let canon = inverse::canon_role(scratch, code);
+    Role::of_code(canon)
 }

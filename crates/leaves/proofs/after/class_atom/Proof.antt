@@ -1,6 +1,7 @@
 use borrow.Author.Needs.{needs}
 use Rattle.ir.specs.declared.atom.Atom.the-variants as AtomIs
-use mathlib.Core.Path.{_≡_, _∙_, refl, sym, ap, subst}
+use Rattle.ir.specs.declared.atom.Atom.the-variants as AtomIs
+use mathlib.Core.Path.{ap, subst}
 use Prim.{tt}
 use Prim.Native.Nat.{ℕ}
 use Rattle.ir.specs.declared.atom.Atom.the-variants as AtomIs

@@ -1,6 +1,5 @@
 use borrow.Author.Needs.{needs}
-use mathlib.Core.Path.{_≡_, _∙_, refl, sym}
-use native.Mathlib.Omega.{arith}
+use mathlib.Core.Path.{_∙_, refl, sym}
 use Rattle.words.specs.Words.{words}
 use Rattle.pool.specs.Layout.{conceptAt, poolOf}
 use Rattle.leaves.specs.ReadLaws.{kind-of, concept-9, restricts-kind, drops-is}

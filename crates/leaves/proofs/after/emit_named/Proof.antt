@@ -1,13 +1,9 @@
 use borrow.Author.Needs.{needs}
-use mathlib.Core.Path.{_≡_, _∙_, refl, sym, ap, subst}
-use mathlib.Core.List.{[]}
-use Prim.{tt}
-use Prim.Native.Nat.{ℕ}
+use mathlib.Core.Path.{_∙_, sym, subst}
 use native.Mathlib.Omega.{arith}
 use Rattle.words.specs.Words.{words}
 use Rattle.pool.specs.Layout.{conceptAt, poolOf}
-use Rattle.tables.specs.Good.{GoodAnswer, KeptAnswer}
-use Rattle.leaves.specs.Leaves.{dropsHead, fillerAtom}
+use Rattle.tables.specs.Good.{GoodAnswer}
 use Rattle.leaves.specs.Made.{Small}
 use Rattle.leaves.specs.NamedLaws.{named-refused, named-dropped, named-pushed}
 use Rattle.leaves.proofs.after.emit_named.Statement.{statement}

@@ -1,5 +1,5 @@
 use borrow.Author.Needs.{needs}
-use mathlib.Core.Path.{_≡_, _∙_, refl, sym, ap, subst}
+use mathlib.Core.Path.{_∙_, ap, subst}
 use Prim.{tt}
 use Prim.Native.Nat.{ℕ}
 use Rattle.words.specs.Words.{words}

@@ -1,10 +1,9 @@
 use borrow.Author.Needs.{needs}
-use mathlib.Core.Path.{_≡_, _∙_, refl, sym, ap, subst}
+use mathlib.Core.Path.{sym, ap, subst}
 use Prim.{tt}
-use Prim.Native.Nat.{ℕ}
 use Rattle.ir.specs.declared.answer.Answer.{Answer}
-use Rattle.rules.specs.Base.{Res, ok, then}
-use Rattle.tables.specs.Drawn.{Tables, after}
+use Rattle.rules.specs.Base.{ok, then}
+use Rattle.tables.specs.Drawn.{after}
 use Rattle.tables.specs.Good.{GoodAnswer, KeptAnswer}
 use Rattle.leaves.proofs.after.with_value.Statement.{statement}
 use Rattle.leaves.proofs.after.with_value.Tie as tie

@@ -1,18 +1,16 @@
 use borrow.Author.Needs.{needs}
 use Rattle.leaves.specs.declared.disjunct.Disjunct.the-variants as DisjunctIs
 use Rattle.leaves.specs.declared.disjunct.Disjunct.the-variants as DisjunctIs
-use mathlib.Core.Path.{_≡_, _∙_, refl, sym, ap, subst}
-use mathlib.Core.Bool.{Bool, true, false, not, _||_}
+use Rattle.leaves.specs.declared.disjunct.Disjunct.the-variants as DisjunctIs
+use mathlib.Core.Path.{_∙_, refl, sym, ap}
 use Prim.{tt}
 use Prim.Native.Nat.{ℕ}
 use native.Mathlib.Omega.{arith}
 use Rattle.words.specs.Words.{words}
-use Rattle.pool.specs.Layout.{field, conceptAt, poolOf}
-use Rattle.rules.specs.Concept.{Concept}
+use Rattle.pool.specs.Layout.{conceptAt, poolOf}
 use Rattle.rules.specs.Heads.{isTop}
 use Rattle.leaves.specs.declared.disjunct.Disjunct.the-variants as DisjunctIs
-use Rattle.leaves.specs.Leaves.{noAtom, overTop, countedOr}
-use Rattle.leaves.specs.ReadLaws.{kind-of, counted-child, counted-at, counted-is}
+use Rattle.leaves.specs.ReadLaws.{kind-of, counted-child, counted-at, counted-is, counts-restrict}
 use Rattle.leaves.proofs.disjunct.counted.Statement.{statement}
 use Rattle.leaves.proofs.disjunct.counted.Tie as tie
 use Rattle.leaves.proofs.disjunct.counted.Reads as reads
@@ -41,7 +39,7 @@ returns-2 : tie.Need-returns-2
 returns-2 c = let s = c .before .before .before .before .before .before .before in let l = s .pre .2 in let ek = kind-of (s .args .scratch .now) (s .args .k) (s .pre .0) (s .args .c) (s .pre .1) in (λ env E. sym ((counted-is env (poolOf (words (s .args .scratch .now)) (s .args .k .concepts)) (s .args .v) (conceptAt (words (s .args .scratch .now)) (s .args .c)) (omega (arith, l, ek))) ∙ rw (← c .before .before .before .before .before .no-atom .ensures env E, c .before .before .before .before .if1 .left, (ap isTop (counted-at (s .args .scratch .now) (s .args .k) (s .pre .0) (s .args .c) (s .pre .1) l) ∙ ap (λ (x : ℕ). isTop (conceptAt (words (s .args .scratch .now)) x)) (sym (c .before .before .before .child .ensures)) ∙ sym (c .before .before .is-top .ensures) ∙ c .before .if2 .taken)) (ap DisjunctIs.Ready (sym (c .unqualified .ensures .0 env E)))), c .unqualified .ensures .1)
 
 returns-3 : tie.Need-returns-3
-returns-3 c = let s = c .before .before .before .before .before .before in let l = s .pre .2 in let ek = kind-of (s .args .scratch .now) (s .args .k) (s .pre .0) (s .args .c) (s .pre .1) in (λ env E. sym ((counted-is env (poolOf (words (s .args .scratch .now)) (s .args .k .concepts)) (s .args .v) (conceptAt (words (s .args .scratch .now)) (s .args .c)) (omega (arith, l, ek))) ∙ rw (← c .before .before .before .before .no-atom .ensures env E, c .before .before .before .if1 .left, (ap isTop (counted-at (s .args .scratch .now) (s .args .k) (s .pre .0) (s .args .c) (s .pre .1) l) ∙ ap (λ (x : ℕ). isTop (conceptAt (words (s .args .scratch .now)) x)) (sym (c .before .before .child .ensures)) ∙ sym (c .before .is-top .ensures) ∙ c .if2 .left)) refl), tt)
+returns-3 c = let s = c .before .before .before .before .before .before in let l = s .pre .2 in let ek = kind-of (s .args .scratch .now) (s .args .k) (s .pre .0) (s .args .c) (s .pre .1) in (λ env E. sym ((counted-is env (poolOf (words (s .args .scratch .now)) (s .args .k .concepts)) (s .args .v) (conceptAt (words (s .args .scratch .now)) (s .args .c)) (omega (arith, l, ek))) ∙ rw (← c .before .before .before .before .no-atom .ensures env E, c .before .before .before .if1 .left, (ap isTop (counted-at (s .args .scratch .now) (s .args .k) (s .pre .0) (s .args .c) (s .pre .1) l) ∙ ap (λ (x : ℕ). isTop (conceptAt (words (s .args .scratch .now)) x)) (sym (c .before .before .child .ensures)) ∙ sym (c .before .is-top .ensures) ∙ c .if2 .left)) refl), counts-restrict (conceptAt (words (s .args .scratch .now)) (s .args .c)) (omega (arith, l, ek)))
 
 pub counted-spec : {M : Type 1} → statement M
 counted-spec =

@@ -1,16 +1,9 @@
 use borrow.Author.Needs.{needs}
-use Rattle.ir.specs.declared.atom.Atom.the-variants as AtomIs
-use Rattle.ir.specs.declared.atom.Atom.the-variants as AtomIs
-use mathlib.Core.Path.{_≡_, _∙_, refl, sym, ap, subst}
+use mathlib.Core.Path.{_∙_, refl, sym, ap}
 use Prim.{tt}
-use Prim.Native.Nat.{ℕ, _<_}
+use Prim.Native.Nat.{ℕ}
 use native.Mathlib.Omega.{arith}
-use mathlib.Core.Option.{Option}
 use Rattle.words.specs.Words.{words}
-use Rattle.ir.specs.declared.role.Role.{Role}
-use Rattle.ir.specs.declared.atom.Atom.{Atom}
-use Rattle.ir.specs.declared.atom.Atom.the-variants as AtomIs
-use Rattle.rules.specs.Concept.{Concept}
 use Rattle.pool.specs.Layout.{field, conceptAt, poolOf}
 use Rattle.pool.specs.HeldLaws.{pool-at}
 use Rattle.leaves.specs.Leaves.{negatedOr, negatedAtom}
@@ -61,10 +54,10 @@ returns-2 c = let s = c .before .before .before .before .before in let e = sym (
 
 returns-3 : tie.Need-returns-3
 returns-3 c = let s = c .before .before .before .before .before .before in let e = sym (c .before .before .before .before .kind .ensures) ∙ c .before .before .before .match .keys3 in let q = c .before .negated in let f = c .before .before .child .ensures in let b = child-6 (s .args .scratch .now) (s .args .k) (s .pre .0) (s .args .c) (s .pre .1) e in
-    (λ env E. c .excluded .ensures .0 env (poolOf (words (s .args .scratch .now)) (s .args .k .concepts)) ∙ ap (negatedOr env (poolOf (words (s .args .scratch .now)) (s .args .k .concepts))) (q .ensures .0 env E ∙ ap (λ (x : ℕ). negatedAtom env (poolOf (words (s .args .scratch .now)) (s .args .k .concepts)) 0 (conceptAt (words (s .args .scratch .now)) x)) f ∙ ap (negatedAtom env (poolOf (words (s .args .scratch .now)) (s .args .k .concepts)) 0) (sym (pool-at (words (s .args .scratch .now)) (s .args .k .concepts) (field (words (s .args .scratch .now)) (s .args .c) 3) (omega (arith, b, s .pre .1))))) ∙ rw (concept-6 (words (s .args .scratch .now)) (s .args .c) e) refl, c .excluded .ensures .1)
+    (λ env E. c .excluded .ensures .0 env (poolOf (words (s .args .scratch .now)) (s .args .k .concepts)) ∙ ap (negatedOr env (poolOf (words (s .args .scratch .now)) (s .args .k .concepts))) (q .ensures .0 env E ∙ ap (λ (x : ℕ). negatedAtom env (poolOf (words (s .args .scratch .now)) (s .args .k .concepts)) 0 (conceptAt (words (s .args .scratch .now)) x)) f ∙ ap (negatedAtom env (poolOf (words (s .args .scratch .now)) (s .args .k .concepts)) 0) (sym (pool-at (words (s .args .scratch .now)) (s .args .k .concepts) (field (words (s .args .scratch .now)) (s .args .c) 3) (omega (arith, b, s .pre .1))))) ∙ rw (concept-6 (words (s .args .scratch .now)) (s .args .c) e) refl, c .excluded .ensures .1 (conceptAt (words (s .args .scratch .now)) (s .args .c)))
 
 returns-4 : tie.Need-returns-4
-returns-4 c = let s = c .before .before .before in let e = sym (c .before .kind .ensures) ∙ c .match .keys4 in (λ env E. rw (concept-9 (words (s .args .scratch .now)) (s .args .c) e) refl, tt)
+returns-4 c = let s = c .before .before .before in let e = sym (c .before .kind .ensures) ∙ c .match .keys4 in (λ env E. rw (concept-9 (words (s .args .scratch .now)) (s .args .c) e) refl, rw (concept-9 (words (s .args .scratch .now)) (s .args .c) e) tt)
 
 returns-5 : tie.Need-returns-5
 returns-5 c = search needs

@@ -1,5 +1,5 @@
 use borrow.Author.Needs.{needs}
-use mathlib.Core.Path.{refl, sym, ap, subst}
+use mathlib.Core.Path.{sym, ap, subst}
 use Prim.{tt}
 use Rattle.leaves.specs.declared.leaf.Literal.{Literal}
 use Rattle.leaves.specs.Leaves.{negatedOr}
@@ -16,10 +16,10 @@ enum-told : tie.Need-enum-told
 enum-told c = search needs
 
 returns : tie.Need-returns
-returns c = let s = c .before .before .before in let g = c .before .x .given in (λ env p. ap (λ (l : Literal). negatedOr env p (literalIn l)) (sym (g .1)), subst LiteralFits (g .1) (s .pre))
+returns c = let s = c .before .before .before in let g = c .before .x .given in (λ env p. ap (λ (l : Literal). negatedOr env p (literalIn l)) (sym (g .1)), λ e. subst LiteralFits (g .1) (s .pre))
 
 returns-2 : tie.Need-returns-2
-returns-2 c = let g = c .enum-told .given in (λ env p. ap (λ (l : Literal). negatedOr env p (literalIn l)) (sym (g .1)), tt)
+returns-2 c = let g = c .enum-told .given in (λ env p. ap (λ (l : Literal). negatedOr env p (literalIn l)) (sym (g .1)), λ e. tt)
 
 pub excluded-spec : {M : Type 1} → statement M
 excluded-spec = tie.close (tie.spec enum-known-x enum-told returns returns-2)

@@ -1,12 +1,8 @@
 use borrow.Author.Needs.{needs}
-use mathlib.Core.Path.{_≡_, _∙_, refl, sym, ap, subst}
-use mathlib.Core.Bool.{Bool, true, false, not, _||_}
-use Prim.{tt}
-use Prim.Native.Nat.{ℕ}
+use mathlib.Core.Path.{_≡_, _∙_, refl, sym}
 use native.Mathlib.Omega.{arith}
 use Rattle.words.specs.Words.{words}
-use Rattle.pool.specs.Layout.{field, conceptAt, poolOf}
-use Rattle.rules.specs.Concept.{Concept}
+use Rattle.pool.specs.Layout.{field, conceptAt}
 use Rattle.leaves.specs.ReadLaws.{kind-of, most-kind, concept-9, concept-11, concept-12, restricts-role, restricts-kind, twelve}
 use Rattle.leaves.proofs.disjunct.filler_atom.Statement.{statement}
 use Rattle.leaves.proofs.disjunct.filler_atom.Tie as tie

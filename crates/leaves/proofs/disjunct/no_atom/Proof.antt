@@ -1,11 +1,10 @@
 use borrow.Author.Needs.{needs}
-use mathlib.Core.Path.{_≡_, _∙_, refl, sym, ap, subst}
-use mathlib.Core.Bool.{Bool, true, false, not, _||_}
-use Prim.{tt}
+use mathlib.Core.Path.{_∙_, refl, sym, ap}
+use mathlib.Core.Bool.{not}
 use Prim.Native.Nat.{ℕ}
 use native.Mathlib.Omega.{arith}
 use Rattle.words.specs.Words.{words}
-use Rattle.pool.specs.Layout.{field, conceptAt, poolOf}
+use Rattle.pool.specs.Layout.{conceptAt, poolOf}
 use Rattle.rules.specs.Concept.{Concept}
 use Rattle.rules.specs.State.{classIdOf, isDkey}
 use Rattle.leaves.specs.Classes.{atLeastNone}

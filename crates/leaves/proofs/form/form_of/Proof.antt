@@ -1,5 +1,5 @@
 use borrow.Author.Needs.{needs}
-use mathlib.Core.Path.{_∙_, sym, refl, ap}
+use mathlib.Core.Path.{_∙_, sym, ap}
 use mathlib.Core.Bool.{true, false}
 use Prim.Native.Nat.{ℕ}
 use Rattle.words.specs.Words.{words}

@@ -1,13 +1,12 @@
 use borrow.Author.Needs.{needs}
-use mathlib.Core.Path.{_≡_, _∙_, refl, sym, ap, subst}
+use mathlib.Core.Path.{_≡_, _∙_, refl, sym}
 use Prim.{tt}
 use native.Mathlib.Omega.{arith}
 use Rattle.words.specs.Words.{words}
 use Rattle.pool.specs.Layout.{conceptAt, poolOf}
-use Rattle.ir.specs.declared.role.Role.{Role}
 use Rattle.ir.specs.Roles.{roleOf}
 use Rattle.pool.specs.Layout.{field, conceptAt, poolOf}
-use Rattle.leaves.specs.ReadLaws.{kind-of, most-kind, above, concept-11, concept-12, has-role, leaf-min, leaf-min-none, eleven}
+use Rattle.leaves.specs.ReadLaws.{kind-of, most-kind, concept-11, concept-12, has-role, leaf-min, leaf-min-none, eleven}
 use Rattle.leaves.proofs.leaf.counted.Statement.{statement}
 use Rattle.leaves.proofs.leaf.counted.Tie as tie
 use Rattle.leaves.proofs.leaf.counted.Reads as reads

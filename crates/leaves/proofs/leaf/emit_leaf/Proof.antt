@@ -1,14 +1,12 @@
 use borrow.Author.Needs.{needs}
 use Rattle.leaves.specs.declared.leaf.Leaf.the-variants as LeafIs
-use mathlib.Core.Path.{_≡_, _∙_, refl, sym, ap, subst}
-use mathlib.Core.List.{[]}
-use Prim.{tt}
-use Prim.Native.Nat.{ℕ, _+_, _*_, _≤_}
+use Rattle.leaves.specs.declared.leaf.Leaf.the-variants as LeafIs
+use mathlib.Core.Path.{subst}
+use Prim.Native.Nat.{_+_, _*_, _≤_}
 use native.Mathlib.Omega.{arith}
 use lib.ListN.{length}
 use Rattle.words.specs.Words.{words}
 use Rattle.words.specs.Laws.{length-words}
-use Rattle.hands.specs.Hands.{four}
 use Rattle.leaves.specs.declared.leaf.Leaf.the-variants as LeafIs
 use Rattle.leaves.specs.Reading.{LeafFits}
 use Rattle.leaves.specs.StepLaws.{leaf-is, leaf-nothing, leaf-full, leaf-body, leaf-deferred}

@@ -1,5 +1,5 @@
 use borrow.Author.Needs.{needs}
-use mathlib.Core.Path.{refl, sym, ap, subst}
+use mathlib.Core.Path.{sym, ap, subst}
 use Prim.{tt}
 use Rattle.leaves.specs.declared.leaf.Literal.{Literal}
 use Rattle.leaves.specs.Leaves.{bodyOr}

@@ -1,21 +1,11 @@
 use borrow.Author.Needs.{needs}
-use Rattle.ir.specs.declared.atom.Atom.the-variants as AtomIs
-use Rattle.leaves.specs.declared.leaf.Leaf.the-variants as LeafIs
-use Rattle.ir.specs.declared.atom.Atom.the-variants as AtomIs
-use Rattle.leaves.specs.declared.leaf.Leaf.the-variants as LeafIs
-use mathlib.Core.Path.{_≡_, _∙_, refl, sym, ap, subst}
+use mathlib.Core.Path.{_∙_, refl, sym, ap}
 use Prim.{tt}
-use Prim.Native.Nat.{ℕ, _<_}
+use Prim.Native.Nat.{ℕ}
 use native.Mathlib.Omega.{arith}
-use mathlib.Core.Option.{Option}
 use Rattle.words.specs.Words.{words}
-use Rattle.ir.specs.declared.role.Role.{Role}
-use Rattle.ir.specs.declared.atom.Atom.{Atom}
-use Rattle.ir.specs.declared.atom.Atom.the-variants as AtomIs
-use Rattle.rules.specs.Concept.{Concept}
 use Rattle.pool.specs.Layout.{field, conceptAt, poolOf}
 use Rattle.pool.specs.HeldLaws.{pool-at}
-use Rattle.leaves.specs.declared.leaf.Leaf.the-variants as LeafIs
 use Rattle.leaves.specs.Leaves.{bodyOr, negatedAtom}
 use Rattle.leaves.specs.ReadLaws.{kind-of, concept-2, concept-3, concept-4, concept-5, concept-6, self-role, class-small, nominal-small, child-6, leaf-rest}
 use Rattle.leaves.proofs.leaf.leaf_of.Statement.{statement}

@@ -1,6 +1,7 @@
 use borrow.Author.Needs.{needs}
 use Rattle.ir.specs.declared.atom.Atom.the-variants as AtomIs
 use Rattle.ir.specs.declared.atom.Atom.the-variants as AtomIs
+use Rattle.ir.specs.declared.atom.Atom.the-variants as AtomIs
 use mathlib.Core.Path.{_∙_, sym, ap, subst}
 use mathlib.Core.Option.{some}
 use Prim.{tt}
@@ -9,7 +10,6 @@ use Rattle.words.specs.Words.{words}
 use Rattle.pool.specs.Layout.{conceptAt, poolOf}
 use Rattle.ir.specs.declared.role.Role.{Role}
 use Rattle.ir.specs.declared.atom.Atom.the-variants as AtomIs
-use Rattle.leaves.specs.declared.read.ClassId.{ClassId}
 use Rattle.leaves.specs.Classes.{classIn, SmallClass}
 use Rattle.leaves.specs.ReadLaws.{kind-of, concept-5, self-role, negated-class, negated-none}
 use Rattle.leaves.proofs.leaf.negated.Statement.{statement}

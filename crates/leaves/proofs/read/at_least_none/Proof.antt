@@ -1,7 +1,7 @@
 use borrow.Author.Needs.{needs}
 use Rattle.words.specs.Words.{words}
 use Rattle.pool.specs.Layout.{conceptAt}
-use mathlib.Core.Path.{_∙_, ap, sym, refl}
+use mathlib.Core.Path.{_∙_, sym, refl}
 use Rattle.leaves.specs.ReadLaws.{none-kind, kind-of, concept-11}
 use Rattle.leaves.proofs.read.at_least_none.Statement.{statement}
 use Rattle.leaves.proofs.read.at_least_none.Tie as tie

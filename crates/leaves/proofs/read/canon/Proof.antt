@@ -1,8 +1,8 @@
 use borrow.Author.Needs.{needs}
-use mathlib.Core.Path.{_∙_, ap, refl}
+use mathlib.Core.Path.{_∙_, ap}
 use Prim.Native.Nat.{ℕ}
 use native.Mathlib.Omega.{arith}
-use Rattle.ir.specs.Roles.{roleOf, roleCode, role-code}
+use Rattle.ir.specs.Roles.{roleOf, role-code}
 use Rattle.rules.specs.State.{canon}
 use Rattle.leaves.specs.ReadLaws.{role-small, role-of-code}
 use Rattle.leaves.proofs.read.canon.Statement.{statement}

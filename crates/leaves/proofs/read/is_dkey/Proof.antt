@@ -1,6 +1,5 @@
 use borrow.Author.Needs.{needs}
 use mathlib.Core.Path.{_∙_, sym}
-use native.Mathlib.Omega.{arith}
 use Rattle.leaves.proofs.read.is_dkey.Statement.{statement}
 use Rattle.leaves.proofs.read.is_dkey.Tie as tie
 use Rattle.leaves.proofs.read.is_dkey.Reads as reads

@@ -1,0 +1,4 @@
+pub mod Emits
+pub mod FrameLaws
+pub mod StepLaws
+pub mod LoopLaws
