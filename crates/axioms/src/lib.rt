@@ -1,9 +1,5 @@
 // clause.rs: clausify_gci, absorb_hard_antecedent and clausify_axiom.
-pub mod absorb;
-pub mod all;
-pub mod axiom;
 pub mod bodies;
 pub mod cover;
-pub mod gci;
-pub mod pairs;
+pub mod member;
 pub mod roles;

@@ -1,0 +1,9 @@
+pub mod RoleAxioms
+pub mod RoleLaws
+pub mod Covers
+pub mod CoverLaws
+pub mod Bodies
+pub mod BodyLaws
+pub mod QuietLaws
+pub mod MemberLaws
+pub mod UnionLaws
