@@ -19,6 +19,7 @@ use Rattle.inverse.specs.Layout.{RolesHeld}
 use Rattle.tables.specs.Drawn.{tables, show, shown, after}
 use Rattle.tables.specs.Good.{Good, GoodAnswer, Alike, KeptAnswer}
 use Rattle.hands.specs.Hands.{Four, four, EnvHeld}
+use Rattle.axioms.specs.RoleAxioms.{handAt}
 use Rattle.leaves.specs.Reading.{Reading}
 use Rattle.antecedents.specs.States.{Fine}
 use Rattle.antecedents.specs.Table.{Numbered}
@@ -56,7 +57,7 @@ givesClass class env b = push env b (Class class 0 ∷ [])
 pub record Bodied (each : Env → List Atom → E (Unit {0})) (k : Counters) (c y count : ℕ) (x x' : Four) (r : Answer) : Type 0 where
   pub equal : (env : Env) (f : ℕ) (t : Out) (l : Alternatives) (s : Out) → EnvHeld env k x → Encodes env (x .scratch) k c y count f t l s → tables k (x .clauses) (x .atoms) (x .deferrals) ≡ show k (env .rooms) s
       → after r (x' .clauses) (x' .atoms) (x' .deferrals) ≡ shown (λ _. 0) k (env .rooms) (forEach (each env) l s)
-  pub frame : take (6 * 12800) (x' .scratch) ≡ take (6 * 12800) (x .scratch)
+  pub frame : take (6 * handAt) (x' .scratch) ≡ take (6 * handAt) (x .scratch)
   pub good : GoodAnswer r
   pub kept : KeptAnswer k r
 
@@ -68,7 +69,7 @@ pub record BodiedSo (each : Env → List Atom → E (Unit {0})) (env : Env) (k m
 
 pub record BodiedAt (each : Env → List Atom → E (Unit {0})) (k : Counters) (c y count : ℕ) (w₀ c₀ a₀ w ci ai : List ℕ) (m : Counters) (i : ℕ) : Type 0 where
   pub within : i ≤ count
-  pub frame : take (6 * 12800) w ≡ take (6 * 12800) w₀
+  pub frame : take (6 * handAt) w ≡ take (6 * handAt) w₀
   pub good : Good m
   pub alike : Alike k m
   pub so : (d : List ℕ) (env : Env) (f : ℕ) (t : Out) (l : Alternatives) (s : Out) → EnvHeld env k (four w₀ c₀ a₀ d) → Encodes env w₀ k c y count f t l s → tables k c₀ a₀ d ≡ show k (env .rooms) s

@@ -1,4 +1,5 @@
 -- The heads that cover a class: all of them, or why there are none.
+use Rattle.axioms.specs.RoleAxioms.{handAt}
 use mathlib.Core.Path.{_≡_}
 use mathlib.Core.Bool.{Bool, true, false}
 use mathlib.Core.List.{List, [], _∷_, _++_}
@@ -65,19 +66,19 @@ Outcome base count w x Long missing = ⊥
 Outcome base count w x Long long = Unit {0}
 
 pub record HeadsDid (k : Counters) (i count : ℕ) (w w' : List ℕ) (r : Heads) : Type 0 where
-  pub equal : (env : Env) (x : Atom) → EnvIn env k w → InHand w 12800 1 (x ∷ []) → Outcome 12800 count w' x r (headsOf env (poolOf w (k .concepts)) (run w i count) [])
-  pub frame : take (6 * (12800 + 1)) w' ≡ take (6 * (12800 + 1)) w
+  pub equal : (env : Env) (x : Atom) → EnvIn env k w → InHand w handAt 1 (x ∷ []) → Outcome handAt count w' x r (headsOf env (poolOf w (k .concepts)) (run w i count) [])
+  pub frame : take (6 * (handAt + 1)) w' ≡ take (6 * (handAt + 1)) w
   pub few : r ≡ All → count ≤ 256
 
 -- j members are done
 pub record HeadsSo (env : Env) (pool : Pool) (i count : ℕ) (w₀ : List ℕ) (x : Atom) (w : List ℕ) (j : ℕ) : Type 0 where
   pub heads : List Atom
   pub long : j ≡ length heads
-  pub hand : InHand w 12800 (1 + j) (x ∷ heads)
+  pub hand : InHand w handAt (1 + j) (x ∷ heads)
   pub rest : headsOf env pool (run w₀ i count) [] ≡ headsOf env pool (run w₀ (i + j) (count - j)) heads
 
 pub record HeadsAt (k : Counters) (i count : ℕ) (w₀ w : List ℕ) (j : ℕ) : Type 0 where
   pub within : j ≤ count
   pub few : j ≤ 256
-  pub frame : take (6 * (12800 + 1)) w ≡ take (6 * (12800 + 1)) w₀
-  pub so : (env : Env) (x : Atom) → EnvIn env k w₀ → InHand w₀ 12800 1 (x ∷ []) → HeadsSo env (poolOf w₀ (k .concepts)) i count w₀ x w j
+  pub frame : take (6 * (handAt + 1)) w ≡ take (6 * (handAt + 1)) w₀
+  pub so : (env : Env) (x : Atom) → EnvIn env k w₀ → InHand w₀ handAt 1 (x ∷ []) → HeadsSo env (poolOf w₀ (k .concepts)) i count w₀ x w j
