@@ -108,7 +108,21 @@ pub enum Pass {
 pub struct Stages {
     /// The pool's records and the axioms after `nnf_axioms`.
     pub normalised: Option<(Vec<ConceptExpr>, Vec<Axiom>)>,
-    pub clauses: BTreeMap<Pass, Vec<DlClause>>,
+    pub passes: BTreeMap<Pass, Passed>,
+}
+
+/// What a run had made at the end of a pass.
+#[derive(Clone, Debug, Default)]
+pub struct Passed {
+    pub clauses: Vec<DlClause>,
+    /// Axiom line and kind.
+    pub deferrals: Vec<(u32, u32)>,
+    /// Fresh class ids taken.
+    pub fresh: usize,
+    pub visits: usize,
+    /// Records of the concept pool, and members of its And and Or records.
+    pub concepts: usize,
+    pub members: usize,
 }
 
 #[derive(Clone, Debug, Default)]
@@ -125,6 +139,7 @@ pub struct Report {
 struct Run {
     settings: Settings,
     line: u32,
+    concepts: usize,
     members: usize,
     atoms: usize,
     report: Report,
@@ -157,6 +172,7 @@ pub fn run<T>(
     RUN.set(Some(Run {
         settings,
         line: 0,
+        concepts: pool.iter_exprs().count(),
         members,
         atoms: 0,
         report: Report::default(),
@@ -232,6 +248,7 @@ pub fn intern(len: usize, expr: &ConceptExpr) {
     event(|run| {
         let (limits, most) = (&run.settings.limits, &mut run.report.most);
         test(11, len + 1, limits.pool, &mut most.pool)?;
+        run.concepts = len + 1;
         run.members += list_members(expr);
         test(11, run.members, limits.members, &mut most.members)
     });
@@ -319,7 +336,16 @@ pub fn passed(pass: Pass, clauses: &[DlClause]) {
     event(|run| {
         run.line = 0;
         if run.settings.keep_stages {
-            run.report.stages.clauses.insert(pass, clauses.to_vec());
+            let report = &mut run.report;
+            let passed = Passed {
+                clauses: clauses.to_vec(),
+                deferrals: report.deferrals.clone(),
+                fresh: report.fresh,
+                visits: report.most.visits,
+                concepts: run.concepts,
+                members: run.members,
+            };
+            report.stages.passes.insert(pass, passed);
         }
         Ok(())
     });

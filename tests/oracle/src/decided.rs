@@ -25,14 +25,21 @@ pub fn table(folder: &Path) -> io::Result<String> {
     let mut decks: Vec<PathBuf> = fs::read_dir(folder)?
         .map(|entry| entry.map(|entry| entry.path()))
         .collect::<io::Result<_>>()?;
-    decks.retain(|path| path.extension().is_some_and(|extension| extension == "deck"));
+    decks.retain(|path| {
+        path.extension()
+            .is_some_and(|extension| extension == "deck")
+    });
     decks.sort();
     let mut text = String::from(HEAD);
     for path in decks {
         let bytes = fs::read(&path)?;
         let limits = limits_beside(&path)?;
         let answer = answer(&bytes, &limits);
-        let name = path.file_stem().unwrap_or_default().to_string_lossy().replace('_', " ");
+        let name = path
+            .file_stem()
+            .unwrap_or_default()
+            .to_string_lossy()
+            .replace('_', " ");
         write_case(&mut text, &name, &bytes, &limits, &answer).expect("a text takes all");
     }
     text.push_str("    []\n");
@@ -43,7 +50,11 @@ pub fn table(folder: &Path) -> io::Result<String> {
 fn limits_beside(deck: &Path) -> io::Result<Limits> {
     let mut limits = Limits::LISTER;
     let file = deck.with_extension("limits");
-    let text = if file.exists() { fs::read_to_string(file)? } else { String::new() };
+    let text = if file.exists() {
+        fs::read_to_string(file)?
+    } else {
+        String::new()
+    };
     for line in text.lines() {
         let (name, number) = line.split_once(' ').ok_or(io::ErrorKind::InvalidData)?;
         *limits.named(name).ok_or(io::ErrorKind::InvalidData)? =
@@ -80,7 +91,13 @@ fn write_case(
     limits: &Limits,
     answer: &Answer,
 ) -> std::fmt::Result {
-    let Limits { visits, clauses, atoms, deferrals: deferred, .. } = limits;
+    let Limits {
+        visits,
+        clauses,
+        atoms,
+        deferrals: deferred,
+        ..
+    } = limits;
     let deferrals: String = match answer {
         Answer::Accepted(listing) => listing
             .deferrals
@@ -104,7 +121,10 @@ fn write_case(
 /// The lines as a list of texts.
 fn lines(bytes: &[u8]) -> String {
     let text = String::from_utf8_lossy(bytes);
-    let mut list: String = text.lines().map(|line| format!("\n        \"{line}\" ∷ ")).collect();
+    let mut list: String = text
+        .lines()
+        .map(|line| format!("\n        \"{line}\" ∷ "))
+        .collect();
     list.push_str("[]");
     list
 }

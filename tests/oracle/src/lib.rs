@@ -1,9 +1,11 @@
 //! What the original clausifier answers to a deck: from its unmodified build and from its instrumented copy, which must
 //! agree.
 
+mod clauses;
 pub mod decided;
 mod forms;
 mod listing;
+pub mod sampling;
 mod stages;
 
 /// The unmodified build.
@@ -20,12 +22,13 @@ mod instrumented {
 
 use std::sync::{Mutex, PoisonError};
 
+pub use clauses::{Clauses, clauses};
 use deck::{Axiom, Concept, Deck, Refusal};
 pub use forms::{Forms, forms};
 pub use limited::limits::{Limits, Pass};
 use limited::limits::{Options, Settings};
 pub use listing::{Answer, Clause, Listing};
-pub use stages::Stages;
+pub use stages::{Passed, Stages};
 
 /// The answer to a deck's bytes: the reading's refusal, or [`answer_deck`].
 #[must_use]

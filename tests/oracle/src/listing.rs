@@ -10,6 +10,16 @@ pub struct Clause {
     pub head: Vec<[u32; 6]>,
 }
 
+impl Clause {
+    /// Lines 41 and 42.
+    pub fn write(&self, number: u32, out: &mut Vec<u8>) {
+        row(out, &[41, number, length(&self.body), length(&self.head)]);
+        for atom in self.body.iter().chain(&self.head) {
+            row(out, &[&[42], &atom[..]].concat());
+        }
+    }
+}
+
 #[derive(Clone, Debug, PartialEq, Eq)]
 pub struct Listing {
     pub clauses: Vec<Clause>,
@@ -28,13 +38,7 @@ impl Listing {
     pub fn write(&self) -> Vec<u8> {
         let mut out = Vec::new();
         for (number, clause) in (0..).zip(&self.clauses) {
-            row(
-                &mut out,
-                &[41, number, length(&clause.body), length(&clause.head)],
-            );
-            for atom in clause.body.iter().chain(&clause.head) {
-                row(&mut out, &[&[42], &atom[..]].concat());
-            }
+            clause.write(number, &mut out);
         }
         row(&mut out, &[&[43], &self.numbers()[..]].concat());
         out

@@ -129,7 +129,7 @@ fn stages_lead_to_the_answer() {
         let Ok(listing) = &run.answer else { continue };
         let [axioms, reflexive, loops, last] =
             [Pass::Axioms, Pass::Reflexive, Pass::Loops, Pass::Last]
-                .map(|pass| &run.stages.clauses[&pass]);
+                .map(|pass| &run.stages.passes[&pass].clauses);
         assert!(reflexive.starts_with(axioms) && loops.starts_with(reflexive));
         assert!(deck.options & 1 != 0 || last == loops);
         assert_eq!(last, &listing.clauses);

@@ -6,8 +6,8 @@ use std::path::Path;
 
 use deck::generate::forms_at_limits;
 use deck::random::Random;
-use normalforms::sample::read;
 use oracle::{Limits, forms};
+use samples::sample::read;
 
 #[test]
 fn the_sample_has_the_originals_answers() {
@@ -16,7 +16,7 @@ fn the_sample_has_the_originals_answers() {
     let mut numbers = HashSet::new();
     for case in &cases {
         let forms = forms(&case.deck, &Limits::LISTER);
-        assert!(case.forms.is_of(&forms.text), "{}", case.name);
+        assert!(case.answer.is_of(&forms.text), "{}", case.name);
         numbers.insert(forms.refusal.map_or(0, |refusal| refusal.number));
     }
     assert!(cases.len() > 300 && numbers.len() == 11);

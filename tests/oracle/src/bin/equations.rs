@@ -57,11 +57,19 @@ fn equation(rng: &mut Random, shape: Option<Shape>, size: usize) -> Option<Equat
     };
     let bytes = deck::write(&sound);
     if rng.chance(1, 6) {
-        let damaged = if rng.chance(1, 8) { over_limit(rng) } else { damage(rng, &bytes) };
+        let damaged = if rng.chance(1, 8) {
+            over_limit(rng)
+        } else {
+            damage(rng, &bytes)
+        };
         return on_bytes(damaged, Limits::LISTER, size);
     }
     let most = run(&sound, &Limits::LARGEST).most;
-    let limits = if rng.chance(1, 2) { Limits::LISTER } else { squeezed(rng, &most) };
+    let limits = if rng.chance(1, 2) {
+        Limits::LISTER
+    } else {
+        squeezed(rng, &most)
+    };
     on_bytes(bytes, limits, size)
 }
 
@@ -90,7 +98,11 @@ fn on_bytes(deck: Vec<u8>, limits: Limits, size: usize) -> Option<Equation> {
         }
     }
     let answer = numbers(&answer_min_zero(&deck, &limits))?;
-    Some(Equation { deck, limits, answer })
+    Some(Equation {
+        deck,
+        limits,
+        answer,
+    })
 }
 
 /// `outcomeNumbers` of the rules.
@@ -131,7 +143,13 @@ use Rattle.rules.specs.Compute.{computed, tables}
 ",
     );
     for (number, equation) in equations.iter().enumerate() {
-        let Limits { visits, clauses, atoms, deferrals, .. } = equation.limits;
+        let Limits {
+            visits,
+            clauses,
+            atoms,
+            deferrals,
+            ..
+        } = equation.limits;
         writeln!(
             text,
             "\nd{number} : outcomeNumbers (runWith {visits} ({}) (tables {clauses} {atoms} {deferrals})) ≡ {}\nunfolding computed\nd{number} = refl",
@@ -144,7 +162,9 @@ use Rattle.rules.specs.Compute.{computed, tables}
 
 /// A deck as a text, or as a list of bytes where a text cannot hold it.
 fn deck_term(deck: &[u8]) -> String {
-    let plain = |&byte: &u8| byte == b'\n' || (b' '..=b'~').contains(&byte) && byte != b'"' && byte != b'\\';
+    let plain = |&byte: &u8| {
+        byte == b'\n' || (b' '..=b'~').contains(&byte) && byte != b'"' && byte != b'\\'
+    };
     if deck.iter().all(plain) {
         let text = String::from_utf8_lossy(deck).replace('\n', "\\n");
         return format!("ascii \"{text}\"");
@@ -153,7 +173,10 @@ fn deck_term(deck: &[u8]) -> String {
 }
 
 fn list(numbers: &[u32]) -> String {
-    let mut text: String = numbers.iter().map(|number| format!("{number} ∷ ")).collect();
+    let mut text: String = numbers
+        .iter()
+        .map(|number| format!("{number} ∷ "))
+        .collect();
     text.push_str("[]");
     text
 }

@@ -5,19 +5,19 @@ use std::fs;
 use std::path::Path;
 use std::process::ExitCode;
 
-use normalforms::{run, sample};
+use samples::{run, sample};
 
 fn main() -> Result<ExitCode, Box<dyn Error>> {
     let arguments: Vec<String> = std::env::args().skip(1).collect();
     let [program, file] = arguments.as_slice() else {
-        return Err("normalforms PROGRAM SAMPLE".into());
+        return Err("samples PROGRAM SAMPLE".into());
     };
     let cases = sample::read(&fs::read_to_string(file)?)?;
     let mut failed = 0;
     for case in &cases {
         let fault = match run(Path::new(program), &case.deck) {
-            Ok(printed) if case.forms.is_of(&printed) => continue,
-            Ok(_) => "another normal form".into(),
+            Ok(printed) if case.answer.is_of(&printed) => continue,
+            Ok(_) => "another answer".into(),
             Err(error) => error.to_string(),
         };
         failed += 1;

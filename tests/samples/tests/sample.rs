@@ -3,13 +3,13 @@
 use deck::damage::{damage, over_limit};
 use deck::generate::any;
 use deck::random::Random;
-use normalforms::sample::{Case, Stored, read, write};
+use samples::sample::{Case, Stored, read, write};
 
-fn case(name: usize, deck: Vec<u8>, forms: &[u8]) -> Case {
+fn case(name: usize, deck: Vec<u8>, answer: &[u8]) -> Case {
     Case {
         name: format!("{name} any"),
         deck,
-        forms: Stored::of(forms),
+        answer: Stored::of(answer),
     }
 }
 
@@ -47,7 +47,7 @@ fn another_answer_is_not_the_stored_one() {
 #[test]
 fn other_lines_are_refused() {
     for text in [
-        "forms\n",
+        "answer\n",
         "deck 1\nx\n",
         "deck 1\n1  2\n",
         "deck 1\n\"\\x1\"\n",

@@ -1,4 +1,4 @@
-//! The program `normalforms` of crates/, and a stored sample of decks with the original's answers.
+//! A program of crates/ that reads a deck, and stored samples of decks with the original's answers.
 
 pub mod sample;
 

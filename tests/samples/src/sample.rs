@@ -1,4 +1,4 @@
-//! The sample's file. A deck begins with a line `deck NAME`, its answer with `forms`. A line of a deck or an answer is its
+//! The sample's file. A deck begins with a line `deck NAME`, its answer with `answer`. A line of a deck or an answer is its
 //! numbers, parted by single spaces, for columns of 11; or else, between quotes and with escapes, its bytes, behind a
 //! count where there are several alike. Of a long answer there is `sha256` and its digest alone.
 
@@ -14,7 +14,7 @@ const LONG: usize = 4_000;
 pub struct Case {
     pub name: String,
     pub deck: Vec<u8>,
-    pub forms: Stored,
+    pub answer: Stored,
 }
 
 /// An answer, or the SHA-256 of one.
@@ -49,8 +49,8 @@ pub fn write(cases: &[Case]) -> String {
     for case in cases {
         writeln!(out, "deck {}", case.name).expect("a text takes all");
         write_lines(&mut out, &case.deck);
-        out.push_str("forms\n");
-        match &case.forms {
+        out.push_str("answer\n");
+        match &case.answer {
             Stored::Text(text) => write_lines(&mut out, text),
             Stored::Digest(digest) => writeln!(out, "sha256 {digest}").expect("a text takes all"),
         }
@@ -102,27 +102,27 @@ fn columns(numbers: &[u32]) -> Vec<u8> {
 /// With the number of the line that is not of this form.
 pub fn read(text: &str) -> Result<Vec<Case>, String> {
     let mut cases: Vec<Case> = Vec::new();
-    let mut in_forms = false;
+    let mut in_answer = false;
     for (number, line) in (1..).zip(text.lines()) {
         let place = || format!("line {number}: {line}");
         if let Some(name) = line.strip_prefix("deck ") {
-            in_forms = false;
+            in_answer = false;
             cases.push(Case {
                 name: name.to_owned(),
                 deck: Vec::new(),
-                forms: Stored::Text(Vec::new()),
+                answer: Stored::Text(Vec::new()),
             });
             continue;
         }
         let case = cases.last_mut().ok_or_else(place)?;
-        if line == "forms" {
-            in_forms = true;
+        if line == "answer" {
+            in_answer = true;
         } else if let Some(digest) = line.strip_prefix("sha256 ") {
-            case.forms = Stored::Digest(digest.to_owned());
+            case.answer = Stored::Digest(digest.to_owned());
         } else {
             let bytes = line_bytes(line).ok_or_else(place)?;
-            match &mut case.forms {
-                Stored::Text(text) if in_forms => text.extend(bytes),
+            match &mut case.answer {
+                Stored::Text(text) if in_answer => text.extend(bytes),
                 Stored::Text(_) => case.deck.extend(bytes),
                 Stored::Digest(_) => return Err(place()),
             }
