@@ -1,7 +1,7 @@
 -- What is emitted for each alternative of an antecedent.
 use mathlib.Core.Path.{_≡_}
 use mathlib.Core.List.{List, [], _∷_}
-use mathlib.Core.Option.{some}
+use mathlib.Core.Option.{Option, some}
 use Prim.{Unit}
 use Prim.Native.Nat.{ℕ, _*_, _<_, _≤_}
 use lib.ListN.{length, take, drop}
@@ -10,15 +10,17 @@ use Rattle.ir.specs.declared.counters.Counters.{Counters}
 use Rattle.ir.specs.declared.answer.Answer.{Answer}
 use Rattle.ir.specs.declared.atom.Atom.{Atom}
 use Rattle.ir.specs.declared.atom.Atom.the-variants.{Class}
-use Rattle.rules.specs.Base.{ok, forEach}
+use Rattle.rules.specs.Base.{ok, forEach, _>>=_, _>>_}
 use Rattle.rules.specs.Inverse.{InverseCanon}
-use Rattle.rules.specs.State.{Env, Out, E, push}
-use Rattle.rules.specs.Antecedents.{Alternatives, encodeBy}
+use Rattle.rules.specs.Pool.{Pool}
+use Rattle.rules.specs.State.{Env, Out, E, restartVars, push}
+use Rattle.rules.specs.Antecedents.{Alternatives, encodeBy, encodeAntecedent}
+use Rattle.rules.specs.Axioms.{memberWith}
 use Rattle.pool.specs.Layout.{poolOf}
 use Rattle.inverse.specs.Layout.{RolesHeld}
 use Rattle.tables.specs.Drawn.{tables, show, shown, after}
 use Rattle.tables.specs.Good.{Good, GoodAnswer, Alike, KeptAnswer}
-use Rattle.hands.specs.Hands.{Four, four, EnvHeld}
+use Rattle.hands.specs.Hands.{Four, EnvHeld}
 use Rattle.axioms.specs.RoleAxioms.{handAt}
 use Rattle.leaves.specs.Reading.{Reading}
 use Rattle.antecedents.specs.States.{Fine}
@@ -30,6 +32,14 @@ pub record Encoding (s : List ℕ) (k : Counters) : Type 0 where
   pub rows : Numbered (words s) (poolOf (words s) (k .concepts)) (k .concepts)
   pub canon : InverseCanon
   pub roles : RolesHeld (words s) canon
+
+-- concept c is encoded, its variables beginning anew, and `rest` is done with what that gives
+abbrev pub encodedThen : Env → Pool → ℕ → (Option Alternatives → E (Unit {0})) → E (Unit {0})
+encodedThen env pool c rest = restartVars >> (encodeAntecedent env pool c 0 >>= (λ o. rest o))
+
+-- unionMember, over the pool
+abbrev pub memberRule : Env → Pool → ℕ → ℕ → E (Unit {0})
+memberRule env pool class m = encodedThen env pool m (memberWith env class)
 
 -- concept c has the alternatives l, whose variables begin with y
 pub record Encodes (env : Env) (w : List ℕ) (k : Counters) (c y count f : ℕ) (t : Out) (l : Alternatives) (s : Out) : Type 0 where
@@ -61,16 +71,16 @@ pub record Bodied (each : Env → List Atom → E (Unit {0})) (k : Counters) (c 
   pub good : GoodAnswer r
   pub kept : KeptAnswer k r
 
--- i alternatives are done
-pub record BodiedSo (each : Env → List Atom → E (Unit {0})) (env : Env) (k m : Counters) (c a d : List ℕ) (l : Alternatives) (s : Out) (i : ℕ) : Type 0 where
+-- i alternatives are done, and the tables show the state that the rule is in
+pub record BodiedSo (each : Env → List Atom → E (Unit {0})) (env : Env) (k m : Counters) (x : Four) (l : Alternatives) (s : Out) (i : ℕ) : Type 0 where
   pub state : Out
-  pub drawn : tables m c a d ≡ show k (env .rooms) state
+  pub drawn : tables m (x .clauses) (x .atoms) (x .deferrals) ≡ show k (env .rooms) state
   pub rest : forEach (each env) l s ≡ forEach (each env) (drop i l) state
 
-pub record BodiedAt (each : Env → List Atom → E (Unit {0})) (k : Counters) (c y count : ℕ) (w₀ c₀ a₀ w ci ai : List ℕ) (m : Counters) (i : ℕ) : Type 0 where
+pub record BodiedAt (each : Env → List Atom → E (Unit {0})) (k : Counters) (c y count : ℕ) (x₀ x : Four) (m : Counters) (i : ℕ) : Type 0 where
   pub within : i ≤ count
-  pub frame : take (6 * handAt) w ≡ take (6 * handAt) w₀
+  pub frame : take (6 * handAt) (x .scratch) ≡ take (6 * handAt) (x₀ .scratch)
   pub good : Good m
   pub alike : Alike k m
-  pub so : (d : List ℕ) (env : Env) (f : ℕ) (t : Out) (l : Alternatives) (s : Out) → EnvHeld env k (four w₀ c₀ a₀ d) → Encodes env w₀ k c y count f t l s → tables k c₀ a₀ d ≡ show k (env .rooms) s
-      → BodiedSo each env k m ci ai d l s i
+  pub so : (env : Env) (f : ℕ) (t : Out) (l : Alternatives) (s : Out) → EnvHeld env k x₀ → Encodes env (x₀ .scratch) k c y count f t l s → tables k (x₀ .clauses) (x₀ .atoms) (x₀ .deferrals) ≡ show k (env .rooms) s
+      → BodiedSo each env k m x l s i

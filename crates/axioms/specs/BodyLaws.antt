@@ -1,4 +1,4 @@
--- One alternative after the other. Assumes nothing.
+-- One alternative after the other, for any rule of a body. Assumes nothing.
 use mathlib.Core.Path.{_≡_, refl, sym, ap, subst, _∙_}
 use mathlib.Core.List.{List, [], _∷_, _++_}
 use Prim.{Unit, tt}
@@ -7,46 +7,38 @@ use native.Mathlib.Omega.{arith}
 use lib.ListN.{length, getD, take, drop, length-append, drop-of-length-le}
 use lib.Seq.{sets-eq, take-take, take-at, length-take-le, drop-cons}
 use Rattle.words.specs.Words.{words}
+use Rattle.words.specs.Laws.{length-words}
 use Rattle.ir.specs.Scratch.{handsAt}
 use Rattle.ir.specs.declared.counters.Counters.{Counters}
 use Rattle.ir.specs.declared.answer.Answer.{Answer}
 use Rattle.ir.specs.declared.answer.Answer.the-variants.{Done, Refused}
 use Rattle.ir.specs.declared.atom.Atom.{Atom}
-use Rattle.ir.specs.declared.atom.Atom.the-variants.{Class}
 use Rattle.rules.specs.Base.{Res, ok, refused, then, forEach}
 use Rattle.rules.specs.Pool.{Pool}
-use Rattle.rules.specs.State.{Env, Out, E, push}
+use Rattle.rules.specs.State.{Env, Out, E}
 use Rattle.rules.specs.Run.{flat}
 use Rattle.rules.specs.DecodeLaws.{flat-long}
 use Rattle.rules.specs.Antecedents.{Alternatives, encodeBy}
 use Rattle.pool.specs.Layout.{poolOf}
-use Rattle.pool.specs.Held.{Held}
+use Rattle.pool.specs.Held.{Held, Ready}
 use Rattle.tables.specs.Drawn.{Tables, tables, shown, after}
 use Rattle.tables.specs.Good.{Good, GoodAnswer, Alike, KeptAnswer}
-use Rattle.hands.specs.Hands.{InHand, four, EnvHeld, Did}
-use Rattle.leaves.specs.Reading.{Reading}
+use Rattle.hands.specs.Hands.{InHand, Four, four, EnvHeld, Did}
 use Rattle.leaves.specs.StepLaws.{alike-same, alike-then, shown-alike, env-alike, env-kept, lent-kept, drawn-alike, after-no}
+use Rattle.antecedents.specs.Table.{Numbered}
 use Rattle.antecedents.specs.Writes.{Named, Stored, Written}
 use Rattle.antecedents.specs.WriteLaws.{hands-pool, hands-roles, hands-numbered}
-use Rattle.axioms.specs.CoverLaws.{reading-kept}
-use Rattle.axioms.specs.Bodies.{Encoding, Encodes, Sourced, givesClass, Bodied, BodiedSo, BodiedAt}
+use Rattle.heads.specs.FrameLaws.{reading-alike, reading-kept, frame-less}
+use Rattle.heads.specs.LoopLaws.{SameSizes}
+use Rattle.axioms.specs.Bodies.{Encoding, Encodes, Sourced, Bodied, BodiedSo, BodiedAt}
 
 -- ---- scratch and counters that a call left alone
-reading-alike : (s : List ℕ) (k m : Counters) → Alike k m → Reading s k → Reading s m
-reading-alike s k m A R = record {
-  room = R .room;
-  bounds = R .bounds;
-  ready = record { room = R .ready .room; held = rw (A .concepts, A .members) (R .ready .held) };
-  wf = rw (A .concepts) (R .wf);
-  classes = R .classes;
-  individuals = R .individuals;
-  roles = R .roles;
-  nominals = rw (A .nominals) (R .nominals);
-}
+pub pool-still : (w w' : List ℕ) (k m : Counters) → take handsAt w' ≡ take handsAt w → Alike k m → Held w (k .concepts) (k .members) → poolOf w' (m .concepts) ≡ poolOf w (k .concepts)
+pool-still w w' k m e A H = ap (poolOf w') (A .concepts) ∙ hands-pool w w' e (k .concepts) (k .members) H
 
 pub encoding-kept : (s s' : List ℕ) (k m : Counters) → length s' ≡ length s → take handsAt (words s') ≡ take handsAt (words s) → Alike k m → Encoding s k → Encoding s' m
 encoding-kept s s' k m l e A R = record {
-  reading = reading-alike s' k m A (reading-kept s s' k l e (R .reading));
+  reading = reading-alike s' k m A (reading-kept s s' k 12800 (R .reading) (omega arith) e l);
   rows = rw (A .concepts) (hands-numbered (words s) (words s') e (k .concepts) (k .members) (k .concepts) (R .reading .ready .held) (omega arith) (R .rows));
   canon = R .canon;
   roles = hands-roles (words s) (words s') e (R .canon) (R .roles);
@@ -55,7 +47,18 @@ encoding-kept s s' k m l e A R = record {
 pub encoding-named : (s : List ℕ) (k : Counters) → Encoding s k → Named (poolOf (words s) (k .concepts)) (k .«nominal_base»)
 encoding-named s k R = let r = R .reading in record { bounds = r .bounds; wf = r .wf; classes = r .classes; individuals = r .individuals; roles = r .roles; first = r .nominals }
 
-encodes-kept : (env : Env) (w w' : List ℕ) (k m : Counters) (c y count f : ℕ) (t : Out) (l : Alternatives) (s : Out) → take handsAt w' ≡ take handsAt w → Alike k m → Held w (k .concepts) (k .members)
+-- what write_alternative asks
+pub write-ready : (s s' : List ℕ) (k m : Counters) (base c : ℕ) → Encoding s k → c < k .concepts → handsAt ≤ 6 * base → 24 * (base + 256) ≤ length s → length s' ≡ length s → take handsAt (words s') ≡ take handsAt (words s) → Alike k m
+    → Ready s' m × Numbered (words s') (poolOf (words s') (m .concepts)) (m .concepts) × Named (poolOf (words s') (m .concepts)) (m .«nominal_base») × (c < m .concepts) × (handsAt ≤ 6 * base) × (24 * (base + 256) ≤ length s')
+write-ready s s' k m base c R lt ab room l e A =
+    let R' = encoding-kept s s' k m l e A R in
+    let q = A .concepts in
+    (R' .reading .ready, R' .rows, encoding-named s' m R', omega (arith, q, lt), ab, omega (arith, room, l))
+
+pub hand-fits : (s s' : List ℕ) → 24 * (12800 + 256) ≤ length s → length s' ≡ length s → 6 * (12800 + 256) ≤ length (words s')
+hand-fits s s' room l = omega (arith, length-words s', room, l)
+
+pub encodes-kept : (env : Env) (w w' : List ℕ) (k m : Counters) (c y count f : ℕ) (t : Out) (l : Alternatives) (s : Out) → take handsAt w' ≡ take handsAt w → Alike k m → Held w (k .concepts) (k .members)
     → Encodes env w k c y count f t l s → Encodes env w' m c y count f t l s
 encodes-kept env w w' k m c y count f t l s e A H N = record {
   roles = hands-roles w w' e (env .inverseCanon) (N .roles);
@@ -63,7 +66,7 @@ encodes-kept env w w' k m c y count f t l s e A H N = record {
   above = N .above;
   begins = N .begins;
   fine = N .fine;
-  encoded = ap (λ (n : ℕ). encodeBy env (poolOf w' n) f c 0 t) (A .concepts) ∙ ap (λ (p : Pool). encodeBy env p f c 0 t) (hands-pool w w' e (k .concepts) (k .members) H) ∙ N .encoded;
+  encoded = ap (λ (p : Pool). encodeBy env p f c 0 t) (pool-still w w' k m e A H) ∙ N .encoded;
   long = N .long;
 }
 
@@ -81,89 +84,95 @@ hand-stored w w' base r n b S en fit =
     record { long = q; are = t1 ∙ ap (λ (u : List ℕ). u ++ flat b) (sym t2) }
 
 -- ---- the loop
-module _ (class : ℕ) (k : Counters) (c y count : ℕ) (w₀ c₀ a₀ : List ℕ) where
-  pub bodies-start : Good k → BodiedAt (givesClass class) k c y count w₀ c₀ a₀ w₀ c₀ a₀ k 0
+module _ (each : Env → List Atom → E (Unit {0})) (k : Counters) (c y count : ℕ) (x₀ : Four) where
+  pub bodies-start : Good k → BodiedAt each k c y count x₀ x₀ k 0
   bodies-start g = record {
     within = omega arith;
     frame = refl;
     good = g;
     alike = alike-same k;
-    so = λ d env f t l s E N q. record { state = s; drawn = q; rest = refl };
+    so = λ env f t l s E N q. record { state = s; drawn = q; rest = refl };
   }
 
-  pub bodies-end : (w ci ai : List ℕ) (m : Counters) (i : ℕ) → BodiedAt (givesClass class) k c y count w₀ c₀ a₀ w ci ai m i → count ≤ i → (d : List ℕ) → Bodied (givesClass class) k c y count (four w₀ c₀ a₀ d) (four w ci ai d) (Done m 0)
-  unfolding forEach
-  bodies-end w ci ai m i A h d = record {
-    equal = λ env f t l s E N q.
-        let S = A .so d env f t l s E N q in
-        let z : drop i l ≡ [] = drop-of-length-le l {i = i} (omega (arith, h, N .long)) in
-        let e : forEach (givesClass class env) l s ≡ ok tt (S .state) = S .rest ∙ ap (λ (x : Alternatives). forEach (givesClass class env) x (S .state)) z in
-        ap (ok 0) (S .drawn) ∙ ap (shown (λ _. 0) k (env .rooms)) (sym e);
-    frame = A .frame;
-    good = A .good;
-    kept = A .alike;
-  }
+  module _ (x : Four) (m : Counters) (i : ℕ) (A : BodiedAt each k c y count x₀ x m i) where
+    pub bodies-end : count ≤ i → Bodied each k c y count x₀ x (Done m 0)
+    unfolding forEach
+    bodies-end h = record {
+      equal = λ env f t l s E N q.
+          let S = A .so env f t l s E N q in
+          let z : drop i l ≡ [] = drop-of-length-le l {i = i} (omega (arith, h, N .long)) in
+          let e : forEach (each env) l s ≡ ok tt (S .state) = S .rest ∙ ap (λ (o : Alternatives). forEach (each env) o (S .state)) z in
+          ap (ok 0) (S .drawn) ∙ ap (shown (λ _. 0) k (env .rooms)) (sym e);
+      frame = A .frame;
+      good = A .good;
+      kept = A .alike;
+    }
 
-  module _ (w ci ai : List ℕ) (m : Counters) (i : ℕ) (A : BodiedAt (givesClass class) k c y count w₀ c₀ a₀ w ci ai m i) (lt : i < count) (H : Held w₀ (k .concepts) (k .members)) (fit : 6 * (12800 + 256) ≤ length w)
-      (w1 : List ℕ) (r : ℕ) (W : Written w m 12800 c 0 y i w1 r) where
-    stored : (env : Env) (f : ℕ) (t : Out) (l : Alternatives) (s : Out) → Encodes env w₀ k c y count f t l s → Stored w 12800 (getD l i []) w1 r
-    stored env f t l s N = let M = encodes-kept env w₀ w k m c y count f t l s (A .frame) (A .alike) H N in W .rule env f t l s (M .roles) (M .first) (M .above) (M .begins) (M .fine) (M .encoded) (omega (arith, lt, N .long))
+    module _ (lt : i < count) (H : Held (x₀ .scratch) (k .concepts) (k .members)) (w1 : List ℕ) (r : ℕ) (W : Written (x .scratch) m 12800 c 0 y i w1 r) where
+      stored : (env : Env) (f : ℕ) (t : Out) (l : Alternatives) (s : Out) → Encodes env (x₀ .scratch) k c y count f t l s → Stored (x .scratch) 12800 (getD l i []) w1 r
+      stored env f t l s N =
+          let M = encodes-kept env (x₀ .scratch) (x .scratch) k m c y count f t l s (A .frame) (A .alike) H N in
+          W .rule env f t l s (M .roles) (M .first) (M .above) (M .begins) (M .fine) (M .encoded) (omega (arith, lt, N .long))
 
-    -- the numbers, for some env
-    pub short-body : Sourced w₀ k c y count → (12800 ≤ r) × (r - 12800 ≤ 256)
-    short-body X = let S = stored (X .env) (X .bound) (X .start) (X .alternatives) (X .end) (X .encodes) in (omega (arith, S .next), omega (arith, S .next, S .short))
+      -- the numbers, for some env
+      pub short-body : Sourced (x₀ .scratch) k c y count → (12800 ≤ r) × (r - 12800 ≤ 256)
+      short-body X = let S = stored (X .env) (X .bound) (X .start) (X .alternatives) (X .end) (X .encodes) in (omega (arith, S .next), omega (arith, S .next, S .short))
 
-    pub written-frame : take (6 * 12800) w1 ≡ take (6 * 12800) w₀
-    written-frame = W .kept .low ∙ A .frame
+      pub written-frame : take (6 * 12800) w1 ≡ take (6 * 12800) (x₀ .scratch)
+      written-frame = W .kept .low ∙ A .frame
 
-    module _ (n : ℕ) (en : n ≡ r - 12800) (w2 c2 a2 : List ℕ) (z : Answer) (lc : length ci ≡ length c₀) (la : length ai ≡ length a₀)
-        (D : (d : List ℕ) → Did (λ _. 0) 0 (λ env f b s. push env b (Class class 0 ∷ []) s) m 12800 n (four w1 ci ai d) (four w2 c2 a2 d) z) where
-      pub pushed-frame : take (6 * 12800) w2 ≡ take (6 * 12800) w₀
-      pushed-frame = sym (take-take (6 * 12800) (6 * (12800 + n)) w2 (omega arith)) ∙ ap (take (6 * 12800)) (D [] .frame) ∙ take-take (6 * 12800) (6 * (12800 + n)) w1 (omega arith) ∙ written-frame
+      -- the rule was run on it
+      module _ (fit : 6 * (12800 + 256) ≤ length (x .scratch)) (T : SameSizes x₀ x) (n : ℕ) (en : n ≡ r - 12800) (x' : Four) (z : Answer)
+          (D : Did (λ _. 0) 0 (λ env f b s. each env b s) m 12800 n (four w1 (x .clauses) (x .atoms) (x .deferrals)) x' z) where
+        run-frame : take (6 * 12800) (x' .scratch) ≡ take (6 * 12800) (x₀ .scratch)
+        run-frame = frame-less (6 * 12800) (6 * (12800 + n)) w1 (x' .scratch) (omega arith) (D .frame) ∙ written-frame
 
-      -- what was pushed, and what is left
-      pushed-so : (d : List ℕ) (env : Env) (f : ℕ) (t : Out) (l : Alternatives) (s : Out) → EnvHeld env k (four w₀ c₀ a₀ d) → Encodes env w₀ k c y count f t l s → (S : BodiedSo (givesClass class) env k m ci ai d l s i)
-          → after z c2 a2 d ≡ shown (λ _. 0) k (env .rooms) (push env (getD l i []) (Class class 0 ∷ []) (S .state))
-      pushed-so d env f t l s E N S =
-          let T = stored env f t l s N in
-          D d .equal env 0 (getD l i []) (S .state) (omega arith)
-          (record { read = env-alike env k m w1 (A .alike) (env-kept env k w₀ w1 12800 (omega arith) written-frame (E .read)); lent = lent-kept (env .rooms) c₀ a₀ d ci ai d lc la refl (E .lent) })
-          (hand-stored w w1 12800 r n (getD l i []) T en (omega (arith, fit, T .short)))
-          (drawn-alike k m (env .rooms) (S .state) ci ai d (A .alike) (S .drawn))
-          ∙ shown-alike (λ _. 0) k m (env .rooms) (push env (getD l i []) (Class class 0 ∷ []) (S .state)) (A .alike)
+        -- what it did, and what is left
+        run-so : (env : Env) (f : ℕ) (t : Out) (l : Alternatives) (s : Out) → EnvHeld env k x₀ → Encodes env (x₀ .scratch) k c y count f t l s → (S : BodiedSo each env k m x l s i)
+            → after z (x' .clauses) (x' .atoms) (x' .deferrals) ≡ shown (λ _. 0) k (env .rooms) (each env (getD l i []) (S .state))
+        run-so env f t l s E N S =
+            let B = stored env f t l s N in
+            D .equal env 0 (getD l i []) (S .state) (omega arith)
+            (record {
+              read = env-alike env k m w1 (A .alike) (env-kept env k (x₀ .scratch) w1 12800 (omega arith) written-frame (E .read));
+              lent = lent-kept (env .rooms) (x₀ .clauses) (x₀ .atoms) (x₀ .deferrals) (x .clauses) (x .atoms) (x .deferrals) (T .clauses) (T .atoms) (T .deferrals) (E .lent);
+            })
+            (hand-stored (x .scratch) w1 12800 r n (getD l i []) B en (omega (arith, fit, B .short)))
+            (drawn-alike k m (env .rooms) (S .state) (x .clauses) (x .atoms) (x .deferrals) (A .alike) (S .drawn))
+            ∙ shown-alike (λ _. 0) k m (env .rooms) (each env (getD l i []) (S .state)) (A .alike)
 
-      left : (env : Env) (l : Alternatives) (u : Out) → count ≡ length l → forEach (givesClass class env) (drop i l) u ≡ then (push env (getD l i []) (Class class 0 ∷ []) u) (λ _. forEach (givesClass class env) (drop (i + 1) l))
-      unfolding forEach
-      left env l u e =
-          let p : i + 1 ≡ suc i = omega arith in
-          let q : drop i l ≡ getD l i [] ∷ drop (suc i) l = drop-cons l i [] (omega arith) in
-          rw (p, q) refl
+        left : (env : Env) (l : Alternatives) (u : Out) → count ≡ length l → forEach (each env) (drop i l) u ≡ then (each env (getD l i []) u) (λ _. forEach (each env) (drop (i + 1) l))
+        unfolding forEach
+        left env l u e =
+            let p : i + 1 ≡ suc i = omega arith in
+            let q : drop i l ≡ getD l i [] ∷ drop (suc i) l = drop-cons l i [] (omega arith) in
+            rw (p, q) refl
 
-      go-on : (d : List ℕ) (env : Env) (l : Alternatives) (s : Out) (X : Res Out (Unit {0})) (v : Counters) (j : ℕ) → _≡_ {A = Res Tables ℕ} (ok j (tables v c2 a2 d)) (shown (λ _. 0) k (env .rooms) X)
-          → forEach (givesClass class env) l s ≡ then X (λ _. forEach (givesClass class env) (drop (i + 1) l)) → BodiedSo (givesClass class) env k v c2 a2 d l s (i + 1)
-      go-on d env l s (ok x u) v j e q = record { state = u; drawn = cc; rest = q }
-      go-on d env l s (refused x) v j e q = absurd (let z : _≡_ {A = ℕ} 0 1 = cc in omega arith)
+        go-on : (env : Env) (l : Alternatives) (s : Out) (X : Res Out (Unit {0})) (v : Counters) (j : ℕ) → _≡_ {A = Res Tables ℕ} (ok j (tables v (x' .clauses) (x' .atoms) (x' .deferrals))) (shown (λ _. 0) k (env .rooms) X)
+            → forEach (each env) l s ≡ then X (λ _. forEach (each env) (drop (i + 1) l)) → BodiedSo each env k v x' l s (i + 1)
+        go-on env l s (ok o u) v j e q = record { state = u; drawn = cc; rest = q }
+        go-on env l s (refused o) v j e q = absurd (let z : _≡_ {A = ℕ} 0 1 = cc in omega arith)
 
-      pub bodies-next : (v : Counters) (j : ℕ) → z ≡ Done v j → BodiedAt (givesClass class) k c y count w₀ c₀ a₀ w2 c2 a2 v (i + 1)
-      bodies-next v j e = record {
-        within = omega arith;
-        frame = pushed-frame;
-        good = subst GoodAnswer e (D [] .good);
-        alike = alike-then k m v (A .alike) (subst (KeptAnswer m) e (D [] .kept));
-        so = λ d env f t l s E N q.
-            let S = A .so d env f t l s E N q in
-            go-on d env l s (push env (getD l i []) (Class class 0 ∷ []) (S .state)) v j
-            (subst (λ (x : Answer). after x c2 a2 d ≡ shown (λ _. 0) k (env .rooms) (push env (getD l i []) (Class class 0 ∷ []) (S .state))) e (pushed-so d env f t l s E N S))
-            (S .rest ∙ left env l (S .state) (N .long));
-      }
+        pub bodies-next : (v : Counters) (j : ℕ) → z ≡ Done v j → BodiedAt each k c y count x₀ x' v (i + 1)
+        bodies-next v j e = record {
+          within = omega arith;
+          frame = run-frame;
+          good = subst GoodAnswer e (D .good);
+          alike = alike-then k m v (A .alike) (subst (KeptAnswer m) e (D .kept));
+          so = λ env f t l s E N q.
+              let S = A .so env f t l s E N q in
+              go-on env l s (each env (getD l i []) (S .state)) v j
+              (subst (λ (a : Answer). after a (x' .clauses) (x' .atoms) (x' .deferrals) ≡ shown (λ _. 0) k (env .rooms) (each env (getD l i []) (S .state))) e (run-so env f t l s E N S))
+              (S .rest ∙ left env l (S .state) (N .long));
+        }
 
-      pub bodies-stop : (x : ℕ) → z ≡ Refused x → (d : List ℕ) → Bodied (givesClass class) k c y count (four w₀ c₀ a₀ d) (four w2 c2 a2 d) (Refused x)
-      bodies-stop x e d = record {
-        equal = λ env f t l s E N q.
-            let S = A .so d env f t l s E N q in
-            after-no (λ (_ : Unit {0}). 0) (λ (_ : Unit {0}). 0) k (env .rooms) c2 a2 d z x (push env (getD l i []) (Class class 0 ∷ []) (S .state)) (λ _. forEach (givesClass class env) (drop (i + 1) l)) e (pushed-so d env f t l s E N S)
-            ∙ ap (shown (λ _. 0) k (env .rooms)) (sym (S .rest ∙ left env l (S .state) (N .long)));
-        frame = pushed-frame;
-        good = tt;
-        kept = tt;
-      }
+        pub bodies-stop : (o : ℕ) → z ≡ Refused o → Bodied each k c y count x₀ x' (Refused o)
+        bodies-stop o e = record {
+          equal = λ env f t l s E N q.
+              let S = A .so env f t l s E N q in
+              after-no (λ (_ : Unit {0}). 0) (λ (_ : Unit {0}). 0) k (env .rooms) (x' .clauses) (x' .atoms) (x' .deferrals) z o (each env (getD l i []) (S .state)) (λ _. forEach (each env) (drop (i + 1) l)) e (run-so env f t l s E N S)
+              ∙ ap (shown (λ _. 0) k (env .rooms)) (sym (S .rest ∙ left env l (S .state) (N .long)));
+          frame = run-frame;
+          good = tt;
+          kept = tt;
+        }

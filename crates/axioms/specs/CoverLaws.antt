@@ -10,7 +10,6 @@ use borrow.Author.Tests.{lt-ltb, le-ltb}
 use lib.Dec.{ltb}
 use lib.ListN.{length, getD, take, length-append}
 use lib.Seq.{sets, take-take}
-use Rattle.words.specs.Words.{words}
 use Rattle.ir.specs.Records.{six}
 use Rattle.ir.specs.Scratch.{handsAt}
 use Rattle.ir.specs.declared.counters.Counters.{Counters}
@@ -23,7 +22,6 @@ use Rattle.rules.specs.Base.{refused, then}
 use Rattle.rules.specs.Pool.{Pool, at}
 use Rattle.rules.specs.State.{Env, Out, classIdOf, longer, with, push, defer}
 use Rattle.rules.specs.Axioms.{coverWith, cover}
-use Rattle.rules.specs.Invariants.{Wf}
 use Rattle.pool.specs.Layout.{tab, run, poolOf, conceptAt}
 use Rattle.pool.specs.Held.{Held}
 use Rattle.pool.specs.HeldLaws.{pool-at}
@@ -32,9 +30,8 @@ use Rattle.tables.specs.Drawn.{tables, show, shown, after, Lent}
 use Rattle.tables.specs.Good.{GoodAnswer, KeptAnswer}
 use Rattle.hands.specs.Hands.{InHand, four, EnvIn, Did}
 use Rattle.hands.specs.HandLaws.{put-frame, hand-more}
-use Rattle.antecedents.specs.WriteLaws.{hands-word, hands-pool, hands-held}
-use Rattle.leaves.specs.Reading.{Reading}
-use Rattle.leaves.specs.StepLaws.{env-kept, words-long}
+use Rattle.antecedents.specs.WriteLaws.{hands-word, hands-pool}
+use Rattle.leaves.specs.StepLaws.{env-kept}
 use Rattle.leaves.specs.Classes.{classIn}
 use Rattle.leaves.specs.declared.read.ClassId.{ClassId}
 use Rattle.leaves.specs.declared.read.ClassId.the-variants as ClassIs
@@ -62,18 +59,6 @@ cover-by env pool class (m ∷ l) hs s = go (λ more. cover-by env pool class l 
 -- ---- scratch, changed above the hands alone
 pub low-hands : (w w' : List ℕ) (n : ℕ) → take (6 * (12800 + n)) w' ≡ take (6 * (12800 + n)) w → take handsAt w' ≡ take handsAt w
 low-hands w w' n e = sym (take-take handsAt (6 * (12800 + n)) w' (omega arith)) ∙ ap (take handsAt) e ∙ take-take handsAt (6 * (12800 + n)) w (omega arith)
-
-pub reading-kept : (s s' : List ℕ) (k : Counters) → length s' ≡ length s → take handsAt (words s') ≡ take handsAt (words s) → Reading s k → Reading s' k
-reading-kept s s' k l e R = record {
-  room = omega (arith, l, R .room);
-  bounds = R .bounds;
-  ready = record { room = omega (arith, l, R .ready .room); held = hands-held (words s) (words s') e (k .concepts) (k .members) (R .ready .held) (words-long s s' l) };
-  wf = subst (Wf (R .bounds)) (sym (hands-pool (words s) (words s') e (k .concepts) (k .members) (R .ready .held))) (R .wf);
-  classes = R .classes;
-  individuals = R .individuals;
-  roles = R .roles;
-  nominals = R .nominals;
-}
 
 pub members-kept : (w w' : List ℕ) (k : Counters) (i count : ℕ) → take handsAt w' ≡ take handsAt w → Members w k i count → Members w' k i count
 members-kept w w' k i count e M = record { below = M .below; ids = λ j h. rw (hands-word w w' e (i + j) (omega (arith, h, M .below))) (M .ids j h) }

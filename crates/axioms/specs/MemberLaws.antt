@@ -1,4 +1,4 @@
--- After encode_antecedent: what its alternatives are, and what a member of a disjoint union gives. Assumes nothing.
+-- What the numbers that encode_antecedent answers say of its rule. Assumes nothing.
 use mathlib.Core.Path.{_≡_, refl, sym, ap, subst, _∙_}
 use mathlib.Core.Bool.{false}
 use mathlib.Core.List.{List, []}
@@ -22,7 +22,11 @@ use Rattle.antecedents.specs.States.{Counted, varied, summary}
 use Rattle.antecedents.specs.PickLaws.{fine-counted}
 use Rattle.axioms.specs.Bodies.{Sourced}
 
--- what the code's numbers say of the rule's answer
+-- what encode_antecedent says of its answer
+abbrev pub EncodedBy : List ℕ → Counters → ℕ → Encoded → Type 0
+EncodedBy w k c r = (env : Env) (f v : ℕ) (s : Out) → c < f → Counted k s → r ≡ summary k (encodeBy env (poolOf w (k .concepts)) f c v s)
+
+-- alternatives were found
 pub record FoundIs (k n : Counters) (count : ℕ) (X : Res Out (Option Alternatives)) : Type 0 where
   pub alternatives : Alternatives
   pub end : Out
@@ -46,7 +50,7 @@ abbrev someState : Counters → Out
 someState k = out (k .visits) (k .limit) (k .«next_var») 0 [] [] 0
 
 pub found-source : (w : List ℕ) (k n : Counters) (c count j : ℕ) (canon : InverseCanon) (r : Encoded) → RolesHeld w canon → Good k
-    → ((env : Env) (f v : ℕ) (s : Out) → c < f → Counted k s → r ≡ summary k (encodeBy env (poolOf w (k .concepts)) f c v s)) → r ≡ Found n count j → Sourced w n c (k .«next_var») count
+    → EncodedBy w k c r → r ≡ Found n count j → Sourced w n c (k .«next_var») count
 found-source w k n c count j canon r R g e q =
     let C : Counted k (someState k) = record { visits = refl; limit = refl; vars = refl } in
     let F = found-is k n count j (encodeBy (someEnv k canon) (poolOf w (k .concepts)) (suc c) c 0 (someState k)) (sym q ∙ e (someEnv k canon) (suc c) 0 (someState k) (omega arith) C) in
@@ -78,7 +82,7 @@ summary-alike k (ok (some l) t) = alike-varied k (varied k t) t refl
 summary-alike k (ok none t) = alike-varied k (varied k t) t refl
 summary-alike k (Base.refused x) = tt
 
-pub encoded-alike : (w : List ℕ) (k : Counters) (c : ℕ) (r : Encoded) → ((env : Env) (f v : ℕ) (s : Out) → c < f → Counted k s → r ≡ summary k (encodeBy env (poolOf w (k .concepts)) f c v s)) → AlikeEncoded k r
+pub encoded-alike : (w : List ℕ) (k : Counters) (c : ℕ) (r : Encoded) → EncodedBy w k c r → AlikeEncoded k r
 encoded-alike w k c r e =
     subst (AlikeEncoded k) (sym (e (someEnv k []) (suc c) 0 (someState k) (omega arith) (record { visits = refl; limit = refl; vars = refl })))
     (summary-alike k (encodeBy (someEnv k []) (poolOf w (k .concepts)) (suc c) c 0 (someState k)))

@@ -10,7 +10,7 @@ use Rattle.ir.specs.declared.atom.Atom.the-variants.{Role as RoleAtom}
 use Rattle.rules.specs.Base.{_>>=_, _>>_}
 use Rattle.rules.specs.Pool.{Pool}
 use Rattle.rules.specs.State.{Env, E, canon, restartVars, freshVar, push}
-use Rattle.rules.specs.Axioms.{asymmetric, disjointRoles}
+use Rattle.rules.specs.Axioms.{domain, range, asymmetric, disjointRoles}
 
 -- the first atom in hand, and the bytes of scratch up to the last one that an axiom needs
 abbrev pub handAt : ℕ
@@ -32,6 +32,11 @@ notBoth env r s back = do
   restartVars
   y ← freshVar
   push env (RoleAtom (canon env r) 0 y ∷ secondAtom (canon env s) y back ∷ []) []
+
+-- role(X, y) gives the concept at y (true), or at X
+abbrev pub domainOrRange : Env → Role → ℕ → Bool → Pool → E (Unit {0})
+domainOrRange env r c true = range env r c
+domainOrRange env r c false = domain env r c
 
 -- the rules' own
 pub asymmetric-is : (env : Env) (r : Role) (pool : Pool) → asymmetric env r pool ≡ notBoth env r r true

@@ -1,11 +1,15 @@
 // What is emitted for each alternative of an antecedent, one alternative in hand at a time.
+use heads::emit;
 use ir::answer::Answer;
 use ir::atom::Atom;
 use ir::counters::Counters;
 ghost use mathlib.Core.List.{List};
-ghost use Prim.Native.Nat.{ℕ, _+_, _<_, _≤_, _^_};
+ghost use Prim.Native.Nat.{ℕ, _+_, _*_, _<_, _≤_, _^_};
 ghost use lib.ListN.{length};
 ghost use Rattle.words.specs.Words.{words};
+ghost use Rattle.ir.specs.Scratch.{handsAt};
+ghost use Rattle.rules.specs.Heads.{emitHead};
+ghost use Rattle.pool.specs.Layout.{poolOf};
 ghost use Rattle.tables.specs.Drawn.{Sized};
 ghost use Rattle.tables.specs.Good.{Good};
 ghost use Rattle.hands.specs.Hands.{four};
@@ -35,6 +39,39 @@ pub fn push_bodies(
         let end = antecedents::write_alternative(scratch, l, HAND, sub, 0, y, i);
         let n = (end - HAND) as u32;
         match hands::push_one(scratch, clauses, atoms, l, HAND, n, Atom::Class(class, 0)) {
+            Answer::Done(m, _) => {
+                l = m;
+            }
+            Answer::Refused(e) => {
+                return Answer::Refused(e);
+            }
+        }
+        i += 1;
+    }
+    Answer::Done(l, 0)
+}
+
+// Each of the `count` alternatives of `sub`, whose fresh variables begin with y, gives concept `head`.
+pub fn emit_bodies(
+    scratch: &mut [u8],
+    clauses: &mut [u8],
+    atoms: &mut [u8],
+    deferrals: &mut [u8],
+    k: Counters,
+    sub: u32,
+    count: u32,
+    y: u32,
+    head: u32,
+) -> Answer
+    requires { ⌜ Encoding (now scratch) k × (sub < k .concepts) × (head < k .concepts) × (4 * (handsAt + 127000) ≤ length (now scratch)) × Sized (length (now clauses)) (length (now atoms)) (length (now deferrals)) × Good k × Sourced (words (now scratch)) k sub y count ⌝ }
+    ensures { λ r. ⌜ Bodied (λ env b. emitHead env (poolOf (words (now (scratch .entry))) (k .concepts)) b head 0) k sub y count (four (words (now (scratch .entry))) (words (now (clauses .entry))) (words (now (atoms .entry))) (words (now (deferrals .entry)))) (four (words (now (scratch .exit))) (words (now (clauses .exit))) (words (now (atoms .exit))) (words (now (deferrals .exit)))) r ⌝ }
+{
+    let mut l = k;
+    let mut i: u32 = 0;
+    while i < count {
+        let end = antecedents::write_alternative(scratch, l, HAND, sub, 0, y, i);
+        let n = (end - HAND) as u32;
+        match emit::emit_head(scratch, clauses, atoms, deferrals, l, HAND, n, head, 0) {
             Answer::Done(m, _) => {
                 l = m;
             }

@@ -1,5 +1,7 @@
-// clause.rs: clausify_gci, absorb_hard_antecedent and clausify_axiom.
+// The rules of clause.rs for one axiom that only read the pool.
 pub mod bodies;
 pub mod cover;
+pub mod domain;
 pub mod member;
+pub mod pairs;
 pub mod roles;

@@ -12,8 +12,7 @@ ghost use Rattle.tables.specs.Drawn.{Sized};
 ghost use Rattle.tables.specs.Good.{Good};
 ghost use Rattle.hands.specs.Hands.{four, Did};
 ghost use Rattle.axioms.specs.RoleAxioms.{handAt, inHandBytes};
-ghost use Rattle.axioms.specs.Bodies.{Encoding};
-ghost use Rattle.axioms.specs.UnionLaws.{memberRule};
+ghost use Rattle.axioms.specs.Bodies.{Encoding, memberRule};
 
 pub fn union_member(
     scratch: &mut [u8],

@@ -22,7 +22,7 @@ ghost use Rattle.ir.specs.Records.{Fits};
 ghost use Rattle.axioms.specs.RoleAxioms.{handAt, inHandBytes, irreflexive, secondAtom, notBoth};
 
 // The canonical form of a role's code.
-fn canon(scratch: &[u8], code: u32) -> Role
+pub fn canon(scratch: &[u8], code: u32) -> Role
     requires { ⌜ (code < 2 * mostRoles) × (inHandBytes ≤ length (now scratch)) ⌝ }
     ensures { λ z. ⌜ ((env : Env) (k : Counters) → EnvIn env k (words (now (scratch .entry))) → z ≡ canon env (roleOf code)) ⌝ }
     ensures { λ z. ⌜ roleId z < 2 ^ 31 ⌝ }

@@ -1,5 +1,6 @@
 use borrow.Author.Needs.{needs}
-use Rattle.axioms.specs.CoverLaws.{reading-kept, members-kept, first-hands, cover-all, cover-missing, cover-long}
+use Rattle.heads.specs.FrameLaws.{reading-kept}
+use Rattle.axioms.specs.CoverLaws.{members-kept, first-hands, cover-all, cover-missing, cover-long}
 use Rattle.words.specs.Laws.{length-words}
 use Rattle.words.specs.Words.{words}
 use lib.ListN.{length}
@@ -22,7 +23,7 @@ put-heads-requires c κs = let s = c .before .before .before .before .before .be
     let room : 6 * 12800 + 6 ≤ length (words (s .args .scratch .now)) = omega (arith, length-words (s .args .scratch .now), s .pre .2) in
     let low = first-hands (s .args .k) (s .args .class) (s .args .at) (s .args .count) (words (s .args .scratch .now)) _ (words (s .args .scratch .now)) (c .before .before .before .put-atom .ensures) room (s .pre .0 .ready .held) (s .pre .1) in
     let l = c .before .before .before .put-atom .kept .0 in
-    (reading-kept (s .args .scratch .now) _ (s .args .k) l low (s .pre .0), members-kept (words (s .args .scratch .now)) _ (s .args .k) (s .args .at) (s .args .count) low (s .pre .1), omega (arith, l, s .pre .2))
+    (reading-kept (s .args .scratch .now) _ (s .args .k) 12800 (s .pre .0) (omega arith) low l, members-kept (words (s .args .scratch .now)) _ (s .args .k) (s .args .at) (s .args .count) low (s .pre .1), omega (arith, l, s .pre .2))
 
 enum-told : tie.Need-enum-told
 enum-told c = search needs

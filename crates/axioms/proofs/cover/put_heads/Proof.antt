@@ -7,7 +7,8 @@ use lib.ListN.{length}
 use Rattle.words.specs.Words.{words}
 use Rattle.words.specs.Laws.{length-words}
 use Rattle.axioms.specs.Covers.{HeadsAt}
-use Rattle.axioms.specs.CoverLaws.{low-hands, reading-kept, heads-start, m-small, heads-missing, heads-long, heads-next, heads-all}
+use Rattle.heads.specs.FrameLaws.{reading-kept}
+use Rattle.axioms.specs.CoverLaws.{heads-start, m-small, heads-missing, heads-long, heads-next, heads-all}
 use Rattle.axioms.proofs.cover.put_heads.Statement.{statement}
 use Rattle.axioms.proofs.cover.put_heads.Tie as tie
 use Rattle.axioms.proofs.cover.put_heads.Reads as reads
@@ -36,7 +37,7 @@ get-word-requires c κs = let s = c .before .before .before .before in let b = s
 
 class-id-of-requires : tie.Need-class-id-of-requires Inv-loop μ-loop
 class-id-of-requires c κs = let s = c .before .before .before .before .before .before in let L = c .before .before .before .before .loop in (
-  reading-kept (s .args .scratch .now) (L .scratch) (s .args .k) (L .inv .1) (low-hands (words (s .args .scratch .now)) (words (L .scratch)) 1 (L .inv .0 .frame)) (s .pre .0),
+  reading-kept (s .args .scratch .now) (L .scratch) (s .args .k) 12801 (s .pre .0) (omega arith) (L .inv .0 .frame) (L .inv .1),
   m-small (s .args .k) (s .args .at) (s .args .count) (words (s .args .scratch .now)) (words (L .scratch)) (L .i) _ (s .pre .0 .ready .held) (s .pre .1) (L .inv .0) (c .before .before .before .loop-test .taken) (c .before .get-word .ensures),
 )
 

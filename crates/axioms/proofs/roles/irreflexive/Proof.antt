@@ -35,13 +35,11 @@ same-length-3 c = search needs
 
 returns : tie.Need-returns
 returns c = let s = c .before .before .before .before .before .before .before .before .before .before .before .before .before .before .before .before .before in
-    let A = s .args in
+    let w = words (s .args .scratch .now) in
     let room : 6 * 12800 + 6 ≤ length (words (s .args .scratch .now)) = omega (arith, length-words (s .args .scratch .now), s .pre .1) in
     let e1 = c .before .before .before .before .before .before .before .before .before .before .put-atom .ensures in
-    λ d. irreflexive-did (A .k) 12800 (words (s .args .scratch .now)) _ _ _ _ _ d _ (roleOf (A .r)) _ (omega arith)
-    (c .before .before .before .before .before .before .before .before .before .before .before .before .canon .ensures .0)
-    (frame-one 12800 (words (s .args .scratch .now)) _ (RoleAtom (c .before .before .before .before .before .before .before .before .before .before .before .before .canon .result) 0 0) e1 room) (frame-one 12800 (words (s .args .scratch .now)) _ (RoleAtom (c .before .before .before .before .before .before .before .before .before .before .before .before .canon .result) 0 0) e1 room)
-    (hand-one 12800 (words (s .args .scratch .now)) _ (RoleAtom (c .before .before .before .before .before .before .before .before .before .before .before .before .canon .result) 0 0) e1 room)
+    let x = c .before .before .before .before .before .before .before .before .before .before .before .before .canon in
+    λ d. irreflexive-did (s .args .k) 12800 w _ _ _ d _ (x .result) (roleOf (s .args .r)) _ (omega arith) (x .ensures .0) (frame-one 12800 w _ (RoleAtom (x .result) 0 0) e1 room) (hand-one 12800 w _ (RoleAtom (x .result) 0 0) e1 room)
     (c .before .before .before .before .push-none .ensures d)
 
 pub irreflexive-spec : {M : Type 1} → statement M

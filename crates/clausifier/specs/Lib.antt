@@ -1,0 +1,16 @@
+pub mod Listed
+pub mod Arms
+pub mod All
+pub mod Rows
+pub mod RowLaws
+pub mod ArmLaws
+pub mod RoleArmLaws
+pub mod KeptLaws
+pub mod AllLaws
+pub mod Turns
+pub mod TurnLaws
+pub mod ListTurns
+pub mod PairLaws
+pub mod WordLaws
+pub mod CallLaws
+pub mod UnionTurns

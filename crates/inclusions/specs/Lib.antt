@@ -1,0 +1,13 @@
+pub mod AbsorbLaws
+pub mod Absorbs
+pub mod Conjuncts
+pub mod EncodeLaws
+pub mod GciLaws
+pub mod GrowLaws
+pub mod HardLaws
+pub mod HeadLaws
+pub mod InternLaws
+pub mod NormalLaws
+pub mod OnwardLaws
+pub mod PartLaws
+pub mod Parted

@@ -1,0 +1,4 @@
+// clause.rs: clausify_gci and absorb_hard_antecedent.
+pub mod absorb;
+pub mod gci;
+pub mod parts;
