@@ -12,6 +12,7 @@ pub mod EncodeLaws
 pub mod Pairs
 pub mod Wholes
 pub mod WholeLaws
+pub mod OnwardLaws
 pub mod Turns
 pub mod TurnLaws
 pub mod PairTurns

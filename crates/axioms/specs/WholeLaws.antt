@@ -105,7 +105,7 @@ pub record Standing (k' : Counters) (rooms : Rooms) (y : Four) (z : Clausifier) 
   pub pool : poolOf (y .scratch) (k' .concepts) ≡ z .pool
   pub tables : tables k' (y .clauses) (y .atoms) (y .deferrals) ≡ show k' rooms (z .out)
 
-show-same : (k k' : Counters) (rooms : Rooms) (o : Out) (c a d : List ℕ) → tables k' c a d ≡ show k rooms o → tables k' c a d ≡ show k' rooms o
+pub show-same : (k k' : Counters) (rooms : Rooms) (o : Out) (c a d : List ℕ) → tables k' c a d ≡ show k rooms o → tables k' c a d ≡ show k' rooms o
 unfolding show
 show-same k k' rooms o c a d e =
     let q = ap countersIn e in

@@ -29,7 +29,9 @@ use Rattle.axioms.specs.Wholes.{Whole, whole, drawn, shownWhole, afterWhole, st
 use Rattle.axioms.specs.WholeLaws.{sized-own, drawn-same}
 use Rattle.clausifier.specs.Arms.{AxiomsOf, AxiomOf}
 use Rattle.clausifier.specs.All.{shownLined, afterLined, ClausifiedAll}
-use Rattle.clausifier.specs.KeptLaws.{untouched-same, untouched-then, onward-same, onward-then, axiom-kept, axioms-kept, env-untouched}
+use Rattle.axioms.specs.OnwardLaws.{untouched-same, untouched-then, onward-same, onward-then}
+use Rattle.clausifier.specs.TurnLaws.{env-turned}
+use Rattle.clausifier.specs.KeptLaws.{axiom-kept, axioms-kept}
 
 -- ---- at another line
 abbrev countersIn : Tables → Counters
@@ -140,7 +142,7 @@ module _ (n line : ℕ) (k₀ : Counters) (x₀ : Four) (A : AxiomsOf (x₀ .scr
 
     -- what the call did, for a state
     told : (env : Env) (u : Out) → EnvHeld env k₀ x₀ → tables k (x .clauses) (x .atoms) (x .deferrals) ≡ show k (env .rooms) u → afterWhole r y ≡ shownWhole (λ _. 0) k' (env .rooms) (next env u)
-    told env u E t = D .equal env (lineAt (line + i) u) (env-untouched env k₀ k' x₀ x (T .untouched) (onward-then k₀ k k' (T .onward) at-line) lc la ld E)
+    told env u E t = D .equal env (lineAt (line + i) u) (env-turned env k₀ k' x₀ x (T .untouched) (onward-then k₀ k k' (T .onward) at-line) (record { clauses = lc; atoms = la; deferrals = ld }) E)
         (drawn-lined k k' (env .rooms) u (x .clauses) (x .atoms) (x .deferrals) (line + i) q t)
 
     still : Untouched (x₀ .scratch) (y .scratch)

@@ -1,4 +1,4 @@
--- What a call leaves alone: the axioms, and what the rules' env says. Assumes nothing.
+-- What a call leaves alone: the axioms. Assumes nothing.
 use mathlib.Core.Path.{_≡_, refl, ap, _∙_}
 use mathlib.Core.List.{List}
 use Prim.Native.Nat.{ℕ, _+_, _*_, _<_, _≤_}
@@ -19,20 +19,6 @@ use Rattle.leaves.specs.StepLaws.{lent-kept}
 use Rattle.axioms.specs.Wholes.{Untouched, Onward}
 use Rattle.clausifier.specs.Arms.{AxiomsOf}
 
--- ---- one after another
-pub untouched-same : (w : List ℕ) → Untouched w w
-untouched-same w = record { maps = λ j a b. refl; axioms = λ j a b. refl }
-
-pub untouched-then : (w w' w'' : List ℕ) → Untouched w w' → Untouched w' w'' → Untouched w w''
-untouched-then w w' w'' A B = record { maps = λ j a b. B .maps j a b ∙ A .maps j a b; axioms = λ j a b. B .axioms j a b ∙ A .axioms j a b }
-
-pub onward-same : (k : Counters) → Onward k k
-onward-same k = record { nominals = refl; options = refl; concepts = omega arith }
-
-pub onward-then : (k k' k'' : Counters) → Onward k k' → Onward k' k'' → Onward k k''
-onward-then k k' k'' A B = record { nominals = B .nominals ∙ A .nominals; options = B .options ∙ A .options; concepts = omega (arith, A .concepts, B .concepts) }
-
--- ---- the axioms
 module _ (w w' : List ℕ) (n : ℕ) (H : AxiomsHeld w n) (U : Untouched w w') where
   start-kept : (i : ℕ) → i < n → axiomStart w' i ≡ axiomStart w i
   start-kept i h = U .axioms (axiomsAt + 2 * i) (omega arith) (omega (arith, H .few))
@@ -73,18 +59,4 @@ axioms-kept w w' k k' n U h A = record {
   roles = A .roles;
   held = held-kept w w' n (A .held) U;
   inside = rw (all-kept w w' n (A .held) U) (axioms-more (A .bounds) (k .concepts) (k' .concepts) (axiomsOf w n) h (A .inside));
-}
-
--- ---- env
-pub env-untouched : (env : Env) (k k' : Counters) (x y : Four) → Untouched (x .scratch) (y .scratch) → Onward k k'
-    → length (y .clauses) ≡ length (x .clauses) → length (y .atoms) ≡ length (x .atoms) → length (y .deferrals) ≡ length (x .deferrals) → EnvHeld env k x → EnvHeld env k' y
-env-untouched env k k' x y U A lc la ld E = record {
-  read = record {
-    nominals = A .nominals ∙ E .read .nominals;
-    option = ap cardDisjunctAtoms (A .options) ∙ E .read .option;
-    keys = record { marked = λ a l. rw (U .maps (keysAt + a) (omega arith) (omega arith)) (E .read .keys .marked a l) };
-    noKeys = E .read .noKeys;
-    roles = record { mapped = λ r l. U .maps (rolesAt + r) (omega arith) (omega arith) ∙ E .read .roles .mapped r l };
-  };
-  lent = lent-kept (env .rooms) (x .clauses) (x .atoms) (x .deferrals) (y .clauses) (y .atoms) (y .deferrals) lc la ld (E .lent);
 }

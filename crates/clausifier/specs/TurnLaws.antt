@@ -6,8 +6,6 @@ use Prim.Native.Nat.{ℕ, _+_}
 use native.Mathlib.Omega.{arith}
 use lib.ListN.{length}
 use Rattle.words.specs.Words.{words}
-use Rattle.ir.specs.Scratch.{keysAt, rolesAt}
-use Rattle.ir.specs.Options.{cardDisjunctAtoms}
 use Rattle.ir.specs.declared.counters.Counters.{Counters}
 use Rattle.ir.specs.declared.answer.Answer.{Answer}
 use Rattle.ir.specs.declared.answer.Answer.the-variants.{Done, Refused}
@@ -23,26 +21,11 @@ use Rattle.hands.specs.Hands.{Four, four, EnvHeld, Did}
 use Rattle.leaves.specs.StepLaws.{words-long, lent-kept}
 use Rattle.axioms.specs.RoleAxioms.{handAt}
 use Rattle.axioms.specs.Wholes.{Whole, whole, drawn, shownWhole, afterWhole, standing, Clausifying, ClausifyingAfter, Untouched, Onward, OnwardAnswer, Clausified}
-use Rattle.axioms.specs.WholeLaws.{Standing, drawn-same, sized-own, did-clausified, clausifying-after}
+use Rattle.axioms.specs.WholeLaws.{Standing, show-same, drawn-same, sized-own, did-clausified, clausifying-after}
+use Rattle.axioms.specs.OnwardLaws.{env-untouched, untouched-same, untouched-then, onward-same, onward-then, onward-answer, shown-same}
 use Rattle.clausifier.specs.Turns.{SameLong, Answered, Passed, DidTurn, Turned}
 
 -- ---- what a call leaves as it was
-pub untouched-same : (w : List ℕ) → Untouched w w
-untouched-same w = record { maps = λ j a b. refl; axioms = λ j a b. refl }
-
-pub untouched-then : (w w' w'' : List ℕ) → Untouched w w' → Untouched w' w'' → Untouched w w''
-untouched-then w w' w'' A B = record { maps = λ j a b. B .maps j a b ∙ A .maps j a b; axioms = λ j a b. B .axioms j a b ∙ A .axioms j a b }
-
-pub onward-same : (k : Counters) → Onward k k
-onward-same k = record { nominals = refl; options = refl; concepts = omega arith }
-
-pub onward-then : (k m n : Counters) → Onward k m → Onward m n → Onward k n
-onward-then k m n O P = record { nominals = P .nominals ∙ O .nominals; options = P .options ∙ O .options; concepts = omega (arith, O .concepts, P .concepts) }
-
-pub onward-answer : (k m : Counters) (r : Answer) → Onward k m → OnwardAnswer m r → OnwardAnswer k r
-onward-answer k m (Done n i) O P = onward-then k m n O P
-onward-answer k m (Refused e) O P = tt
-
 pub long-same : (x : Four) → SameLong x x
 long-same x = record { clauses = refl; atoms = refl; deferrals = refl }
 
@@ -60,35 +43,15 @@ long-words-3 w w' c a d c' a' ec ea = record { clauses = words-long c c' ec; ato
 pub sized-kept : (c a d c' a' d' : ℕ) → c' ≡ c → a' ≡ a → d' ≡ d → Sized c a d → Sized c' a' d'
 sized-kept c a d c' a' d' ec ea ed S = rw (ec, ea, ed) S
 
-pub env-untouched : (env : Env) (k m : Counters) (x y : Four) → Untouched (x .scratch) (y .scratch) → Onward k m → SameLong x y → EnvHeld env k x → EnvHeld env m y
-env-untouched env k m x y U O L E = record {
-  read = record {
-    nominals = O .nominals ∙ E .read .nominals;
-    option = ap cardDisjunctAtoms (O .options) ∙ E .read .option;
-    keys = record { marked = λ a l. rw (U .maps (keysAt + a) (omega arith) (omega arith)) (E .read .keys .marked a l) };
-    noKeys = E .read .noKeys;
-    roles = record { mapped = λ r l. U .maps (rolesAt + r) (omega arith) (omega arith) ∙ E .read .roles .mapped r l };
-  };
+pub env-turned : (env : Env) (k m : Counters) (x y : Four) → Untouched (x .scratch) (y .scratch) → Onward k m → SameLong x y → EnvHeld env k x → EnvHeld env m y
+env-turned env k m x y U O L E = record {
+  read = env-untouched env k m (x .scratch) (y .scratch) U O (E .read);
   lent = lent-kept (env .rooms) (x .clauses) (x .atoms) (x .deferrals) (y .clauses) (y .atoms) (y .deferrals) (L .clauses) (L .atoms) (L .deferrals) (E .lent);
 }
 
 -- ---- a state and the answer that it stands for
 own-state : (m : Counters) (rooms : Rooms) (y : Four) (z : Clausifier) → Standing m rooms y z → standing m y (z .out) ≡ z
 own-state m rooms y z S = ap (λ (p : Pool). record { pool = p; out = z .out }) (S .pool)
-
-abbrev countersIn : Tables → Counters
-countersIn (tables k c a d) = k
-
--- drawn by its own counters
-show-own : (k m : Counters) (rooms : Rooms) (o : Out) (c a d : List ℕ) → tables m c a d ≡ show k rooms o → tables m c a d ≡ show m rooms o
-unfolding show
-show-own k m rooms o c a d e =
-    let q = ap countersIn e in
-    let x : m .concepts ≡ k .concepts = ap (λ (z : Counters). z .concepts) q in
-    let y : m .members ≡ k .members = ap (λ (z : Counters). z .members) q in
-    let b : m .«nominal_base» ≡ k .«nominal_base» = ap (λ (z : Counters). z .«nominal_base») q in
-    let n : m .options ≡ k .options = ap (λ (z : Counters). z .options) q in
-    e ∙ rw (x, y, b, n) refl
 
 -- drawn by k
 pub standing-drawn : (k m : Counters) (rooms : Rooms) (y : Four) (z : Clausifier) → Held (y .scratch) (m .concepts) (m .members) → Onward k m → Standing m rooms y z
@@ -98,16 +61,12 @@ standing-drawn k m rooms y z H O S =
     let d : drawn k rooms z ≡ drawn m rooms z = sym (drawn-same k m rooms (O .nominals) (O .options) z) in
     rw (d, u, S .pool, S .tables) refl
 
-shown-same : (k m : Counters) (rooms : Rooms) → Onward k m → (r : Res Clausifier (Unit {0})) → shownWhole (λ _. 0) m rooms r ≡ shownWhole (λ _. 0) k rooms r
-shown-same k m rooms O (ok a z) = ap (λ (u : Whole). ok 0 u) (drawn-same k m rooms (O .nominals) (O .options) z)
-shown-same k m rooms O (refused e) = refl
-
 -- the state after an answer
 pub whole-answered : (m m' : Counters) (j : ℕ) (rooms : Rooms) (y' : Four) (r : Res Clausifier (Unit {0})) → afterWhole (Done m' j) y' ≡ shownWhole (λ _. 0) m rooms r → Answered m' rooms y' r
 whole-answered m m' j rooms y' (ok tt z) e =
     let p : poolOf (y' .scratch) (m' .concepts) ≡ z .pool = cc in
     let t : tables m' (y' .clauses) (y' .atoms) (y' .deferrals) ≡ show (sized m (z .pool)) rooms (z .out) = cc in
-    record { state = z; is = refl; stands = record { pool = p; tables = show-own (sized m (z .pool)) m' rooms (z .out) (y' .clauses) (y' .atoms) (y' .deferrals) t } }
+    record { state = z; is = refl; stands = record { pool = p; tables = show-same (sized m (z .pool)) m' rooms (z .out) (y' .clauses) (y' .atoms) (y' .deferrals) t } }
 whole-answered m m' j rooms y' (refused n) e = absurd (let z : _≡_ {A = ℕ} 0 1 = cc in omega arith)
 
 refused-is : (m : Counters) (rooms : Rooms) (n : ℕ) (r : Res Clausifier (Unit {0})) → refused n ≡ shownWhole (λ _. 0) m rooms r → r ≡ refused n
@@ -125,7 +84,7 @@ passed-start begin k x = record {
 
 module _ {R : Type 0} (begin rest : Env → Clausifier → R) (k m : Counters) (x y : Four) (P : Passed begin rest k m x y) where
   pub passed-env : (env : Env) → EnvHeld env k x → EnvHeld env m y
-  passed-env env E = env-untouched env k m x y (P .untouched) (P .onward) (P .long) E
+  passed-env env E = env-turned env k m x y (P .untouched) (P .onward) (P .long) E
 
   -- the same, said otherwise
   pub passed-skip : (rest' : Env → Clausifier → R) → ((env : Env) (z : Clausifier) → rest env z ≡ rest' env z) → Passed begin rest' k m x y
@@ -191,7 +150,7 @@ module _ (begin rest : Env → C (Unit {0})) (k m : Counters) (x y : Four) (P : 
   passed-last y' r D = record {
     equal = λ env s E t.
         let S = P .so env s E t in
-        called begin rest k m x y P rest y' r D env (S .state) E (S .stands) ∙ shown-same k m (env .rooms) (P .onward) (rest env (S .state)) ∙ ap (shownWhole (λ _. 0) k (env .rooms)) (sym (S .same));
+        called begin rest k m x y P rest y' r D env (S .state) E (S .stands) ∙ shown-same (λ _. 0) k m (env .rooms) (P .onward) (rest env (S .state)) ∙ ap (shownWhole (λ _. 0) k (env .rooms)) (sym (S .same));
     untouched = untouched-then (x .scratch) (y .scratch) (y' .scratch) (P .untouched) (D .untouched);
     onward = onward-answer k m r (P .onward) (D .onward);
   }

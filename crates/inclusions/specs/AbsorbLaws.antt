@@ -41,7 +41,7 @@ use Rattle.axioms.specs.Wholes.{Clausifying, Clausified}
 use Rattle.axioms.specs.WholeLaws.{did-clausified}
 use Rattle.inclusions.specs.Parted.{softAt, headAlone, headOver, softAndOf, Normalised}
 use Rattle.inclusions.specs.Absorbs.{alwaysHead, givesHead, absorbNone, absorbSome}
-use Rattle.inclusions.specs.OnwardLaws.{untouched-kept}
+use Rattle.axioms.specs.OnwardLaws.{untouched-kept}
 use Rattle.inclusions.specs.NormalLaws.{nnf-then, nnf-stop, nnf-pool}
 use Rattle.inclusions.specs.GrowLaws.{grew-normal, filled-pool, filled-untouched}
 use Rattle.inclusions.specs.EncodeLaws.{EncodedBy, found-alike, none-alike, found-at, none-at, refused-at}

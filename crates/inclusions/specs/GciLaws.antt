@@ -25,7 +25,7 @@ use Rattle.antecedents.specs.WriteLaws.{hands-pool}
 use Rattle.axioms.specs.Bodies.{Bodied}
 use Rattle.axioms.specs.Wholes.{shownWhole, standing, Clausified}
 use Rattle.axioms.specs.WholeLaws.{out-whole, untouched-below, onward-kept}
-use Rattle.inclusions.specs.OnwardLaws.{untouched-same, onward-alike, onward-answer, stands-on, shown-same}
+use Rattle.axioms.specs.OnwardLaws.{untouched-same, onward-alike, onward-answer, stands-on, shown-same}
 use Rattle.inclusions.specs.EncodeLaws.{EncodedBy, found-alike, none-alike, found-at, none-at, refused-at}
 
 module _ (k k1 : Counters) (sub sup : ℕ) (w c a d : List ℕ) (r : Encoded) (q1 : k1 ≡ varsRestarted k) (g1 : Good k1)

@@ -29,7 +29,7 @@ use Rattle.axioms.specs.Bodies.{Encoding}
 use Rattle.axioms.specs.BodyLaws.{encoding-kept}
 use Rattle.axioms.specs.Wholes.{Clausifying, Untouched, Onward}
 use Rattle.inclusions.specs.Parted.{Normalised}
-use Rattle.inclusions.specs.OnwardLaws.{roles-untouched, untouched-then, untouched-kept, onward-then}
+use Rattle.axioms.specs.OnwardLaws.{roles-untouched, untouched-then, untouched-kept, onward-then}
 
 -- ---- scratch below n is as it was
 word-front : (n : ℕ) (w w' : List ℕ) → take n w' ≡ take n w → (j : ℕ) → j < n → getD w' j 0 ≡ getD w j 0

@@ -32,7 +32,7 @@ use Rattle.inclusions.specs.declared.parts.Parts.{Parts}
 use Rattle.inclusions.specs.declared.parts.Parts.the-variants.{Found, Refused}
 use Rattle.inclusions.specs.Parted.{softAt, hardAt, partedAfter, partedOf, Sorted}
 use Rattle.inclusions.specs.Absorbs.{absorbNone, absorbSome, Divided}
-use Rattle.inclusions.specs.OnwardLaws.{untouched-then, onward-alike, onward-answer, stands-on, shown-same, clausified-is}
+use Rattle.axioms.specs.OnwardLaws.{untouched-then, onward-alike, onward-answer, stands-on, shown-same, clausified-is}
 use Rattle.inclusions.specs.GrowLaws.{untouched-front}
 use Rattle.inclusions.specs.EncodeLaws.{counted-drawn, drawn-varied}
 use Rattle.inclusions.specs.AbsorbLaws.{none-is, some-is}

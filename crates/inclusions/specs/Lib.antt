@@ -8,6 +8,5 @@ pub mod HardLaws
 pub mod HeadLaws
 pub mod InternLaws
 pub mod NormalLaws
-pub mod OnwardLaws
 pub mod PartLaws
 pub mod Parted

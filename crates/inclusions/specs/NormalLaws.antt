@@ -20,7 +20,7 @@ use Rattle.leaves.specs.StepLaws.{visits-are, limit-is}
 use Rattle.axioms.specs.Wholes.{shownWhole, afterWhole, standing, Untouched, Clausified}
 use Rattle.axioms.specs.WholeLaws.{nnf-whole, whole-then, whole-refused, drawn-same}
 use Rattle.inclusions.specs.Parted.{Normalised}
-use Rattle.inclusions.specs.OnwardLaws.{untouched-then, untouched-kept, onward-answer, stands-on}
+use Rattle.axioms.specs.OnwardLaws.{untouched-then, untouched-kept, onward-answer, stands-on}
 use Rattle.inclusions.specs.GrowLaws.{grew-normal}
 
 module _ (rule : N ℕ) (k : Counters) (s s1 c a d : List ℕ) where

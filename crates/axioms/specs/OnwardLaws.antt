@@ -43,6 +43,9 @@ untouched-then w w' w'' U Q = record { maps = λ j a b. Q .maps j a b ∙ U .map
 -- words from the key marks to the stack are as they were
 pub untouched-kept : (w w' : List ℕ) → ((j : ℕ) → keysAt ≤ j → j < stackAt → getD w' j 0 ≡ getD w j 0) → Untouched w w'
 untouched-kept w w' e = record { maps = λ j a b. e j a (omega arith); axioms = λ j a b. e j (omega arith) (omega arith) }
+
+pub onward-same : (k : Counters) → Onward k k
+onward-same k = record { nominals = refl; options = refl; concepts = omega arith }
 
 pub onward-alike : (k k' : Counters) → Alike k k' → Onward k k'
 onward-alike k k' A = record { nominals = A .nominals; options = A .options; concepts = omega (arith, A .concepts) }
