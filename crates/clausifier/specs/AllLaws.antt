@@ -31,7 +31,8 @@ use Rattle.clausifier.specs.Arms.{AxiomsOf, AxiomOf}
 use Rattle.clausifier.specs.All.{shownLined, afterLined, ClausifiedAll}
 use Rattle.axioms.specs.OnwardLaws.{untouched-same, untouched-then, onward-same, onward-then}
 use Rattle.clausifier.specs.TurnLaws.{env-turned}
-use Rattle.clausifier.specs.KeptLaws.{axiom-kept, axioms-kept}
+use Rattle.clausifier.specs.KeptAxioms.{axiom-kept}
+use Rattle.clausifier.specs.KeptLaws.{axioms-of-kept}
 
 -- ---- at another line
 abbrev countersIn : Tables → Counters
@@ -116,7 +117,7 @@ module _ (k m : Counters) (rooms : Rooms) (y : Four) (z : Clausifier) (j : ℕ) 
 
 module _ (n line : ℕ) (k₀ : Counters) (x₀ : Four) (A : AxiomsOf (x₀ .scratch) k₀ n) (k : Counters) (x : Four) (i : ℕ) (T : Turn n line k₀ x₀ k x i) where
   pub turn-axioms : AxiomsOf (x .scratch) k n
-  turn-axioms = axioms-kept (x₀ .scratch) (x .scratch) k₀ k n (T .untouched) (T .onward .concepts) A
+  turn-axioms = axioms-of-kept (x₀ .scratch) (x .scratch) k₀ k n (T .untouched) (T .onward .concepts) A
 
   module _ (h : i < n) (k' : Counters) (q : k' ≡ atLine (line + i) k) (lc : length (x .clauses) ≡ length (x₀ .clauses)) (la : length (x .atoms) ≡ length (x₀ .atoms)) (ld : length (x .deferrals) ≡ length (x₀ .deferrals))
       (y : Four) (r : Answer) (D : Clausified (λ env. clausifyAxiom env (axiomAt (x .scratch) i)) k' x y r) where
@@ -128,7 +129,7 @@ module _ (n line : ℕ) (k₀ : Counters) (x₀ : Four) (A : AxiomsOf (x₀ .scr
     next env s = clausifyAxiom env (axiomAt (x .scratch) i) (standing k' x (lineAt (line + i) s))
 
     same-axiom : axiomAt (x .scratch) i ≡ axiomAt (x₀ .scratch) (0 + i)
-    same-axiom = let e : 0 + i ≡ i = omega arith in rw e (axiom-kept (x₀ .scratch) (x .scratch) n (A .held) (T .untouched) i h)
+    same-axiom = let e : 0 + i ≡ i = omega arith in rw e (axiom-kept (x₀ .scratch) (x .scratch) n (A .held) (T .untouched .axioms) i h)
 
     same-start : (s : Out) → standing k' x (lineAt (line + i) s) ≡ clausifierAt (line + i) (standing k x s)
     same-start s = rw q refl
@@ -240,7 +241,7 @@ module _ (s₀ c₀ a₀ d₀ : List ℕ) (n line : ℕ) (k₀ : Counters) (A : 
     pub going-asks : Clausifying s k' × AxiomOf (words s) k' i
     going-asks = (
       clausifying-line s k k' here q (G .ready),
-      record { count = n; axioms = axioms-kept (words s) (words s) k k' n (untouched-same (words s)) (onward-line k k' here q .concepts) (turn-axioms n line k₀ x₀ A k x i (G .turn)); among = h },
+      record { count = n; axioms = axioms-of-kept (words s) (words s) k k' n (untouched-same (words s)) (onward-line k k' here q .concepts) (turn-axioms n line k₀ x₀ A k x i (G .turn)); among = h },
     )
 
     module _ (s' c' a' d' : List ℕ) (ls : length s' ≡ length s) (lc : length c' ≡ length c) (la : length a' ≡ length a) (ld : length d' ≡ length d) (r : Answer)

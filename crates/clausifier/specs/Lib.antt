@@ -14,3 +14,6 @@ pub mod PairLaws
 pub mod WordLaws
 pub mod CallLaws
 pub mod UnionTurns
+pub mod KeptAxioms
+pub mod Prepare
+pub mod PrepareLaws

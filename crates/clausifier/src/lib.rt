@@ -2,6 +2,7 @@
 pub mod axiom;
 pub mod disjoints;
 pub mod equivalents;
+pub mod prepare;
 pub mod roles;
 pub mod unions;
 

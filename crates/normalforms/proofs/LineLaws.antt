@@ -4,8 +4,7 @@ use mathlib.Core.Bool.{Bool, true, false}
 use mathlib.Core.List.{List, [], _∷_, _++_}
 use Prim.Native.Nat.{ℕ, suc, _+_, _*_, _-_, _<_, _≤_}
 use native.Mathlib.Omega.{arith}
-use lib.ListN.{length, getD, take, drop, length-drop}
-use lib.Seq.{length-take-le}
+use lib.ListN.{length, getD, take, drop}
 use Rattle.ir.specs.Pick.{pick}
 use Rattle.ir.specs.Scratch.{numbersAt}
 use Rattle.rules.specs.Deck.{partsOf}
@@ -17,7 +16,7 @@ use Rattle.pool.specs.Held.{Held}
 use Rattle.pool.specs.HeldLaws.{record-kind, list-within, list-run}
 use Rattle.ontology.specs.Layout.{axiomStart, axiomCount, axiomNumber, axiomRow, axiomAt, axiomsOf, AxiomsHeld}
 use Rattle.rows.specs.Rows.{columnsText, Put}
-use Rattle.rows.specs.RowLaws.{length-columns, length-line, put-line, put-field-first, Left, left-all, left-fits, left-more, left-none}
+use Rattle.rows.specs.RowLaws.{length-line, put-line, put-field-first, Left, left-all, left-fits, left-more, left-none}
 use Rattle.normalforms.specs.Forms.{recordLine, conceptLine, axiomLineOf, conceptsText, axiomsText}
 use Rattle.normalforms.proofs.AxiomLaws.{axiom-line, fields-some}
 
@@ -70,12 +69,6 @@ module _ (w : List ℕ) (n m : ℕ) (H : Held w n m) (c : ℕ) (h : c < n) where
   plain-put {s} {s'} {at} {r} kind role number child a d e f g x =
       let v : kind ∷ role ∷ number ∷ child ∷ [] ≡ field w c 0 ∷ field w c 1 ∷ field w c 2 ∷ field w c 3 ∷ [] = rw (d, e, f, g) refl in
       subst (λ (b : List ℕ). Put s at (fieldsText b) s' r) (v ∙ sym (plain-line a)) x
-
--- a run of words, in its columns
-pub words-long : (w : List ℕ) (start count : ℕ) → start + count ≤ length w → length (columnsText (take count (drop start w))) ≡ 11 * count
-words-long w start count h =
-    let r : count ≤ length (drop start w) = rw (length-drop start w) (omega arith) in
-    length-columns (take count (drop start w)) ∙ ap (λ (k : ℕ). 11 * k) (length-take-le count (drop start w) r)
 
 -- ---- an axiom's line
 module _ (w : List ℕ) (n : ℕ) (A : AxiomsHeld w n) (i : ℕ) (h : i < n) where

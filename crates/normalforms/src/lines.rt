@@ -9,7 +9,6 @@ use pool::record;
 ghost use Prim.Native.Nat.{_+_, _*_, _≤_, _<_};
 ghost use mathlib.Core.Path.{_≡_};
 ghost use mathlib.Core.Bool.{true, false};
-ghost use mathlib.Core.List.{[], _∷_};
 ghost use lib.ListN.{length};
 ghost use Rattle.words.specs.Words.{words};
 ghost use Rattle.ir.specs.Scratch.{linesAt};
@@ -28,24 +27,6 @@ fn is_list(kind: u32) -> bool
         return true;
     }
     kind == OR
-}
-
-fn put_three(out: &mut [u8], at: usize, a: u32, b: u32, c: u32) -> usize
-    requires { ⌜ at + 34 ≤ length (now out) ⌝ }
-    ensures { λ r. ⌜ Put (now (out .entry)) at (fieldsText (a ∷ b ∷ c ∷ [])) (now (out .exit)) r ⌝ }
-{
-    let p = rows::put_field(out, at, a);
-    let q = rows::put_field(out, p, b);
-    let r = rows::put_field(out, q, c);
-    rows::end_line(out, r)
-}
-
-fn put_four(out: &mut [u8], at: usize, a: u32, b: u32, c: u32, d: u32) -> usize
-    requires { ⌜ at + 45 ≤ length (now out) ⌝ }
-    ensures { λ r. ⌜ Put (now (out .entry)) at (fieldsText (a ∷ b ∷ c ∷ d ∷ [])) (now (out .exit)) r ⌝ }
-{
-    let p = rows::put_field(out, at, a);
-    put_three(out, p, b, c, d)
 }
 
 // And or Or, at concept c.
@@ -69,7 +50,7 @@ fn put_record(scratch: &[u8], k: Counters, c: u32, out: &mut [u8], at: usize) ->
     let role = record::role(scratch, c);
     let number = record::number(scratch, c);
     let child = record::child(scratch, c);
-    put_four(out, at, kind, role, number, child)
+    rows::put_four(out, at, kind, role, number, child)
 }
 
 // Concept c.
@@ -130,7 +111,7 @@ pub fn put_normal(scratch: &[u8], k: Counters, n: u32, out: &mut [u8]) -> usize
 {
     let p = put_concepts(scratch, k, out, 0);
     let q = put_axioms(scratch, n, out, p);
-    put_four(out, q, 44, k.visits, k.concepts, k.members)
+    rows::put_four(out, q, 44, k.visits, k.concepts, k.members)
 }
 
 // A refusal.
@@ -139,5 +120,5 @@ pub fn put_refusal(out: &mut [u8], number: u32, line: u32) -> usize
     ensures { λ r. ⌜ Put (now (out .entry)) 0 (refusalText number line) (now (out .exit)) r ⌝ }
     ensures { λ r. ⌜ r ≤ mostText ⌝ }
 {
-    put_three(out, 0, 49, number, line)
+    rows::put_three(out, 0, 49, number, line)
 }

@@ -7,3 +7,4 @@ pub mod KeptLaws
 pub mod AxiomRows
 pub mod AxiomLaws
 pub mod AxiomTurns
+pub mod Loaded

@@ -11,7 +11,7 @@ use lib.Dec.{ltb}
 use borrow.Author.Tests.{lt-ltb, le-ltb}
 use Rattle.words.specs.Runs.{sets-cons, sets-snoc}
 use Rattle.rules.specs.Lister.{decimalWith, decimalBy, decimal, fieldText, fieldsText}
-use Rattle.rows.specs.Rows.{columnsText, Put}
+use Rattle.rows.specs.Rows.{columnsText, Put, textsOf, textsLeft}
 
 pub line-text : (l : List ℕ) → fieldsText l ≡ columnsText l ++ (10 ∷ [])
 unfolding fieldsText columnsText
@@ -165,6 +165,12 @@ unfolding columnsText
 length-columns [] = refl
 length-columns (n ∷ l) = length-append (fieldText n) (columnsText l) ∙ rw (length-field n, length-columns l) (omega arith)
 
+-- a run of words, in its columns
+pub words-long : (w : List ℕ) (start count : ℕ) → start + count ≤ length w → length (columnsText (take count (drop start w))) ≡ 11 * count
+words-long w start count h =
+    let r : count ≤ length (drop start w) = rw (length-drop start w) (omega arith) in
+    length-columns (take count (drop start w)) ∙ ap (λ (k : ℕ). 11 * k) (length-take-le count (drop start w) r)
+
 columns-one : (n : ℕ) → columnsText (n ∷ []) ≡ fieldText n
 unfolding columnsText
 columns-one n = append-nil (fieldText n)
@@ -232,3 +238,27 @@ module _ (s : List ℕ) (at : ℕ) (text : List ℕ) (s' : List ℕ) (p : ℕ) w
 
   pub left-none : Left s at text s' p [] → Put s at text s' p
   left-none l = record { bytes = l .bytes; end = omega (arith, l .end) }
+
+-- ---- the texts of numbers, one after another
+module _ (f : ℕ → List ℕ) (i n : ℕ) where
+  texts-next : i < n → textsLeft f i n ≡ f i ++ textsLeft f (i + 1) n
+  unfolding textsOf
+  texts-next h = let e : n - i ≡ suc (n - (i + 1)) = omega arith in rw e refl
+
+  texts-none : n ≤ i → textsLeft f i n ≡ []
+  unfolding textsOf
+  texts-none h = let e : n - i ≡ 0 = omega arith in rw e refl
+
+  module _ (s : List ℕ) (at : ℕ) (text out : List ℕ) (p : ℕ) where
+    pub text-fits : i < n → Left s at text out p (textsLeft f i n) → at + length text ≤ length s → p + length (f i) ≤ length out
+    text-fits h l = left-fits s at text out p (f i) (textsLeft f (i + 1) n) (subst (Left s at text out p) (texts-next h) l)
+
+    pub text-more : (out' : List ℕ) (q : ℕ) → i < n → Left s at text out p (textsLeft f i n) → Put out p (f i) out' q → Left s at text out' q (textsLeft f (i + 1) n)
+    text-more out' q h l = left-more s at text out p (f i) (textsLeft f (i + 1) n) out' q (subst (Left s at text out p) (texts-next h) l)
+
+    pub texts-end : n ≤ i → Left s at text out p (textsLeft f i n) → Put s at text out p
+    texts-end h l = left-none s at text out p (subst (Left s at text out p) (texts-none h) l)
+
+-- n of them from i on, that is those below m
+pub texts-all : (f : ℕ → List ℕ) (i n m : ℕ) (s : List ℕ) (at : ℕ) → m ≡ i + n → Left s at (textsOf f i n) s at (textsLeft f i m)
+texts-all f i n m s at e = let d : m - i ≡ n = omega arith in rw d (left-all s at (textsOf f i n))

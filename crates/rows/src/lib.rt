@@ -5,7 +5,7 @@ ghost use Prim.Native.Nat.{_+_, _*_, _≤_, _<_};
 ghost use lib.ListN.{length, take, drop, replicate};
 ghost use lib.Seq.{sets};
 ghost use Rattle.words.specs.Words.{words};
-ghost use Rattle.rules.specs.Lister.{fieldText};
+ghost use Rattle.rules.specs.Lister.{fieldText, fieldsText};
 ghost use Rattle.rows.specs.Rows.{columnsText, Put};
 
 // Spaces in n bytes from `at` on.
@@ -66,4 +66,34 @@ pub fn end_line(out: &mut [u8], at: usize) -> usize
 {
     out[at] = 10;
     at + 1
+}
+
+// A number, then n words of a table from word `from` on, as a line.
+pub fn put_row(number: u32, t: &[u8], from: usize, n: usize, out: &mut [u8], at: usize) -> usize
+    requires { ⌜ (4 * (from + n) ≤ length (now t)) × (at + 11 * n + 12 ≤ length (now out)) ⌝ }
+    ensures { λ r. ⌜ Put (now (out .entry)) at (fieldsText (number ∷ take n (drop from (words (now (t .entry)))))) (now (out .exit)) r ⌝ }
+{
+    let p = put_field(out, at, number);
+    let q = put_words(t, from, n, out, p);
+    end_line(out, q)
+}
+
+// Three numbers as a line.
+pub fn put_three(out: &mut [u8], at: usize, a: u32, b: u32, c: u32) -> usize
+    requires { ⌜ at + 34 ≤ length (now out) ⌝ }
+    ensures { λ r. ⌜ Put (now (out .entry)) at (fieldsText (a ∷ b ∷ c ∷ [])) (now (out .exit)) r ⌝ }
+{
+    let p = put_field(out, at, a);
+    let q = put_field(out, p, b);
+    let r = put_field(out, q, c);
+    end_line(out, r)
+}
+
+// And four.
+pub fn put_four(out: &mut [u8], at: usize, a: u32, b: u32, c: u32, d: u32) -> usize
+    requires { ⌜ at + 45 ≤ length (now out) ⌝ }
+    ensures { λ r. ⌜ Put (now (out .entry)) at (fieldsText (a ∷ b ∷ c ∷ d ∷ [])) (now (out .exit)) r ⌝ }
+{
+    let p = put_field(out, at, a);
+    put_three(out, p, b, c, d)
 }

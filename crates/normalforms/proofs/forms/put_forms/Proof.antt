@@ -6,7 +6,8 @@ use Rattle.words.specs.Words.{words}
 use Rattle.rules.specs.Deck.{readDeck}
 use Rattle.rows.specs.Rows.{Put}
 use Rattle.normalforms.specs.Forms.{formsText, mostVisits}
-use Rattle.normalforms.proofs.FormLaws.{as-fine, as-refused, fine-ready, fine-line, fine-text}
+use Rattle.normalize.specs.Loaded.{as-fine, as-refused}
+use Rattle.normalforms.proofs.FormLaws.{fine-ready, fine-line, fine-text}
 use borrow.Author.Needs.{needs}
 use Rattle.normalforms.proofs.forms.put_forms.Statement.{statement}
 use Rattle.normalforms.proofs.forms.put_forms.Tie as tie

@@ -4,7 +4,8 @@ use native.Mathlib.Omega.{arith}
 use Rattle.words.specs.Words.{words}
 use Rattle.words.specs.Laws.{length-words}
 use Rattle.ir.specs.Scratch.{numbersAt}
-use Rattle.normalforms.proofs.LineLaws.{axiom-long, axiom-put, words-long}
+use Rattle.rows.specs.RowLaws.{words-long}
+use Rattle.normalforms.proofs.LineLaws.{axiom-long, axiom-put}
 use borrow.Author.Needs.{needs}
 use Rattle.normalforms.proofs.lines.put_axiom.Statement.{statement}
 use Rattle.normalforms.proofs.lines.put_axiom.Tie as tie

@@ -3,8 +3,8 @@ use Prim.Native.Nat.{ℕ, _+_}
 use native.Mathlib.Omega.{arith}
 use Rattle.words.specs.Words.{words}
 use Rattle.pool.specs.Layout.{membersAt}
-use Rattle.rows.specs.RowLaws.{length-field}
-use Rattle.normalforms.proofs.LineLaws.{list-long, list-room, list-put, words-long}
+use Rattle.rows.specs.RowLaws.{words-long, length-field}
+use Rattle.normalforms.proofs.LineLaws.{list-long, list-room, list-put}
 use borrow.Author.Needs.{needs}
 use Rattle.normalforms.proofs.lines.put_list.Statement.{statement}
 use Rattle.normalforms.proofs.lines.put_list.Tie as tie

@@ -1,9 +1,9 @@
 use native.Mathlib.Omega.{arith}
 use mathlib.Core.List.{[], _∷_}
 use Rattle.rows.specs.RowLaws.{length-field, put-field-first}
 use borrow.Author.Needs.{needs}
-use Rattle.normalforms.proofs.lines.put_four.Statement.{statement}
-use Rattle.normalforms.proofs.lines.put_four.Tie as tie
+use Rattle.rows.proofs.put_four.Statement.{statement}
+use Rattle.rows.proofs.put_four.Tie as tie
 
 put-field-requires : tie.Need-put-field-requires
 put-field-requires c κs = search needs
