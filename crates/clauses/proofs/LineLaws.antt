@@ -15,8 +15,10 @@ use Rattle.rules.specs.Lister.{fieldsText, clausesText}
 use Rattle.tables.specs.Drawn.{padded, Tables, tables, show}
 use Rattle.rows.specs.Rows.{Put, textsOf}
 use Rattle.rows.specs.RowLaws.{length-line, put-then}
-use Rattle.listing.specs.Listing.{Tabled, Listable}
-use Rattle.listing.specs.ListingLaws.{At, at-front, at-back, at-long, clauses-long, tabled-clauses, tabled-total, shown-tabled}
+use Rattle.tables.specs.Tabled.{Tabled}
+use Rattle.listing.specs.Listing.{Listable}
+use Rattle.tables.specs.TabledLaws.{At, at-front, at-back, at-long}
+use Rattle.listing.specs.ListingLaws.{clauses-long, tabled-clauses, tabled-total, shown-tabled}
 use Rattle.clauses.specs.Stage.{deferralsText, sumsLine, stateText, lent, mostText, Deferring, Shows}
 
 -- ---- deferrals

@@ -25,33 +25,20 @@ use Rattle.deck.proofs.KindLaws.{axiom-kinds}
 use Rattle.pool.specs.Held.{Held}
 use Rattle.pool.specs.Tabs.{tab-each}
 use Rattle.hands.specs.Hands.{Four, Did}
+use Rattle.inverse.specs.AxiomLaws.{code-small}
 use Rattle.axioms.specs.RoleAxioms.{handAt, domainOrRange}
 use Rattle.axioms.specs.Pairs.{unencoded}
 use Rattle.axioms.specs.Wholes.{shownWhole, standing, Clausified}
 use Rattle.axioms.specs.WholeLaws.{did-clausified}
+use Rattle.axioms.specs.OnwardLaws.{clausified-is}
 use Rattle.clausifier.specs.Listed.{Listed}
 use Rattle.clausifier.specs.Rows.{rowAxiom, Row}
 use Rattle.clausifier.specs.RowLaws.{sub-class-is, equivalent-is, disjoint-is, union-is, domain-is, range-is}
 
 -- ---- rules that do the same
-pub clausified-as : (rule rule' : Env → C (Unit {0})) (k : Counters) (x y : Four) (r : Answer) → ((env : Env) (z : Clausifier) → rule env z ≡ rule' env z) → Clausified rule k x y r → Clausified rule' k x y r
-clausified-as rule rule' k x y r f D = record {
-  equal = λ env s E t. D .equal env s E t ∙ ap (shownWhole (λ _. 0) k (env .rooms)) (f env (standing k x s));
-  untouched = D .untouched;
-  onward = D .onward;
-}
-
 -- the axiom is another's
 pub axiom-as : (a b : Axiom) (k : Counters) (x y : Four) (r : Answer) → a ≡ b → Clausified (λ env. clausifyAxiom env b) k x y r → Clausified (λ env. clausifyAxiom env a) k x y r
 axiom-as a b k x y r e D = subst (λ (c : Axiom). Clausified (λ env. clausifyAxiom env c) k x y r) (sym e) D
-
--- the code of a role of the deck
-pub code-small : (B : Bounds) (c : ℕ) → B .roles ≤ mostRoles → RoleIn B (roleOf c) → c < 2 * mostRoles
-code-small B c l h = by (eqb (c % 2) 0) refl
-  where
-    by : (b : Bool) → eqb (c % 2) 0 ≡ b → c < 2 * mostRoles
-    by true e = let q : c / 2 < B .roles = rw e at h in omega arith
-    by false e = let q : c / 2 < B .roles = rw e at h in omega arith
 
 -- ---- over classes
 module _ (w : List ℕ) (k : Counters) (kind at count : ℕ) (R : Row w k kind at count) where
@@ -123,7 +110,7 @@ module _ (w : List ℕ) (k : Counters) (kind at count : ℕ) (R : Row w k kind a
 -- a rule that only reads the pool
 pub did-arm : (rule : Env → Pool → E (Unit {0})) (a : Axiom) (k : Counters) (x y : Four) (r : Answer) → Held (x .scratch) (k .concepts) (k .members) → ((env : Env) (z : Clausifier) → inOut (rule env) z ≡ clausifyAxiom env a z)
     → Did (λ _. 0) 0 (λ env f b s. rule env (poolOf (x .scratch) (k .concepts)) s) k handAt 0 x y r → Clausified (λ env. clausifyAxiom env a) k x y r
-did-arm rule a k x y r H f D = clausified-as (λ env. inOut (rule env)) (λ env. clausifyAxiom env a) k x y r f (did-clausified rule k x y r H D)
+did-arm rule a k x y r H f D = clausified-is (λ env. inOut (rule env)) (λ env. clausifyAxiom env a) k x y r f (did-clausified rule k x y r H D)
 
 -- the last two over classes
 abbrev Last : ℕ → Type 0

@@ -33,7 +33,8 @@ use Rattle.axioms.specs.Wholes.{Clausified}
 use Rattle.clausifier.specs.Listed.{RolesListed, pairDisjoint}
 use Rattle.clausifier.specs.Rows.{rowAxiom, Row}
 use Rattle.clausifier.specs.RowLaws.{chain-is, transitive-is, irreflexive-is, asymmetric-is, disjoint-roles-is}
-use Rattle.clausifier.specs.ArmLaws.{axiom-as, did-arm, ok-fields, of-kind, code-small}
+use Rattle.inverse.specs.AxiomLaws.{code-small}
+use Rattle.clausifier.specs.ArmLaws.{axiom-as, did-arm, ok-fields, of-kind}
 
 each-unmapped : {A B : Type 0} (P : B → Type 0) (f : A → B) (l : List A) → Each P (map f l) → Each (λ x. P (f x)) l
 each-unmapped P f [] h = tt

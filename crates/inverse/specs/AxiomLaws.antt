@@ -48,7 +48,7 @@ module _ (w : List ℕ) (n i : ℕ) (H : AxiomsHeld w n) (h : i < n) (k : axiomN
       ∙ ap (λ (x : ℕ). InverseObjectProperties (roleOf (axiomNumber w i 1)) (roleOf x)) (number 2 (omega arith))
 
 -- the code of a role of the deck
-code-small : (B : Bounds) (c : ℕ) → B .roles ≤ mostRoles → RoleIn B (roleOf c) → c < 2 * mostRoles
+pub code-small : (B : Bounds) (c : ℕ) → B .roles ≤ mostRoles → RoleIn B (roleOf c) → c < 2 * mostRoles
 code-small B c l h = by (eqb (c % 2) 0) refl
   where
     by : (b : Bool) → eqb (c % 2) 0 ≡ b → c < 2 * mostRoles

@@ -6,7 +6,8 @@ ghost use Rattle.words.specs.Words.{words};
 ghost use Rattle.rules.specs.State.{Clause};
 ghost use Rattle.rules.specs.Lister.{clausesText};
 ghost use Rattle.rows.specs.Rows.{Put, textsOf};
-ghost use Rattle.listing.specs.Listing.{Tabled, Listable, firstAtom, atomCount, atomText, clauseText};
+ghost use Rattle.tables.specs.Tabled.{Tabled, firstAtom, atomCount};
+ghost use Rattle.listing.specs.Listing.{Listable, atomText, clauseText};
 
 // n atoms from atom `first` on.
 fn put_atoms(atoms: &[u8], first: usize, n: usize, out: &mut [u8], at: usize) -> usize

@@ -1,3 +1,5 @@
 pub mod Drawn
 pub mod DrawnLaws
 pub mod Good
+pub mod Tabled
+pub mod TabledLaws

@@ -1,0 +1,8 @@
+// clause.rs: what decompose_wide_bodies calls.
+pub mod group;
+pub mod layout;
+pub mod memo;
+pub mod pack;
+pub mod renumber;
+pub mod tree;
+pub mod vars;

@@ -1,0 +1,2 @@
+// clause.rs: reflexive_role_ids.
+pub mod ids;
