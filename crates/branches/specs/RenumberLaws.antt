@@ -102,7 +102,7 @@ read-at m w w' base count i l e b A h =
     let g : At w' (6 * base) (flat l) = run-kept m w w' (6 * base) (length (flat l)) e (omega (arith, flat-long l, A .long)) ∙ A .there in
     record { atom = s .0; split = s .1; read = atom-read w' (base + i) (s .0) (drop (i + 1) l) (rw (s .1) at (at-drop w' base i l (omega (arith, A .long)) g)) }
 
-each-drop : (l : List Atom) (i : ℕ) (a : Atom) (t : List Atom) → Each Tame l → drop i l ≡ a ∷ t → Tame a
+pub each-drop : (l : List Atom) (i : ℕ) (a : Atom) (t : List Atom) → Each Tame l → drop i l ≡ a ∷ t → Tame a
 each-drop [] zero a t p e = absurd (let z : _≡_ {A = ℕ} 0 (suc (length t)) = ap length e in omega arith)
 each-drop [] (suc i) a t p e = absurd (let z : _≡_ {A = ℕ} 0 (suc (length t)) = ap length e in omega arith)
 each-drop (b ∷ l) zero a t p e = let q : b ≡ a = cc in subst Tame q (p .0)
