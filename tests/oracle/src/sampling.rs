@@ -2,13 +2,15 @@
 
 use std::collections::BTreeMap;
 use std::error::Error;
+use std::fs;
+use std::io::{Read, Write};
 use std::path::Path;
 
 use deck::damage::{damage, over_limit};
 use deck::generate::{Shape, any, forms_at_limits, generate};
 use deck::random::Random;
 use samples::run;
-use samples::sample::{Case, Stored};
+use samples::sample::{Case, Stored, write};
 
 /// The original's answer to a deck.
 pub struct Original {
@@ -18,6 +20,42 @@ pub struct Original {
     pub answer: Vec<String>,
     /// What else is counted.
     pub notes: Vec<String>,
+}
+
+const USAGE: &str = "\
+list                        the original's answer to the deck on standard input
+deck SEED                   the deck of a seed
+compare PROGRAM SEED COUNT  the program and the original on COUNT decks, of SEED and the seeds after it
+sample FILE SEED COUNT      a sample of the decks of such a run
+";
+
+/// Does what the arguments of the process ask for. `each`: as in [`sampled`].
+///
+/// # Errors
+/// If the arguments are others, or if what they ask for fails.
+pub fn command(
+    each: [usize; 2],
+    original: impl Fn(&[u8]) -> Original,
+) -> Result<(), Box<dyn Error>> {
+    let arguments: Vec<String> = std::env::args().skip(1).collect();
+    let words: Vec<&str> = arguments.iter().map(String::as_str).collect();
+    match *words.as_slice() {
+        ["list"] => {
+            let mut deck = Vec::new();
+            std::io::stdin().read_to_end(&mut deck)?;
+            std::io::stdout().write_all(&original(&deck).text)?;
+        }
+        ["deck", seed] => std::io::stdout().write_all(&drawn(seed.parse()?).1)?,
+        ["compare", program, seed, count] => {
+            compare(Path::new(program), seed.parse()?, count.parse()?, original)?;
+        }
+        ["sample", file, seed, count] => {
+            let cases = sampled(seed.parse()?, count.parse()?, each, original);
+            fs::write(file, write(&cases))?;
+        }
+        _ => return Err(USAGE.into()),
+    }
+    Ok(())
 }
 
 /// The deck of a seed, and what it is.

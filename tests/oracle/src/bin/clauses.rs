@@ -1,41 +1,12 @@
 //! The program `clauses` beside the original, on generated decks.
 
 use std::error::Error;
-use std::fs;
-use std::io::{Read, Write};
-use std::path::Path;
 
-use oracle::sampling::{Original, compare, drawn, sampled};
+use oracle::sampling::{Original, command};
 use oracle::{Clauses, Limits, clauses};
-use samples::sample;
-
-const USAGE: &str = "\
-clauses list                        the clauses of the deck on standard input, before the later passes
-clauses deck SEED                   the deck of a seed
-clauses compare PROGRAM SEED COUNT  the program and the original on COUNT decks, of SEED and the seeds after it
-clauses sample FILE SEED COUNT      a sample of the decks of such a run
-";
 
 fn main() -> Result<(), Box<dyn Error>> {
-    let arguments: Vec<String> = std::env::args().skip(1).collect();
-    let words: Vec<&str> = arguments.iter().map(String::as_str).collect();
-    match *words.as_slice() {
-        ["list"] => {
-            let mut deck = Vec::new();
-            std::io::stdin().read_to_end(&mut deck)?;
-            std::io::stdout().write_all(&clauses(&deck, &LIMITS).text)?;
-        }
-        ["deck", seed] => std::io::stdout().write_all(&drawn(seed.parse()?).1)?,
-        ["compare", program, seed, count] => {
-            compare(Path::new(program), seed.parse()?, count.parse()?, original)?;
-        }
-        ["sample", file, seed, count] => {
-            let cases = sampled(seed.parse()?, count.parse()?, [1, 2], original);
-            fs::write(file, sample::write(&cases))?;
-        }
-        _ => return Err(USAGE.into()),
-    }
-    Ok(())
+    command([1, 2], original)
 }
 
 /// The tables that the program lends.
