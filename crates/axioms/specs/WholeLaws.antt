@@ -1,13 +1,12 @@
 -- From a rule that only reads the pool to one of the clausifier. Assumes nothing.
-use mathlib.Core.Path.{_≡_, refl, sym, ap, subst, _∙_}
+use mathlib.Core.Path.{_≡_, refl, sym, ap, _∙_}
 use mathlib.Core.List.{List, [], append-nil}
 use Prim.{tt}
 use Prim.Native.Nat.{ℕ, _+_, _*_, _<_, _≤_}
 use native.Mathlib.Omega.{arith}
-use lib.ListN.{length, getD, take}
+use lib.ListN.{length, take}
 use Rattle.words.specs.Words.{words}
 use Rattle.ir.specs.Scratch.{handsAt}
-use Rattle.ir.specs.Counts.{counters}
 use Rattle.ir.specs.declared.counters.Counters.{Counters}
 use Rattle.ir.specs.declared.answer.Answer.{Answer}
 use Rattle.ir.specs.declared.answer.Answer.the-variants.{Done, Refused}
@@ -29,7 +28,7 @@ use Rattle.hands.specs.Hands.{InHand, Four, Did}
 use Rattle.antecedents.specs.WriteLaws.{hands-word, hands-pool}
 use Rattle.axioms.specs.RoleAxioms.{handAt}
 use Rattle.axioms.specs.BodyLaws.{encoding-kept}
-use Rattle.axioms.specs.Wholes.{Whole, whole, drawn, shownWhole, afterWhole, standing, Clausifying, ClausifyingAfter, Untouched, OnwardAnswer, Clausified}
+use Rattle.axioms.specs.Wholes.{Whole, drawn, shownWhole, afterWhole, standing, Clausifying, ClausifyingAfter, Untouched, OnwardAnswer, Clausified}
 
 -- counters with the sizes of their own pool
 pub sized-own : (w : List ℕ) (k : Counters) → Held w (k .concepts) (k .members) → sized k (poolOf w (k .concepts)) ≡ k

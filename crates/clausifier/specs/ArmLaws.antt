@@ -18,8 +18,8 @@ use Rattle.rules.specs.Concept.{Axiom, SubClassOf, EquivalentClasses, DisjointC
 use Rattle.rules.specs.Pool.{Pool}
 use Rattle.rules.specs.Deck.{mostRoles, sectionOf, fieldsOk}
 use Rattle.rules.specs.State.{Env, E}
-use Rattle.rules.specs.Axioms.{Clausifier, C, inOut, orderedPairs, laterPairs, clausifyGci, disjointPair, clausifyAxiom}
-use Rattle.rules.specs.Invariants.{Each, Bounds, RoleIn, AxiomIn}
+use Rattle.rules.specs.Axioms.{Clausifier, inOut, orderedPairs, laterPairs, clausifyGci, disjointPair, clausifyAxiom}
+use Rattle.rules.specs.Invariants.{Each, RoleIn, AxiomIn}
 use Rattle.pool.specs.Layout.{run, poolOf}
 use Rattle.deck.proofs.KindLaws.{axiom-kinds}
 use Rattle.pool.specs.Held.{Held}
@@ -28,7 +28,7 @@ use Rattle.hands.specs.Hands.{Four, Did}
 use Rattle.inverse.specs.AxiomLaws.{code-small}
 use Rattle.axioms.specs.RoleAxioms.{handAt, domainOrRange}
 use Rattle.axioms.specs.Pairs.{unencoded}
-use Rattle.axioms.specs.Wholes.{shownWhole, standing, Clausified}
+use Rattle.axioms.specs.Wholes.{Clausified}
 use Rattle.axioms.specs.WholeLaws.{did-clausified}
 use Rattle.axioms.specs.OnwardLaws.{clausified-is}
 use Rattle.clausifier.specs.Listed.{Listed}

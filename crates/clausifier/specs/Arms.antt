@@ -4,7 +4,7 @@ use Prim.Native.Nat.{ℕ, _<_, _≤_}
 use Rattle.ir.specs.declared.counters.Counters.{Counters}
 use Rattle.rules.specs.Deck.{mostClasses, mostRoles}
 use Rattle.rules.specs.Invariants.{Each, Bounds, AxiomIn}
-use Rattle.ontology.specs.Layout.{axiomAt, axiomsOf, AxiomsHeld}
+use Rattle.ontology.specs.Layout.{axiomsOf, AxiomsHeld}
 
 pub record AxiomsOf (w : List ℕ) (k : Counters) (n : ℕ) : Type 0 where
   pub bounds : Bounds

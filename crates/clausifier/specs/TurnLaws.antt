@@ -16,11 +16,11 @@ use Rattle.rules.specs.Axioms.{Clausifier, C, inOut}
 use Rattle.pool.specs.Layout.{poolOf}
 use Rattle.pool.specs.Held.{Held}
 use Rattle.pool.specs.Answers.{sized}
-use Rattle.tables.specs.Drawn.{Tables, tables, show, Sized}
+use Rattle.tables.specs.Drawn.{tables, show, Sized}
 use Rattle.hands.specs.Hands.{Four, four, EnvHeld, Did}
 use Rattle.leaves.specs.StepLaws.{words-long, lent-kept}
 use Rattle.axioms.specs.RoleAxioms.{handAt}
-use Rattle.axioms.specs.Wholes.{Whole, whole, drawn, shownWhole, afterWhole, standing, Clausifying, ClausifyingAfter, Untouched, Onward, OnwardAnswer, Clausified}
+use Rattle.axioms.specs.Wholes.{Whole, whole, drawn, shownWhole, afterWhole, standing, Clausifying, ClausifyingAfter, Untouched, Onward, Clausified}
 use Rattle.axioms.specs.WholeLaws.{Standing, show-same, drawn-same, sized-own, did-clausified, clausifying-after}
 use Rattle.axioms.specs.OnwardLaws.{env-untouched, untouched-same, untouched-then, onward-same, onward-then, onward-answer, shown-same}
 use Rattle.clausifier.specs.Turns.{SameLong, Answered, Passed, DidTurn, Turned}

@@ -12,7 +12,7 @@ use Rattle.ir.specs.Scratch.{marksAt, keysAt, stackAt, handsAt}
 use Rattle.ir.specs.declared.counters.Counters.{Counters}
 use Rattle.ir.specs.declared.answer.Answer.{Answer}
 use Rattle.ir.specs.declared.answer.Answer.the-variants.{Done, Refused}
-use Rattle.rules.specs.Base.{Res, ok, refused, M, then, each}
+use Rattle.rules.specs.Base.{Res, ok, refused, M, then}
 use Rattle.rules.specs.Pool.{Pool, mkAnd, mkOr}
 use Rattle.rules.specs.Normalize.{St, N, backIn, inPool}
 use Rattle.rules.specs.Post.{Post, gives, refuses, give, post-then}
@@ -21,7 +21,7 @@ use Rattle.rules.specs.EachLaws.{each-snoc}
 use Rattle.rules.specs.PoolLaws.{grown-refl, grown-trans, grown-length, and-made, or-made}
 use Rattle.rules.specs.NormalizeLaws.{Ran, ran-refl, negation-done}
 use Rattle.rules.specs.AxiomLaws.{PoolRan}
-use Rattle.pool.specs.Layout.{run, poolOf}
+use Rattle.pool.specs.Layout.{poolOf}
 use Rattle.pool.specs.HeldLaws.{word-above}
 use Rattle.pool.specs.Answers as Pools
 use Rattle.pool.specs.Answers.{after, HeldAfter}

@@ -3,7 +3,7 @@ use mathlib.Core.Path.{_≡_}
 use mathlib.Core.List.{List, [], _∷_, _++_}
 use Prim.{Unit}
 use Prim.Native.Nat.{ℕ, _+_, _*_, _<_, _≤_}
-use lib.ListN.{length, getD}
+use lib.ListN.{getD}
 use Rattle.words.specs.Words.{words}
 use Rattle.ir.specs.Scratch.{keysAt, stackAt, handsAt}
 use Rattle.ir.specs.declared.counters.Counters.{Counters}

@@ -2,7 +2,7 @@
 use mathlib.Core.Path.{_≡_}
 use mathlib.Core.List.{List, _∷_, _++_}
 use Prim.Native.Nat.{ℕ, _+_, _*_, _≤_}
-use lib.ListN.{length, getD, take, drop}
+use lib.ListN.{take, drop}
 use Rattle.rules.specs.State.{Clause, total}
 use Rattle.rules.specs.Lister.{fieldsText}
 use Rattle.rows.specs.Rows.{textsOf}
