@@ -10,7 +10,7 @@ ghost use Rattle.tables.specs.Good.{Good};
 ghost use Rattle.antecedents.specs.Stands.{Stands, Listed, Counts, CountsAll};
 
 // The parts of an And (both) or Or, in order.
-fn count_parts(
+fn encode_parts(
     scratch: &[u8],
     k: Counters,
     c: u32,
@@ -30,14 +30,14 @@ fn count_parts(
             return acc;
         };
         let x = record::member(scratch, at);
-        let r = count_alternatives(scratch, k1, x);
+        let r = encode_antecedent(scratch, k1, x);
         acc = numbers::join_numbers(both, m, l, r);
         i += 1;
     }
     acc
 }
 
-pub fn count_alternatives(scratch: &[u8], k: Counters, c: u32) -> Encoded
+pub fn encode_antecedent(scratch: &[u8], k: Counters, c: u32) -> Encoded
     requires { ⌜ Stands (now scratch) c × Good k ⌝ }
     ensures { λ r. ⌜ Counts (words (now (scratch .entry))) k c r ⌝ }
 {
@@ -51,11 +51,11 @@ pub fn count_alternatives(scratch: &[u8], k: Counters, c: u32) -> Encoded
         1 => Encoded::Found(v, 1, 0),
         3 => Encoded::Found(v, 1, 1),
         4 => Encoded::Found(v, 1, 1),
-        7 => count_parts(scratch, v, c, b, a, 1, true),
-        8 => count_parts(scratch, v, c, b, a, 0, false),
+        7 => encode_parts(scratch, v, c, b, a, 1, true),
+        8 => encode_parts(scratch, v, c, b, a, 0, false),
         9 => {
             let w = v.fresh_var();
-            let r = count_alternatives(scratch, w, b);
+            let r = encode_antecedent(scratch, w, b);
             numbers::put_under(r)
         }
         _ => Encoded::Unsupported(v),

@@ -26,7 +26,7 @@ pub fn encode_antecedent(scratch: &[u8], k: Counters, c: u32) -> Encoded
     requires { ⌜ Ready (now scratch) k × (c < k .concepts) × Good k ⌝ }
     ensures { λ r. ⌜ ((env : Env) (f v : ℕ) (s : Out) → c < f → Counted k s → r ≡ summary k (encodeBy env (poolOf (words (now (scratch .entry))) (k .concepts)) f c v s)) × GoodEncoded r ⌝ }
 {
-    count::count_alternatives(scratch, k, c)
+    count::encode_antecedent(scratch, k, c)
 }
 
 // Fills the rows of the concepts from `from` on.

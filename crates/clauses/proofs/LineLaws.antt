@@ -19,7 +19,8 @@ use Rattle.tables.specs.Tabled.{Tabled}
 use Rattle.listing.specs.Listing.{Listable}
 use Rattle.tables.specs.TabledLaws.{At, at-front, at-back, at-long}
 use Rattle.listing.specs.ListingLaws.{clauses-long, tabled-clauses, tabled-total, shown-tabled}
-use Rattle.clauses.specs.Stage.{deferralsText, sumsLine, stateText, lent, mostText, Deferring, Shows}
+use Rattle.staging.specs.Stage.{Shows}
+use Rattle.clauses.specs.Stage.{deferralsText, sumsLine, stateText, lent, mostText, Deferring}
 
 -- ---- deferrals
 -- record i of the table's words, as a line

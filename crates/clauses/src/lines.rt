@@ -8,7 +8,8 @@ ghost use Rattle.rules.specs.State.{Deferred};
 ghost use Rattle.rules.specs.Axioms.{Clausifier};
 ghost use Rattle.rules.specs.Lister.{fieldsText};
 ghost use Rattle.rows.specs.Rows.{Put};
-ghost use Rattle.clauses.specs.Stage.{deferralsText, stateText, refusalText, lent, mostText, Deferring, Shows, Showing};
+ghost use Rattle.staging.specs.Stage.{Shows, Showing};
+ghost use Rattle.clauses.specs.Stage.{deferralsText, stateText, refusalText, lent, mostText, Deferring};
 
 // The first n deferrals, from byte `at` on; where they end.
 fn put_deferrals(deferrals: &[u8], n: u32, out: &mut [u8], at: usize) -> usize

@@ -1,6 +1,5 @@
 // The text of a deck's clauses.
 use crate::lines;
-use clausifier::prepare;
 use ir::answer::Lined;
 use ir::counters::Counters;
 use ontology::load;
@@ -9,40 +8,13 @@ ghost use Prim.Native.Nat.{_+_, _*_, _≤_};
 ghost use lib.ListN.{length};
 ghost use Rattle.words.specs.Words.{words};
 ghost use Rattle.ir.specs.Scratch.{handsAt};
-ghost use Rattle.rules.specs.State.{Rooms};
 ghost use Rattle.rules.specs.Deck.{readDeck};
 ghost use Rattle.rows.specs.Rows.{Put};
-ghost use Rattle.tables.specs.Drawn.{Sized};
 ghost use Rattle.clausifier.specs.Prepare.{Preparing};
-ghost use Rattle.clauses.specs.Stage.{staged, linedText, stageText, lent, mostText, StagedAs, Blank};
+ghost use Rattle.staging.specs.Stage.{staged, Blank};
+ghost use Rattle.clauses.specs.Stage.{linedText, stageText, lent, mostText};
 
-// The clauses of a deck that was read.
-fn clausify(
-    scratch: &mut [u8],
-    clauses: &mut [u8],
-    atoms: &mut [u8],
-    deferrals: &mut [u8],
-    k: Counters,
-    n: u32,
-) -> Lined
-    requires { ⌜ Preparing (now scratch) k n × Sized (length (now clauses)) (length (now atoms)) (length (now deferrals)) ⌝ }
-    ensures { λ r. ⌜ ((P : Preparing (now (scratch .entry)) k n) (rooms : Rooms) → Blank rooms (words (now (clauses .entry))) (words (now (atoms .entry))) (words (now (deferrals .entry))) → StagedAs (P .limit) rooms (P .known) (words (now (clauses .exit))) (words (now (atoms .exit))) (words (now (deferrals .exit))) r) ⌝ }
-{
-    match prepare::prepare(scratch, k, n) {
-        Lined::Finished(v) => clausifier::clausify_axioms(
-            scratch,
-            clauses,
-            atoms,
-            deferrals,
-            v,
-            n,
-            k.line,
-        ),
-        Lined::Stopped(e, line) => Lined::Stopped(e, line),
-    }
-}
-
-// Their text.
+// The text of the clauses of a deck that was read.
 fn put_clausified(
     scratch: &mut [u8],
     clauses: &mut [u8],
@@ -56,7 +28,7 @@ fn put_clausified(
     ensures { λ r. ⌜ ((P : Preparing (now (scratch .entry)) k n) → Put (now (out .entry)) 0 (linedText (staged (P .limit) lent (P .known))) (now (out .exit)) r) ⌝ }
     ensures { λ r. ⌜ r ≤ mostText ⌝ }
 {
-    match clausify(scratch, clauses, atoms, deferrals, k, n) {
+    match staging::clausify_deck(scratch, clauses, atoms, deferrals, k, n) {
         Lined::Finished(v) => lines::put_state(clauses, atoms, deferrals, v, out),
         Lined::Stopped(e, line) => lines::put_refusal(out, e, line),
     }

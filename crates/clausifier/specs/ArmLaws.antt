@@ -31,7 +31,7 @@ use Rattle.axioms.specs.Pairs.{unencoded}
 use Rattle.axioms.specs.Wholes.{Clausified}
 use Rattle.axioms.specs.WholeLaws.{did-clausified}
 use Rattle.axioms.specs.OnwardLaws.{clausified-is}
-use Rattle.clausifier.specs.Listed.{Listed}
+use Rattle.lists.specs.Listed.{Listed}
 use Rattle.clausifier.specs.Rows.{rowAxiom, Row}
 use Rattle.clausifier.specs.RowLaws.{sub-class-is, equivalent-is, disjoint-is, union-is, domain-is, range-is}
 

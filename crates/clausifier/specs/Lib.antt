@@ -1,4 +1,3 @@
-pub mod Listed
 pub mod Arms
 pub mod All
 pub mod Rows
@@ -7,13 +6,6 @@ pub mod ArmLaws
 pub mod RoleArmLaws
 pub mod KeptLaws
 pub mod AllLaws
-pub mod Turns
-pub mod TurnLaws
-pub mod ListTurns
-pub mod PairLaws
-pub mod WordLaws
-pub mod CallLaws
-pub mod UnionTurns
 pub mod KeptAxioms
 pub mod Prepare
 pub mod PrepareLaws

@@ -41,6 +41,7 @@ pub record Prepared (d : Known) (limit : ℕ) (s : List ℕ) (k : Counters) (n :
   pub normal : List Axiom
   pub state : St
   pub made : normalized d limit ≡ done normal state
+  pub options : k .options ≡ d .header .options
   pub clausifying : Clausifying s k
   pub axioms : AxiomsOf (words s) k n
   pub listed : axiomsOf (words s) n ≡ normal

@@ -258,6 +258,7 @@ module _ (d : Known) (limit : ℕ) (s : List ℕ) (v : Counters) (n : ℕ) (N : 
           normal = axiomsOf (words s) n;
           state = N .told .state;
           made = N .told .made;
+          options = ap (λ (j : Counters). j .options) (N .told .counters);
           clausifying = clausifying-is;
           axioms = axioms-of;
           listed = axioms-is;

@@ -30,7 +30,7 @@ use Rattle.hands.specs.Hands.{Four, four, Did}
 use Rattle.leaves.specs.StepLaws.{alike-same}
 use Rattle.axioms.specs.RoleAxioms.{handAt, irreflexive, notBoth}
 use Rattle.axioms.specs.Wholes.{Clausified}
-use Rattle.clausifier.specs.Listed.{RolesListed, pairDisjoint}
+use Rattle.lists.specs.Listed.{RolesListed, pairDisjoint}
 use Rattle.clausifier.specs.Rows.{rowAxiom, Row}
 use Rattle.clausifier.specs.RowLaws.{chain-is, transitive-is, irreflexive-is, asymmetric-is, disjoint-roles-is}
 use Rattle.inverse.specs.AxiomLaws.{code-small}

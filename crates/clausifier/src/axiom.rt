@@ -1,8 +1,4 @@
 // clausify_axiom: the arms, over the numbers of an axiom.
-use crate::disjoints;
-use crate::equivalents;
-use crate::roles as role_lists;
-use crate::unions;
 use axioms::domain;
 use axioms::roles;
 use inclusions::gci;
@@ -10,6 +6,10 @@ use ir::answer::Answer;
 use ir::counters::Counters;
 use ir::deferral::Deferral;
 use ir::scratch::NUMBERS;
+use lists::disjoints;
+use lists::equivalents;
+use lists::roles as role_lists;
+use lists::unions;
 use ontology::axiom;
 ghost use Prim.Native.Nat.{_<_, _≤_};
 ghost use lib.ListN.{length};

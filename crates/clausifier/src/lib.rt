@@ -1,10 +1,6 @@
 // clause.rs: clausify_axiom over all axioms, in the deck's order.
 pub mod axiom;
-pub mod disjoints;
-pub mod equivalents;
 pub mod prepare;
-pub mod roles;
-pub mod unions;
 
 use ir::answer::Answer;
 use ir::answer::Lined;

@@ -2,7 +2,7 @@
 use inverse::build;
 use ir::answer::Lined;
 use ir::counters::Counters;
-use normalize::axioms as forms;
+use normalize::forms;
 ghost use Rattle.clausifier.specs.Prepare.{Preparing, PreparedAs};
 
 // The axioms become their normal forms; then the role map and the rows of the antecedents. The counters are those before the first axiom.

@@ -2,7 +2,7 @@
 use crate::lines;
 use ir::answer::Lined;
 use ir::counters::Counters;
-use normalize::axioms;
+use normalize::forms;
 use ontology::load;
 use ontology::load::Loaded;
 ghost use Prim.Native.Nat.{_*_, _≤_};
@@ -23,7 +23,7 @@ fn put_normalized(scratch: &mut [u8], k: Counters, n: u32, out: &mut [u8]) -> us
     ensures { λ r. ⌜ Put (now (out .entry)) 0 (linedText (nnfAxioms (k .line) (axiomsOf (words (now (scratch .entry))) n) (stateOf k (words (now (scratch .entry)))))) (now (out .exit)) r ⌝ }
     ensures { λ r. ⌜ r ≤ mostText ⌝ }
 {
-    match axioms::nnf_axioms(scratch, k, n, k.line) {
+    match forms::nnf_axioms(scratch, k, n, k.line) {
         Lined::Finished(v) => lines::put_normal(scratch, v, n, out),
         Lined::Stopped(e, line) => lines::put_refusal(out, e, line),
     }

@@ -1,5 +1,5 @@
 // normalize.rs: negation normal form over the pool in scratch.
-pub mod axioms;
+pub mod forms;
 pub mod nnf;
 mod parts;
 mod rebuild;

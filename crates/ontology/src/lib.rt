@@ -1,6 +1,6 @@
 // What an accepted deck says, in scratch: concept records in the pool, axioms and key marks.
 pub mod axiom;
-mod axioms;
+mod axiom_lines;
 mod concepts;
 pub mod key;
 mod keys;

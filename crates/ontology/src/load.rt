@@ -1,5 +1,5 @@
 // The way of a deck's bytes into scratch.
-use crate::axioms;
+use crate::axiom_lines;
 use crate::concepts;
 use crate::keys;
 use crate::lines::TABLE;
@@ -55,7 +55,7 @@ fn load_lines(deck: &[u8], scratch: &mut [u8], st: State, limit: u32) -> Loaded
     let k = concepts::load_concepts(deck, scratch, start, st.concepts);
     keys::load_keys(deck, scratch, st);
     let axioms = st.axioms;
-    axioms::load_axioms(deck, scratch, axioms);
+    axiom_lines::load_axioms(deck, scratch, axioms);
     let count = axioms as u32;
     Loaded::Accepted(k, count)
 }

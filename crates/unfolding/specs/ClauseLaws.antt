@@ -27,11 +27,11 @@ use Rattle.tables.specs.Drawn.{padded, Tables, tables, show}
 use Rattle.tables.specs.DrawnLaws.{clauses-count}
 use Rattle.tables.specs.Tabled.{Tabled, firstAtom}
 use Rattle.tables.specs.TabledLaws.{At}
-use Rattle.unfolding.specs.HandLaws.{flat-front, flat-back, flat-first}
-use Rattle.unfolding.specs.Placed.{ClauseAt}
-use Rattle.unfolding.specs.InHands.{Plain, RunThere}
-use Rattle.unfolding.specs.Passes.{Standing}
-use Rattle.unfolding.specs.PlacedLaws.{noClause, tabled-at, first-word, body-word, head-word}
+use Rattle.contraction.specs.HandLaws.{flat-front, flat-back, flat-first}
+use Rattle.contraction.specs.Placed.{ClauseAt}
+use Rattle.contraction.specs.InHands.{Plain, RunThere}
+use Rattle.contraction.specs.Passes.{Standing}
+use Rattle.contraction.specs.PlacedLaws.{noClause, tabled-at, first-word, body-word, head-word}
 
 -- ---- the clauses of a drawn state
 abbrev clausesIn : Tables → List ℕ

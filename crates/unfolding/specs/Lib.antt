@@ -1,13 +1,3 @@
-pub mod InHands
-pub mod Passes
-pub mod HandLaws
-pub mod SameLaws
-pub mod Placed
-pub mod PlacedLaws
-pub mod FlagWords
-pub mod Contracting
-pub mod ContractLaws
-pub mod TrivialLaws
 pub mod ClauseLaws
 pub mod DeriveLaws
 pub mod FlagSet
@@ -18,13 +8,3 @@ pub mod QueueLaws
 pub mod UnfoldLaws
 pub mod Unfolding
 pub mod UnrollLaws
-pub mod LoopLaws
-pub mod LoopSteps
-pub mod LoopTurns
-pub mod LoopingLaws
-pub mod OneLoop
-pub mod PutLaws
-pub mod SelfLoops
-pub mod StandingLaws
-pub mod Turns
-pub mod VarLaws

@@ -20,8 +20,8 @@ use Rattle.leaves.specs.StepLaws.{alike-then, show-alike}
 use Rattle.unfolding.specs.declared.unfold.Unfolded.{Unfolded}
 use Rattle.unfolding.specs.declared.unfold.Unfolded.the-variants.{More, Capped, Refused as Refusal}
 use Rattle.reflexive.specs.Flags.{FlagsHeld}
-use Rattle.unfolding.specs.Passes.{Standing, Drawn, Passed}
-use Rattle.unfolding.specs.PlacedLaws.{noClause}
+use Rattle.contraction.specs.Passes.{Standing, Drawn, Passed}
+use Rattle.contraction.specs.PlacedLaws.{noClause}
 use Rattle.unfolding.specs.Unfolding.{waiting, unfoldOne, Stands, Unfolds, GoodUnfolded, KeptUnfolded, Between, Answered}
 use Rattle.unfolding.specs.Passing.{Turn, Turning, Popped, Poised, Partway, Unrolling}
 use Rattle.unfolding.specs.DeriveLaws.{seen-long}

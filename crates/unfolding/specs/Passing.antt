@@ -12,7 +12,7 @@ use Rattle.tables.specs.Drawn.{tables, show, Lent}
 use Rattle.tables.specs.Good.{Good, Alike}
 use Rattle.hands.specs.Hands.{Four}
 use Rattle.reflexive.specs.Flags.{FlagsHeld}
-use Rattle.unfolding.specs.PlacedLaws.{noClause}
+use Rattle.contraction.specs.PlacedLaws.{noClause}
 use Rattle.unfolding.specs.Unfolding.{Counted, Stands, Inside, Moves, Between}
 
 -- for each state that is drawn there, and the roles in the flags

@@ -17,8 +17,8 @@ use Rattle.tables.specs.DrawnLaws.{clauses-count, atoms-count}
 use Rattle.tables.specs.Good.{Good}
 use Rattle.hands.specs.Hands.{Four}
 use Rattle.leaves.specs.StepLaws.{alike-same}
-use Rattle.unfolding.specs.Passes.{Standing, Drawn}
-use Rattle.unfolding.specs.PlacedLaws.{noClause}
+use Rattle.contraction.specs.Passes.{Standing, Drawn}
+use Rattle.contraction.specs.PlacedLaws.{noClause}
 use Rattle.unfolding.specs.Unfolding.{waiting, queueOf, Inside}
 use Rattle.unfolding.specs.Passing.{ForDrawn, Enough, Turn, Turning, Poised}
 use Rattle.unfolding.specs.ClauseLaws.{show-tabled, tabled-same, tabled-long}

@@ -15,7 +15,7 @@ use Rattle.rules.specs.Base.{ok, then, any, contains}
 use Rattle.rules.specs.State.{Env, Out, E, Clause}
 use Rattle.rules.specs.Reflexive.{Derived, more, isReflexive, queued, contracted, contract, goOn, unfoldRole, unfoldAt, unfoldBody, stacked}
 use Rattle.rules.specs.Reflexive.{Unfolded as Turned}
-use Rattle.unfolding.specs.PlacedLaws.{noClause}
+use Rattle.contraction.specs.PlacedLaws.{noClause}
 use Rattle.unfolding.specs.Unfolding.{waiting, queueOf, unfoldOne}
 
 module _ (env : Env) (set : List ℕ) where

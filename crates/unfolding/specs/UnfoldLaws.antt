@@ -29,10 +29,10 @@ use Rattle.unfolding.specs.declared.unfold.Unfolded.the-variants.{More}
 use Rattle.reflexive.specs.Flags.{FlagsHeld}
 use Rattle.tables.specs.Tabled.{Tabled, firstAtom}
 use Rattle.tables.specs.TabledLaws.{At}
-use Rattle.unfolding.specs.InHands.{ClauseInHand, AtomThere, HandThere, RunThere}
-use Rattle.unfolding.specs.HandLaws.{noAtom}
-use Rattle.unfolding.specs.Passes.{Standing}
-use Rattle.unfolding.specs.PlacedLaws.{noClause, body-word, head-word}
+use Rattle.contraction.specs.InHands.{ClauseInHand, AtomThere, HandThere, RunThere}
+use Rattle.contraction.specs.HandLaws.{noAtom}
+use Rattle.contraction.specs.Passes.{Standing}
+use Rattle.contraction.specs.PlacedLaws.{noClause, body-word, head-word}
 use Rattle.unfolding.specs.Unfolding.{unfoldOne, Counted, Stands, Follows, Moved, Unfolds, Between, Answered}
 use Rattle.unfolding.specs.ClauseLaws.{show-tabled, tabled-same, plain-clause, each-at, standingAt, standing-in, standing-placed, standing-run, run-there, atom-at}
 use Rattle.unfolding.specs.QueueLaws.{one-other}

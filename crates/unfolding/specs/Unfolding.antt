@@ -20,7 +20,7 @@ use Rattle.tables.specs.Good.{Good, Alike}
 use Rattle.hands.specs.Hands.{Four}
 use Rattle.unfolding.specs.declared.unfold.Unfolded.{Unfolded}
 use Rattle.unfolding.specs.declared.unfold.Unfolded.the-variants.{More, Capped, Refused}
-use Rattle.unfolding.specs.PlacedLaws.{noClause}
+use Rattle.contraction.specs.PlacedLaws.{noClause}
 
 -- ---- the rule's state
 module _ (env : Env) (set : List ℕ) where

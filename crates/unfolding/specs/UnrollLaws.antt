@@ -20,7 +20,7 @@ use Rattle.leaves.specs.StepLaws.{alike-same, alike-then, words-long, lent-kept
 use Rattle.unfolding.specs.declared.unfold.Unfolded.{Unfolded}
 use Rattle.unfolding.specs.declared.unfold.Unfolded.the-variants.{More, Capped, Refused as Refusal}
 use Rattle.reflexive.specs.Flags.{FlagsHeld}
-use Rattle.unfolding.specs.PlacedLaws.{noClause, tabled-at, body-word}
+use Rattle.contraction.specs.PlacedLaws.{noClause, tabled-at, body-word}
 use Rattle.unfolding.specs.Unfolding.{unfoldOne, Counted, Stands, Inside, Moves, Moved, Stopped, Unfolds, GoodUnfolded, KeptUnfolded, Between, Answered}
 use Rattle.unfolding.specs.Passing.{Partway, Unrolling}
 use Rattle.unfolding.specs.ClauseLaws.{show-tabled}

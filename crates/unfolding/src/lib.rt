@@ -1,5 +1,2 @@
-// clause.rs: apply_reflexive_roles and add_counted_self_loops.
-pub mod clause;
-pub mod contract;
-pub mod loops;
+// clause.rs: apply_reflexive_roles.
 pub mod unfold;

@@ -1,7 +1,7 @@
 // apply_reflexive_roles: a clause for each contraction along a reflexive role atom, and of these in turn.
-use crate::clause;
-use crate::clause::HAND;
-use crate::contract;
+use contraction::clause;
+use contraction::clause::HAND;
+use contraction::contract;
 use ir::answer::Answer;
 use ir::counters::Counters;
 use ir::deferral::Deferral;
@@ -18,9 +18,9 @@ ghost use Rattle.tables.specs.Drawn.{Lent, Sized};
 ghost use Rattle.tables.specs.Good.{Good};
 ghost use Rattle.hands.specs.Hands.{four};
 ghost use Rattle.reflexive.specs.Flags.{FlagsHeld};
-ghost use Rattle.unfolding.specs.InHands.{inHandBytes, ClauseInHand};
-ghost use Rattle.unfolding.specs.Passes.{Standing, Drawn, StandingAfter, Passed};
-ghost use Rattle.unfolding.specs.PlacedLaws.{noClause};
+ghost use Rattle.contraction.specs.InHands.{inHandBytes, ClauseInHand};
+ghost use Rattle.contraction.specs.Passes.{Standing, Drawn, StandingAfter, Passed};
+ghost use Rattle.contraction.specs.PlacedLaws.{noClause};
 ghost use Rattle.unfolding.specs.Unfolding.{unfoldOne, Counted, Stands, Follows, Unfolds, Answered};
 
 // The derived clauses of the queue: a word each where the pool was.

@@ -1,8 +1,8 @@
 use mathlib.Core.Path.{sym}
 use native.Mathlib.Omega.{arith}
 use lib.Seq.{length-take-le}
+use Rattle.staging.specs.BlankLaws.{blank-zeros}
 use Rattle.clauses.specs.Stage.{lent}
-use Rattle.clauses.proofs.StageLaws.{blank-zeros}
 use borrow.Author.Needs.{needs}
 use Rattle.clauses.proofs.main.Statement.{statement}
 use Rattle.clauses.proofs.main.Tie as tie

@@ -5,13 +5,14 @@ use native.Mathlib.Omega.{arith}
 use Rattle.words.specs.Words.{words}
 use Rattle.rows.specs.Rows.{Put}
 use Rattle.clauses.specs.Stage.{linedText, lent}
-use Rattle.clauses.proofs.StageLaws.{staged-is, staged-no, blank-sized}
+use Rattle.staging.specs.StageLaws.{staged-is, staged-no}
+use Rattle.clauses.proofs.StageLaws.{blank-sized}
 use borrow.Author.Needs.{needs}
 use Rattle.clauses.proofs.stage.put_clausified.Statement.{statement}
 use Rattle.clauses.proofs.stage.put_clausified.Tie as tie
 
-clausify-requires : tie.Need-clausify-requires
-clausify-requires c κs =
+clausify-deck-requires : tie.Need-clausify-deck-requires
+clausify-deck-requires c κs =
     let st = c .before .before .before .before .before .before .before .before .before in
     let a = st .args in
     (st .pre .0, blank-sized (a .clauses .now) (a .atoms .now) (a .deferrals .now) (st .pre .1))
@@ -23,9 +24,9 @@ put-state-requires : tie.Need-put-state-requires
 put-state-requires c κs =
     let st = c .before .before .before .before .before .before .before .before .before .before .before .before .before .before .before .before .before .before .before .before .before .before .before .before .before in
     let P = st .pre .0 in
-    let m = c .before .before .before .before .before .before .before .before .before .before .before .before .before .before .before .clausify in
+    let m = c .before .before .before .before .before .before .before .before .before .before .before .before .before .before .before .clausify-deck in
     let v = c .before .before .before .before .before .v .given in
-    let Q = staged-is (P .limit) lent (P .known) (words (m .last .1 .0)) (words (m .last .1 .1 .0)) (words (m .last .1 .1 .1 .0)) (m .result) (m .ensures P lent (st .pre .1)) (v .0 .0) (v .1) in
+    let Q = staged-is (P .limit) lent (P .known) (m .last .0) (st .args .n) (words (m .last .1 .0)) (words (m .last .1 .1 .0)) (words (m .last .1 .1 .1 .0)) (m .result) (m .ensures P lent (st .pre .1)) (v .0 .0) (v .1) in
     (record { state = Q .state; shows = Q .shows }, omega (arith, st .pre .2))
 
 enum-known-e : tie.Need-enum-known-e
@@ -53,11 +54,11 @@ returns : tie.Need-returns
 returns c =
     let st = c .before .before .before .before .before .before .before .before .before .before .before .before .before .before .before .before .before .before .before .before .before .before .before .before .before .before .before .before in
     let a = st .args in
-    let m = c .before .before .before .before .before .before .before .before .before .before .before .before .before .before .before .before .before .before .clausify in
+    let m = c .before .before .before .before .before .before .before .before .before .before .before .before .before .before .before .before .before .before .clausify-deck in
     let v = c .before .before .before .before .before .before .before .before .v .given in
     let p = c .before .before .put-state in (
       (λ P.
-          let Q = staged-is (P .limit) lent (P .known) (words (m .last .1 .0)) (words (m .last .1 .1 .0)) (words (m .last .1 .1 .1 .0)) (m .result) (m .ensures P lent (st .pre .1)) (v .0 .0) (v .1) in
+          let Q = staged-is (P .limit) lent (P .known) (m .last .0) (a .n) (words (m .last .1 .0)) (words (m .last .1 .1 .0)) (words (m .last .1 .1 .1 .0)) (m .result) (m .ensures P lent (st .pre .1)) (v .0 .0) (v .1) in
           subst (λ (t : List ℕ). Put (a .out .now) 0 t (p .last .1 .1 .1 .1 .0) (p .result)) (sym (ap linedText (Q .made))) (p .ensures .0 (Q .state) (Q .shows))),
       p .ensures .1,
     )
@@ -81,11 +82,11 @@ returns-2 : tie.Need-returns-2
 returns-2 c =
     let st = c .before .before .before .before .before .before .before .before .before .before .before .before .before .before .before .before .before .before .before .before .before .before .before .before .before in
     let a = st .args in
-    let m = c .before .before .before .before .before .before .before .before .before .before .before .before .before .before .before .clausify in
+    let m = c .before .before .before .before .before .before .before .before .before .before .before .before .before .before .before .clausify-deck in
     let v = c .before .before .before .before .before .e .given in
     let p = c .before .before .put-refusal in (
       (λ P.
-          let e = staged-no (P .limit) lent (P .known) (words (m .last .1 .0)) (words (m .last .1 .1 .0)) (words (m .last .1 .1 .1 .0)) (m .result) (m .ensures P lent (st .pre .1)) (v .0 .0) (v .0 .1 .0) (v .1) in
+          let e = staged-no (P .limit) lent (P .known) (m .last .0) (a .n) (words (m .last .1 .0)) (words (m .last .1 .1 .0)) (words (m .last .1 .1 .1 .0)) (m .result) (m .ensures P lent (st .pre .1)) (v .0 .0) (v .0 .1 .0) (v .1) in
           subst (λ (t : List ℕ). Put (a .out .now) 0 t (p .last .0) (p .result)) (sym (ap linedText e)) (p .ensures .0)),
       p .ensures .1,
     )
@@ -94,7 +95,7 @@ pub put-clausified-spec : {M : Type 1} → statement M
 put-clausified-spec =
     tie.close
     (tie.spec
-    clausify-requires
+    clausify-deck-requires
     enum-known-v
     put-state-requires
     enum-known-e

@@ -6,8 +6,8 @@ use Rattle.words.specs.Words.{words}
 use Rattle.rules.specs.Deck.{readDeck}
 use Rattle.normalize.specs.Loaded.{as-fine, as-refused}
 use Rattle.rows.specs.Rows.{Put}
+use Rattle.staging.specs.StageLaws.{fine-preparing}
 use Rattle.clauses.specs.Stage.{stageText, mostVisits}
-use Rattle.clauses.proofs.StageLaws.{fine-preparing}
 use borrow.Author.Needs.{needs}
 use Rattle.clauses.proofs.stage.put_stage.Statement.{statement}
 use Rattle.clauses.proofs.stage.put_stage.Tie as tie
@@ -26,7 +26,7 @@ put-clausified-requires c κs =
     let v = c .before .before .before .before .before .before .k .given in
     let s' = l .last .1 .0 in
     let F = as-fine mostVisits (readDeck deck) (words s') (l .result) (l .ensures) (v .0 .0) (v .0 .1 .0) (v .1) in
-    (fine-preparing deck s' (v .0 .0) (v .0 .1 .0) F (omega (arith, st .pre .0, l .kept .1 .0)), st .pre .1, omega (arith, st .pre .2))
+    (fine-preparing mostVisits deck s' (v .0 .0) (v .0 .1 .0) (omega arith) F (omega (arith, st .pre .0, l .kept .1 .0)), st .pre .1, omega (arith, st .pre .2))
 
 enum-known-e : tie.Need-enum-known-e
 enum-known-e c = search needs
@@ -58,7 +58,7 @@ returns c =
     let s' = l .last .1 .0 in
     let F = as-fine mostVisits (readDeck deck) (words s') (l .result) (l .ensures) (v .0 .0) (v .0 .1 .0) (v .1) in
     let p = c .before .before .before .before .before .before .before .before .before .before .put-clausified in
-    let P = fine-preparing deck s' (v .0 .0) (v .0 .1 .0) F (omega (arith, st .pre .0, l .kept .1 .0)) in
+    let P = fine-preparing mostVisits deck s' (v .0 .0) (v .0 .1 .0) (omega arith) F (omega (arith, st .pre .0, l .kept .1 .0)) in
     (subst (λ (t : List ℕ). Put (st .args .out .now) 0 t (p .last .1 .1 .1 .1 .1 .1 .0) (p .result)) (sym (ap stageText (F .told))) (p .ensures .0 P), p .ensures .1)
 
 same-length-6 : tie.Need-same-length-6

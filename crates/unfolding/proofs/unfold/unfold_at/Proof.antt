@@ -10,10 +10,10 @@ use Rattle.unfolding.proofs.unfold.unfold_at.Statement.{statement}
 use Rattle.unfolding.proofs.unfold.unfold_at.Tie as tie
 use Rattle.unfolding.proofs.unfold.unfold_at.Reads as reads
 use Rattle.unfolding.proofs.unfold.unfold_at.Lts as lts
-use Rattle.unfolding.proofs.clause.is_among.Reads as is-among-reads
-use Rattle.unfolding.proofs.clause.is_reflexive.Reads as is-reflexive-reads
-use Rattle.unfolding.proofs.contract.is_trivial.Reads as is-trivial-reads
-use Rattle.unfolding.proofs.contract.put_contracted.Reads as put-contracted-reads
+use Rattle.contraction.proofs.clause.is_among.Reads as is-among-reads
+use Rattle.contraction.proofs.clause.is_reflexive.Reads as is-reflexive-reads
+use Rattle.contraction.proofs.contract.is_trivial.Reads as is-trivial-reads
+use Rattle.contraction.proofs.contract.put_contracted.Reads as put-contracted-reads
 use Rattle.unfolding.proofs.unfold.derive.Reads as derive-reads
 use Rattle.words.proofs.get_word.Reads as get-word-reads
 

@@ -1,0 +1,6 @@
+pub mod Entry
+pub mod Answer
+pub mod TableLaws
+pub mod AnswerLaws
+pub mod MeaningLaws
+pub mod NumberLaws

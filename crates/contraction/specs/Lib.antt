@@ -1,0 +1,10 @@
+pub mod InHands
+pub mod HandLaws
+pub mod SameLaws
+pub mod Placed
+pub mod PlacedLaws
+pub mod FlagWords
+pub mod Contracting
+pub mod ContractLaws
+pub mod TrivialLaws
+pub mod Passes

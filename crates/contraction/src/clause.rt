@@ -1,0 +1,102 @@
+// Clauses as they stand in the lent tables, and a clause in hand.
+use reflexive::ids::FLAGS;
+ghost use mathlib.Core.Path.{_≡_};
+ghost use mathlib.Core.List.{List};
+ghost use Prim.Native.Nat.{ℕ, _+_, _*_, _/_, _<_, _≤_};
+ghost use lib.ListN.{length, drop};
+ghost use Rattle.words.specs.Words.{words};
+ghost use Rattle.ir.specs.Records.{six};
+ghost use Rattle.ir.specs.Scratch.{alternativesAt};
+ghost use Rattle.ir.specs.declared.atom.Atom.{Atom};
+ghost use Rattle.rules.specs.Base.{contains};
+ghost use Rattle.rules.specs.Deck.{mostRoles};
+ghost use Rattle.rules.specs.State.{Clause};
+ghost use Rattle.rules.specs.Reflexive.{isReflexive, sameClause, containsClause};
+ghost use Rattle.reflexive.specs.Flags.{FlagsHeld};
+ghost use Rattle.tables.specs.Tabled.{Tabled};
+ghost use Rattle.tables.specs.TabledLaws.{At};
+ghost use Rattle.contraction.specs.InHands.{inHandBytes, ClauseInHand, AtomThere, HandThere, TableThere};
+ghost use Rattle.contraction.specs.Placed.{ClauseAt, ClauseThere};
+ghost use Rattle.contraction.specs.SameLaws.{sameRuns};
+
+// The first atom in hand: word HANDS.
+pub const HAND: usize = 12800;
+
+// Whether a role is reflexive, by its code.
+pub fn is_flagged(scratch: &[u8], code: u32) -> bool
+    requires { ⌜ (code < 2 * mostRoles) × (4 * alternativesAt ≤ length (now scratch)) ⌝ }
+    ensures { λ r. ⌜ ((set : List ℕ) → FlagsHeld (words (now (scratch .entry))) set → r ≡ contains set (code / 2)) ⌝ }
+{
+    words::get_word(scratch, FLAGS + (code / 2) as usize) != 0
+}
+
+// Atom i of the table is a role atom over a reflexive role.
+pub fn is_reflexive(scratch: &[u8], atoms: &[u8], i: usize) -> bool
+    requires { ⌜ AtomThere (words (now atoms)) i × (4 * alternativesAt ≤ length (now scratch)) ⌝ }
+    ensures { λ r. ⌜ ((set : List ℕ) (x : Atom) → FlagsHeld (words (now (scratch .entry))) set → At (words (now (atoms .entry))) (6 * i) (six x) → r ≡ isReflexive set x) ⌝ }
+{
+    if words::get_word(atoms, 6 * i) != 2 {
+        return false;
+    }
+    is_flagged(scratch, words::get_word(atoms, 6 * i + 1))
+}
+
+// n words of s from word i on are those of t from word j on.
+pub fn same_run(s: &[u8], i: usize, t: &[u8], j: usize, n: usize) -> bool
+    requires { ⌜ (4 * (i + n) ≤ length (now s)) × (4 * (j + n) ≤ length (now t)) ⌝ }
+    ensures { λ r. ⌜ r ≡ sameRuns (words (now (s .entry))) i (words (now (t .entry))) j n ⌝ }
+{
+    let mut m: usize = 0;
+    while m < n {
+        if words::get_word(s, i + m) != words::get_word(t, j + m) {
+            return false;
+        }
+        m += 1;
+    }
+    true
+}
+
+// The clause in hand, of nb and nh atoms, equals clause c of the tables.
+fn is_clause(scratch: &[u8], clauses: &[u8], atoms: &[u8], nb: u32, nh: u32, c: u32) -> bool
+    requires { ⌜ HandThere (words (now scratch)) nb nh × ClauseThere (words (now clauses)) (words (now atoms)) c × (inHandBytes ≤ length (now scratch)) ⌝ }
+    ensures { λ r. ⌜ ((x y : Clause) → ClauseInHand (words (now (scratch .entry))) nb nh x → ClauseAt (words (now (clauses .entry))) (words (now (atoms .entry))) c y → r ≡ sameClause x y) ⌝ }
+{
+    let at = 3 * (c as usize);
+    if words::get_word(clauses, at + 1) != nb {
+        return false;
+    }
+    if words::get_word(clauses, at + 2) != nh {
+        return false;
+    }
+    let first = words::get_word(clauses, at) as usize;
+    same_run(
+        scratch,
+        6 * HAND,
+        atoms,
+        6 * first,
+        6 * (nb as usize + nh as usize),
+    )
+}
+
+// It equals one of the clauses from `from` up to `to`.
+pub fn is_among(
+    scratch: &[u8],
+    clauses: &[u8],
+    atoms: &[u8],
+    nb: u32,
+    nh: u32,
+    from: u32,
+    to: u32,
+) -> bool
+    requires { ⌜ HandThere (words (now scratch)) nb nh × TableThere (words (now clauses)) (words (now atoms)) to × (from ≤ to) × (inHandBytes ≤ length (now scratch)) ⌝ }
+    ensures { λ r. ⌜ ((l : List Clause) (x : Clause) → Tabled (words (now (clauses .entry))) (words (now (atoms .entry))) to l → ClauseInHand (words (now (scratch .entry))) nb nh x → r ≡ containsClause (drop from l) x) ⌝ }
+{
+    let mut c = from;
+    while c < to {
+        if is_clause(scratch, clauses, atoms, nb, nh, c) {
+            return true;
+        }
+        c += 1;
+    }
+    false
+}

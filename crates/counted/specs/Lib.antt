@@ -1,0 +1,10 @@
+pub mod LoopLaws
+pub mod LoopSteps
+pub mod LoopTurns
+pub mod LoopingLaws
+pub mod OneLoop
+pub mod PutLaws
+pub mod SelfLoops
+pub mod StandingLaws
+pub mod Turns
+pub mod VarLaws

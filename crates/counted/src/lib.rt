@@ -1,0 +1,2 @@
+// clause.rs: add_counted_self_loops.
+pub mod loops;

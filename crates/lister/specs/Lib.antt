@@ -1,0 +1,4 @@
+pub mod Cut
+pub mod LineLaws
+pub mod ReplyLaws
+pub mod Text

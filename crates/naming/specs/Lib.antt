@@ -1,0 +1,10 @@
+pub mod Names
+pub mod Splits
+pub mod AgreeLaws
+pub mod GroupLaws
+pub mod GoesLaws
+pub mod SplitLaws
+pub mod CallLaws
+pub mod TurnLaws
+pub mod GroupTurns
+pub mod NameSteps

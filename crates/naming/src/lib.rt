@@ -1,0 +1,2 @@
+// clause.rs: name_branches.
+pub mod name;

@@ -1,0 +1,4 @@
+pub mod Before
+pub mod LateLaws
+pub mod Ran
+pub mod RunLaws

@@ -1,0 +1,4 @@
+pub mod BlankLaws
+pub mod RoleLaws
+pub mod Stage
+pub mod StageLaws

@@ -1,0 +1,16 @@
+pub mod BindLaws
+pub mod FlagLaws
+pub mod GrowLaws
+pub mod Growth
+pub mod PlaceLaws
+pub mod RoundLaws
+pub mod TopLaws
+pub mod TreeLaws
+pub mod VisitLaws
+pub mod HomeLaws
+pub mod Homes
+pub mod IntoLaws
+pub mod HomePlaces
+pub mod SortLaws
+pub mod StepLaws
+pub mod HomeTops
