@@ -2,7 +2,7 @@
 use mathlib.Core.Path.{_≡_, refl, ap, ap₂, _∙_}
 use mathlib.Core.Bool.{Bool, true, false, _&&_, _||_, and-false}
 use mathlib.Core.List.{List, [], _∷_, _++_}
-use Prim.Native.Nat.{ℕ, suc, _+_, _*_, _-_, _<_, _≤_}
+use Prim.Native.Nat.{ℕ, zero, suc, _+_, _*_, _-_, _<_, _≤_}
 use native.Mathlib.Numerals.{add-one}
 use native.Mathlib.Omega.{arith}
 use borrow.Author.Tests.{eq-eqb, ne-eqb}
@@ -32,6 +32,27 @@ module _ {A : Type 0} (p : A → Bool) (l : List A) (i : ℕ) (d : A) where
 
 pub any-none : {A : Type 0} (p : A → Bool) (l : List A) (i : ℕ) → length l ≤ i → any p (drop i l) ≡ false
 any-none p l i h = rw (drop-of-length-le l {i = i} h) refl
+
+or-true : (b : Bool) → (b || true) ≡ true
+or-true true = refl
+or-true false = refl
+
+any-drop : {A : Type 0} (p : A → Bool) (l : List A) (j : ℕ) → any p (drop j l) ≡ true → any p l ≡ true
+any-drop p [] zero e = e
+any-drop p [] (suc j) e = e
+any-drop p (x ∷ l) zero e = e
+any-drop p (x ∷ l) (suc j) e = rw (any-drop p l j e) (or-true (p x))
+
+-- what is found behind is found
+pub any-behind : {A : Type 0} (p : A → Bool) (l : List A) (i j : ℕ) → i ≤ j → any p (drop j l) ≡ true → any p (drop i l) ≡ true
+any-behind p [] zero zero h e = e
+any-behind p [] zero (suc j) h e = e
+any-behind p [] (suc i) zero h e = e
+any-behind p [] (suc i) (suc j) h e = e
+any-behind p (x ∷ l) zero zero h e = e
+any-behind p (x ∷ l) zero (suc j) h e = any-drop p (x ∷ l) (suc j) e
+any-behind p (x ∷ l) (suc i) zero h e = absurd (omega arith)
+any-behind p (x ∷ l) (suc i) (suc j) h e = any-behind p l i j (omega arith) e
 
 -- one of two tests
 pub any-either : {A : Type 0} (p q : A → Bool) (l : List A) → (any p l || any q l) ≡ any (λ a. p a || q a) l

@@ -78,7 +78,7 @@ fn is_clause(scratch: &[u8], clauses: &[u8], atoms: &[u8], nb: u32, nh: u32, c: 
     )
 }
 
-// It equals one of the clauses from `from` up to `to`.
+// It equals one of the clauses from `from` up to `to`; the last are looked at first, where a repeat is likely.
 pub fn is_among(
     scratch: &[u8],
     clauses: &[u8],
@@ -91,12 +91,13 @@ pub fn is_among(
     requires { ⌜ HandThere (words (now scratch)) nb nh × TableThere (words (now clauses)) (words (now atoms)) to × (from ≤ to) × (inHandBytes ≤ length (now scratch)) ⌝ }
     ensures { λ r. ⌜ ((l : List Clause) (x : Clause) → Tabled (words (now (clauses .entry))) (words (now (atoms .entry))) to l → ClauseInHand (words (now (scratch .entry))) nb nh x → r ≡ containsClause (drop from l) x) ⌝ }
 {
-    let mut c = from;
-    while c < to {
-        if is_clause(scratch, clauses, atoms, nb, nh, c) {
+    let mut c = to;
+    while from < c {
+        let last = c - 1;
+        if is_clause(scratch, clauses, atoms, nb, nh, last) {
             return true;
         }
-        c += 1;
+        c = last;
     }
     false
 }

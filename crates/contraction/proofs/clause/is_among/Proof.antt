@@ -1,6 +1,7 @@
-use mathlib.Core.Path.{_≡_, refl, sym, _∙_}
+use mathlib.Core.Path.{_≡_, refl, sym, ap, _∙_}
+use mathlib.Core.Bool.{false}
 use mathlib.Core.List.{List}
-use Prim.Native.Nat.{_-_}
+use Prim.Native.Nat.{ℕ, _+_, _-_, _<_, _≤_}
 use native.Mathlib.Omega.{arith}
 use lib.ListN.{getD, drop}
 use Rattle.words.specs.Words.{words}
@@ -9,51 +10,64 @@ use Rattle.rules.specs.State.{Clause}
 use Rattle.rules.specs.Reflexive.{sameClause}
 use Rattle.tables.specs.Tabled.{Tabled}
 use Rattle.contraction.specs.InHands.{ClauseInHand}
-use Rattle.contraction.specs.SameLaws.{any-found, any-on, any-none}
+use Rattle.contraction.specs.SameLaws.{any-found, any-on, any-none, any-behind}
 use Rattle.contraction.specs.PlacedLaws.{noClause, tabled-at}
 use Rattle.contraction.proofs.clause.is_among.Statement.{statement}
 use Rattle.contraction.proofs.clause.is_among.Tie as tie
 
 abbrev Inv-loop : tie.InvT-loop
-Inv-loop scratch clauses atoms nb nh from to c₀ c = (l : List Clause) (x : Clause) → Tabled (words clauses) (words atoms) to l → ClauseInHand (words scratch) nb nh x → any (sameClause x) (drop from l) ≡ any (sameClause x) (drop c l)
+Inv-loop scratch clauses atoms nb nh from to c₀ c =
+    (from ≤ c) × (c ≤ to) × ((l : List Clause) (x : Clause) → Tabled (words clauses) (words atoms) to l → ClauseInHand (words scratch) nb nh x → any (sameClause x) (drop c l) ≡ false)
 
 abbrev μ-loop : tie.MeasureT-loop
-μ-loop scratch clauses atoms nb nh from to c₀ c = to - c
+μ-loop scratch clauses atoms nb nh from to c₀ c = c
 
 loop-holds : tie.Need-loop-holds Inv-loop μ-loop
-loop-holds c = λ l x Q X. refl
+loop-holds c = let s = c .before .before .before in (s .pre .2, omega arith, λ l x Q X. any-none (sameClause x) l (s .args .to) (omega (arith, Q .count)))
+
+sub-last : tie.Need-sub-last Inv-loop μ-loop
+sub-last c = omega (arith, c .loop-test .taken)
 
 is-clause-requires : tie.Need-is-clause-requires Inv-loop μ-loop
 is-clause-requires c κs =
     let s = c .before .before .before .before .before in
     let L = c .before .loop in
     let Q = s .pre .1 in
-    (s .pre .0, record { clause = getD (Q .list) (L .c) noClause; there = tabled-at (words (s .args .clauses .now)) (words (s .args .atoms .now)) (s .args .to) (Q .list) (L .c) (Q .tabled) (c .loop-test .taken) }, s .pre .3)
+    let lt : L .c - 1 < s .args .to = omega (arith, L .inv .1, c .loop-test .taken) in
+    (s .pre .0, record { clause = getD (Q .list) (L .c - 1) noClause; there = tabled-at (words (s .args .clauses .now)) (words (s .args .atoms .now)) (s .args .to) (Q .list) (L .c - 1) (Q .tabled) lt }, s .pre .3)
 
 returns : tie.Need-returns Inv-loop μ-loop
 returns c =
     let s = c .before .before .before .before .before .before .before in
     let L = c .before .before .before .loop in
-    let lt = c .before .before .loop-test .taken in
-    λ l x Q X. sym (L .inv l x Q X ∙ any-found (sameClause x) l (L .c) noClause (omega (arith, lt, Q .count))
-    (sym (c .before .is-clause .ensures x (getD l (L .c) noClause) X (tabled-at (words (s .args .clauses .now)) (words (s .args .atoms .now)) (s .args .to) l (L .c) Q lt)) ∙ c .if1 .taken))
-
-add-c : tie.Need-add-c Inv-loop μ-loop
-add-c c = omega arith
+    let t = c .before .before .loop-test .taken in
+    let lt : L .c - 1 < s .args .to = omega (arith, L .inv .1, t) in
+    λ l x Q X. sym (any-behind (sameClause x) l (s .args .from) (L .c - 1) (omega (arith, t)) (any-found (sameClause x) l (L .c - 1) noClause (omega (arith, lt, Q .count))
+    (sym (c .before .is-clause .ensures x (getD l (L .c - 1) noClause) X (tabled-at (words (s .args .clauses .now)) (words (s .args .atoms .now)) (s .args .to) l (L .c - 1) Q lt)) ∙ c .if1 .taken)))
 
 loop-less : tie.Need-loop-less Inv-loop μ-loop
-loop-less c = omega arith
+loop-less c = omega (arith, c .before .before .loop-test .taken)
 
 loop-again : tie.Need-loop-again Inv-loop μ-loop
 loop-again c =
     let s = c .before .before .before .before .before .before .before in
     let L = c .before .before .before .loop in
-    let lt = c .before .before .loop-test .taken in
-    λ l x Q X. L .inv l x Q X ∙ any-on (sameClause x) l (L .c) noClause (omega (arith, lt, Q .count))
-    (sym (c .before .is-clause .ensures x (getD l (L .c) noClause) X (tabled-at (words (s .args .clauses .now)) (words (s .args .atoms .now)) (s .args .to) l (L .c) Q lt)) ∙ c .if1 .left)
+    let t = c .before .before .loop-test .taken in
+    let lt : L .c - 1 < s .args .to = omega (arith, L .inv .1, t) in
+    let next : L .c - 1 + 1 ≡ L .c = omega (arith, t) in (
+      omega (arith, t),
+      omega (arith, lt),
+      λ l x Q X. any-on (sameClause x) l (L .c - 1) noClause (omega (arith, lt, Q .count))
+          (sym (c .before .is-clause .ensures x (getD l (L .c - 1) noClause) X (tabled-at (words (s .args .clauses .now)) (words (s .args .atoms .now)) (s .args .to) l (L .c - 1) Q lt)) ∙ c .if1 .left)
+          ∙ ap (λ (m : ℕ). any (sameClause x) (drop m l)) next ∙ L .inv .2 l x Q X,
+    )
 
 returns-2 : tie.Need-returns-2 Inv-loop μ-loop
-returns-2 c = let L = c .before .loop in λ l x Q X. sym (L .inv l x Q X ∙ any-none (sameClause x) l (L .c) (omega (arith, c .loop-test .left, Q .count)))
+returns-2 c =
+    let L = c .before .loop in
+    let s = c .before .before .before .before .before in
+    let e : L .c ≡ s .args .from = omega (arith, L .inv .0, c .loop-test .left) in
+    λ l x Q X. sym (ap (λ (m : ℕ). any (sameClause x) (drop m l)) (sym e) ∙ L .inv .2 l x Q X)
 
 pub is-among-spec : {M : Type 1} → statement M
 is-among-spec =
@@ -62,9 +76,9 @@ is-among-spec =
     Inv-loop
     μ-loop
     loop-holds
+    sub-last
     is-clause-requires
     returns
-    add-c
     loop-less
     loop-again
     returns-2)
