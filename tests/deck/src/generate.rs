@@ -112,6 +112,35 @@ pub fn any(rng: &mut Random) -> (Shape, Deck) {
     (shape, generate(rng, shape))
 }
 
+/// Like [`Shape::Reflexive`], and never with an antecedent that unfolds up to the cap, which takes long.
+pub fn reflexive_below_the_cap(rng: &mut Random) -> Deck {
+    let mut builder = Builder::new(rng);
+    reflexive::below_the_cap(&mut builder);
+    builder.finish()
+}
+
+/// A deck whose clauses unfold into 4,095 + `more` new ones; `more` is at most 6.
+pub fn unfolding(rng: &mut Random, more: u32) -> Deck {
+    let mut builder = Builder::new(rng);
+    reflexive::unfolding(&mut builder, 12, more);
+    builder.finish()
+}
+
+/// A deck with a body of 254 to 256 atoms that a counted loop lengthens by one.
+pub fn counted_body_long(rng: &mut Random) -> Deck {
+    let mut builder = Builder::new(rng);
+    full::counted_body_long(&mut builder);
+    builder.finish()
+}
+
+/// A small deck with assertions added, whose normal forms take so many visits and change nothing else. With 0 visits only
+/// the concept lines are added.
+pub fn padded(rng: &mut Random, deck: &Deck, visits: u32) -> Deck {
+    let mut builder = Builder::on(rng, deck);
+    deep::pad(&mut builder, visits);
+    builder.finish()
+}
+
 /// A deck whose normal forms alone end around one million visits or 2,048 concepts. `any` has none: they take long.
 pub fn forms_at_limits(rng: &mut Random) -> Deck {
     let mut builder = Builder::new(rng);

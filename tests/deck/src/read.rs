@@ -241,8 +241,9 @@ fn demand(number: u32, holds: bool) -> Result<(), u32> {
     if holds { Ok(()) } else { Err(number) }
 }
 
-/// Refusal 2: the numbers of a line.
-fn numbers(text: &[u8]) -> Option<Vec<u32>> {
+/// The numbers of a line with its line feed, or `None`, which is refusal 2.
+#[must_use]
+pub fn numbers(text: &[u8]) -> Option<Vec<u32>> {
     let fields = text.strip_suffix(b"\n")?;
     if fields.is_empty() || fields.len() % FIELD != 0 {
         return None;

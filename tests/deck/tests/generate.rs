@@ -2,7 +2,10 @@
 
 use std::collections::HashSet;
 
-use deck::generate::{Shape, any, generate};
+use deck::generate::{
+    Shape, any, counted_body_long, forms_at_limits, generate, padded, reflexive_below_the_cap,
+    unfolding,
+};
 use deck::random::Random;
 use deck::write::{axiom_row, concept_row};
 use deck::{Concept, Deck, read, write};
@@ -26,6 +29,30 @@ fn every_deck_is_read_back() {
         for (seed, deck) in decks(shape, count(shape)).enumerate() {
             let bytes = write(&deck);
             assert_eq!(read(&bytes).as_ref(), Ok(&deck), "{shape:?}, seed {seed}");
+        }
+    }
+}
+
+/// So is every deck that is no shape's.
+#[test]
+fn decks_beside_the_shapes_are_read_back() {
+    for seed in 0..300 {
+        let mut rng = Random::new(seed);
+        let small = generate(&mut rng, Shape::Small);
+        let decks = [
+            reflexive_below_the_cap(&mut rng),
+            unfolding(&mut rng, 3),
+            counted_body_long(&mut rng),
+            padded(&mut rng, &small, 0),
+            padded(&mut rng, &small, 999_999),
+            forms_at_limits(&mut rng),
+        ];
+        for (place, deck) in decks.iter().enumerate() {
+            assert_eq!(
+                read(&write(deck)).as_ref(),
+                Ok(deck),
+                "{place}, seed {seed}"
+            );
         }
     }
 }

@@ -2,11 +2,11 @@
 //! none, the calls below do nothing.
 
 use std::cell::RefCell;
-use std::collections::BTreeMap;
+use std::collections::{BTreeMap, HashMap};
 use std::panic::{AssertUnwindSafe, catch_unwind, resume_unwind};
 
 use crate::clause::DlClause;
-use crate::ir::{ConceptExpr, ConceptPool};
+use crate::ir::{ConceptExpr, ConceptPool, Role, RoleId};
 use crate::ontology::Axiom;
 
 /// The most that a run may use, or the most that it has used.
@@ -37,7 +37,7 @@ impl Limits {
 
     /// Document 01's limits, and tables of so many records.
     #[must_use]
-    pub const fn tables(clauses: usize, atoms: usize, deferrals: usize) -> Self {
+    pub const fn tables([clauses, atoms, deferrals]: [usize; 3]) -> Self {
         Self {
             visits: 1_000_000,
             pool: 2_048,
@@ -50,10 +50,16 @@ impl Limits {
     }
 
     /// The tables that the lister lends.
-    pub const LISTER: Self = Self::tables(1_024, 2_048, 256);
+    pub const LISTER: Self = Self::tables([1_024, 2_048, 256]);
 
     /// The largest tables that may be lent.
-    pub const LARGEST: Self = Self::tables(65_536, 262_144, 65_536);
+    pub const LARGEST: Self = Self::tables([65_536, 262_144, 65_536]);
+
+    /// Records of the three tables: clauses, atoms, deferrals.
+    #[must_use]
+    pub const fn rooms(&self) -> [usize; 3] {
+        [self.clauses, self.atoms, self.deferrals]
+    }
 
     /// The limit of this name.
     pub fn named(&mut self, name: &str) -> Option<&mut usize> {
@@ -108,6 +114,8 @@ pub enum Pass {
 pub struct Stages {
     /// The pool's records and the axioms after `nnf_axioms`.
     pub normalised: Option<(Vec<ConceptExpr>, Vec<Axiom>)>,
+    /// What `build_inverse_canon` maps.
+    pub inverse_canon: HashMap<RoleId, Role>,
     pub passes: BTreeMap<Pass, Passed>,
 }
 
@@ -123,12 +131,16 @@ pub struct Passed {
     /// Records of the concept pool, and members of its And and Or records.
     pub concepts: usize,
     pub members: usize,
+    /// The next fresh variable.
+    pub next_var: u32,
 }
 
 #[derive(Clone, Debug, Default)]
 pub struct Report {
     /// The greatest number that each limit was tested against.
     pub most: Limits,
+    /// How many clauses there were after each pass, as far as the run came.
+    pub lengths: BTreeMap<Pass, usize>,
     /// Fresh class ids taken.
     pub fresh: usize,
     /// Axiom line and kind.
@@ -331,12 +343,23 @@ pub fn normalised(pool: &ConceptPool, axioms: &[Axiom]) {
     });
 }
 
+/// The inverse map is built.
+pub fn mapped(inverse_canon: &HashMap<RoleId, Role>) {
+    event(|run| {
+        if run.settings.keep_stages {
+            run.report.stages.inverse_canon.clone_from(inverse_canon);
+        }
+        Ok(())
+    });
+}
+
 /// A pass has made these clauses; no axiom is under way from here on.
-pub fn passed(pass: Pass, clauses: &[DlClause]) {
+pub fn passed(pass: Pass, clauses: &[DlClause], next_var: u32) {
     event(|run| {
         run.line = 0;
+        let report = &mut run.report;
+        report.lengths.insert(pass, clauses.len());
         if run.settings.keep_stages {
-            let report = &mut run.report;
             let passed = Passed {
                 clauses: clauses.to_vec(),
                 deferrals: report.deferrals.clone(),
@@ -344,6 +367,7 @@ pub fn passed(pass: Pass, clauses: &[DlClause]) {
                 visits: report.most.visits,
                 concepts: run.concepts,
                 members: run.members,
+                next_var,
             };
             report.stages.passes.insert(pass, passed);
         }

@@ -5,6 +5,8 @@ mod clauses;
 pub mod decided;
 mod forms;
 mod listing;
+pub mod lists;
+pub mod met;
 pub mod sampling;
 mod stages;
 
@@ -20,6 +22,8 @@ mod instrumented {
     include!("bridge.rs");
 }
 
+use std::borrow::Cow;
+use std::collections::BTreeMap;
 use std::sync::{Mutex, PoisonError};
 
 pub use clauses::{Clauses, clauses};
@@ -27,7 +31,7 @@ use deck::{Axiom, Concept, Deck, Refusal};
 pub use forms::{Forms, forms};
 pub use limited::limits::{Limits, Pass};
 use limited::limits::{Options, Settings};
-pub use listing::{Answer, Clause, Listing};
+pub use listing::{Answer, Clause, Listing, atom_table, clause_table, deferral_table};
 pub use stages::{Passed, Stages};
 
 /// The answer to a deck's bytes: the reading's refusal, or [`answer_deck`].
@@ -45,19 +49,30 @@ pub fn answer_deck(deck: &Deck, limits: &Limits) -> Answer {
     if has_min_zero(deck) {
         return Answer::CannotHold;
     }
-    // A deck that is refused may be too much for the unmodified build.
     match run(deck, limits).answer {
         Ok(listing) => {
-            let (clauses, stats) = run_unmodified(deck);
-            assert_eq!(
-                (&listing.clauses, &listing.stats),
-                (&clauses, &stats),
-                "the two builds differ on {deck:?}"
-            );
+            assert_agreed(deck, &listing);
             Answer::Accepted(listing)
         }
         Err(refusal) => Answer::Refused(refusal),
     }
+}
+
+/// Has the unmodified build answer a deck that the instrumented copy has accepted, unless there is a Min 0 line. A deck
+/// that is refused may be too much for it.
+///
+/// # Panics
+/// If it gives other clauses or statistics.
+pub fn assert_agreed(deck: &Deck, listing: &Listing) {
+    if has_min_zero(deck) {
+        return;
+    }
+    let (clauses, stats) = run_unmodified(deck);
+    assert_eq!(
+        (&listing.clauses, &listing.stats),
+        (&clauses, &stats),
+        "the two builds differ on {deck:?}"
+    );
 }
 
 /// Like [`answer`], but a Min 0 line is held as a record of its own, by the instrumented copy alone.
@@ -72,7 +87,9 @@ pub fn answer_min_zero(bytes: &[u8], limits: &Limits) -> Answer {
     }
 }
 
-fn has_min_zero(deck: &Deck) -> bool {
+/// Whether a deck has a Min 0 line, which the instrumented copy alone can hold.
+#[must_use]
+pub fn has_min_zero(deck: &Deck) -> bool {
     deck.concepts
         .iter()
         .any(|concept| matches!(concept, Concept::Min(0, _, _)))
@@ -84,7 +101,25 @@ pub struct Run {
     pub answer: Result<Listing, Refusal>,
     /// The greatest number that each limit was tested against.
     pub most: Limits,
+    /// How many clauses there were after each pass, as far as the run came.
+    pub lengths: BTreeMap<Pass, usize>,
     pub stages: Stages,
+}
+
+impl Run {
+    /// The deck's run in tables of so many records, where this is its run in the largest.
+    #[must_use]
+    pub fn in_rooms(&self, deck: &Deck, rooms: [usize; 3]) -> Cow<'_, Self> {
+        let refusal = self.answer.as_ref().err();
+        let ended_in_tables = refusal.is_some_and(|refusal| refusal.number == 12);
+        let used = self.most.rooms();
+        // Tables that it does not fill leave a run as it is.
+        if !ended_in_tables && (0..3).all(|place| used[place] <= rooms[place]) {
+            Cow::Borrowed(self)
+        } else {
+            Cow::Owned(run(deck, &Limits::tables(rooms)))
+        }
+    }
 }
 
 /// Runs the instrumented copy alone. Min 0 lines are held.
@@ -115,6 +150,7 @@ fn run_instrumented(deck: &Deck, limits: &Limits, keep_stages: bool) -> Run {
             line: refused.line,
         }),
         most: report.most,
+        lengths: report.lengths,
         stages: Stages::from(&report.stages),
     }
 }

@@ -51,37 +51,54 @@ impl Listing {
         [a, b, c, d, e, f, g, h, self.fresh, self.visits]
     }
 
-    /// The records of the clause table, three words each.
+    /// The records of the clause table.
     #[must_use]
     pub fn clause_table(&self) -> Vec<u32> {
-        let mut first = 0;
-        let mut words = Vec::new();
-        for clause in &self.clauses {
-            let (body, head) = (length(&clause.body), length(&clause.head));
-            words.extend([first, body, head]);
-            first += body + head;
-        }
-        words
+        clause_table(&self.clauses)
     }
 
-    /// The records of the atom table, six words each.
+    /// The records of the atom table.
     #[must_use]
     pub fn atom_table(&self) -> Vec<u32> {
-        let atoms = self
-            .clauses
-            .iter()
-            .flat_map(|clause| clause.body.iter().chain(&clause.head));
-        atoms.flatten().copied().collect()
+        atom_table(&self.clauses)
     }
 
-    /// The records of the deferral table, two words each, in the order of the run.
+    /// The records of the deferral table, in the order of the run.
     #[must_use]
     pub fn deferral_table(&self) -> Vec<u32> {
-        self.deferrals
-            .iter()
-            .flat_map(|&(line, kind)| [line, kind])
-            .collect()
+        deferral_table(&self.deferrals)
     }
+}
+
+/// The clauses' records, three words each.
+#[must_use]
+pub fn clause_table(clauses: &[Clause]) -> Vec<u32> {
+    let mut first = 0;
+    let mut words = Vec::with_capacity(3 * clauses.len());
+    for clause in clauses {
+        let (body, head) = (length(&clause.body), length(&clause.head));
+        words.extend([first, body, head]);
+        first += body + head;
+    }
+    words
+}
+
+/// The clauses' atoms, six words each.
+#[must_use]
+pub fn atom_table(clauses: &[Clause]) -> Vec<u32> {
+    let atoms = clauses
+        .iter()
+        .flat_map(|clause| clause.body.iter().chain(&clause.head));
+    atoms.flatten().copied().collect()
+}
+
+/// The deferrals, two words each, in their order.
+#[must_use]
+pub fn deferral_table(deferrals: &[(u32, u32)]) -> Vec<u32> {
+    deferrals
+        .iter()
+        .flat_map(|&(line, kind)| [line, kind])
+        .collect()
 }
 
 fn length(atoms: &[[u32; 6]]) -> u32 {

@@ -1,9 +1,10 @@
-//! A program of crates/ beside the original on generated decks, and samples of such decks with the original's answers.
+//! A program or a library of crates/ beside the original on generated decks, and samples of such decks with the original's
+//! answers.
 
 use std::collections::BTreeMap;
 use std::error::Error;
 use std::fs;
-use std::io::{Read, Write};
+use std::io::{self, Read, Write};
 use std::path::Path;
 
 use deck::damage::{damage, over_limit};
@@ -12,7 +13,18 @@ use deck::random::Random;
 use samples::run;
 use samples::sample::{Case, Stored, write};
 
+use crate::met::Met;
+
+/// What a seed gives to read, and the original's answer to it.
+#[derive(Clone, Debug)]
+pub struct Drawn {
+    pub kind: String,
+    pub input: Vec<u8>,
+    pub original: Original,
+}
+
 /// The original's answer to a deck.
+#[derive(Clone, Debug)]
 pub struct Original {
     pub text: Vec<u8>,
     pub is_accepted: bool,
@@ -37,6 +49,18 @@ pub fn command(
     each: [usize; 2],
     original: impl Fn(&[u8]) -> Original,
 ) -> Result<(), Box<dyn Error>> {
+    let draw = |seed| {
+        let (kind, input) = drawn(seed);
+        let mut original = original(&input);
+        if kind.ends_with("damaged") || kind == "Over" {
+            original.notes.push("damaged".into());
+        }
+        Drawn {
+            kind,
+            input,
+            original,
+        }
+    };
     let arguments: Vec<String> = std::env::args().skip(1).collect();
     let words: Vec<&str> = arguments.iter().map(String::as_str).collect();
     match *words.as_slice() {
@@ -47,10 +71,11 @@ pub fn command(
         }
         ["deck", seed] => std::io::stdout().write_all(&drawn(seed.parse()?).1)?,
         ["compare", program, seed, count] => {
-            compare(Path::new(program), seed.parse()?, count.parse()?, original)?;
+            let program = |_, deck: &[u8]| run(Path::new(program), deck);
+            compare(seed.parse()?, count.parse()?, draw, program, &[])?;
         }
         ["sample", file, seed, count] => {
-            let cases = sampled(seed.parse()?, count.parse()?, each, original);
+            let cases = sampled(seed.parse()?, count.parse()?, each, draw);
             fs::write(file, write(&cases))?;
         }
         _ => return Err(USAGE.into()),
@@ -91,37 +116,42 @@ pub fn drawn(seed: u64) -> (String, Vec<u8>) {
     }
 }
 
-/// Runs the program on the decks of `count` seeds and prints how many decks met what.
+/// Runs what is compared, by seed and input, on the inputs of `count` seeds, and prints how many met what.
 ///
 /// # Errors
-/// If the program cannot be run, or if it differs from the original.
+/// If it cannot be run, if it differs from the original, or if some of `must` was never met.
 pub fn compare(
-    program: &Path,
     seed: u64,
     count: u64,
-    original: impl Fn(&[u8]) -> Original,
+    draw: impl Fn(u64) -> Drawn,
+    mut run: impl FnMut(u64, &[u8]) -> io::Result<Vec<u8>>,
+    must: &[&str],
 ) -> Result<(), Box<dyn Error>> {
-    let mut met: BTreeMap<String, usize> = BTreeMap::new();
+    let mut met = Met::default();
     let mut different = 0;
     for seed in seed..seed + count {
-        let (kind, deck) = drawn(seed);
-        let answer = original(&deck);
-        if run(program, &deck)? != answer.text {
+        let Drawn {
+            kind,
+            input,
+            original,
+        } = draw(seed);
+        let answer = run(seed, &input).map_err(|error| format!("seed {seed} ({kind}): {error}"))?;
+        if answer != original.text {
             different += 1;
-            println!("seed {seed} ({kind}): the program differs from the original");
+            println!("seed {seed} ({kind}): it differs from the original");
         }
-        let damaged = kind.ends_with("damaged") || kind == "Over";
-        let notes = damaged.then(|| "damaged".to_owned());
-        for what in answer.answer.into_iter().chain(answer.notes).chain(notes) {
-            *met.entry(what).or_default() += 1;
+        for what in original.answer.into_iter().chain(original.notes) {
+            met.note(what);
         }
     }
-    println!("{count} decks from seed {seed} on: {different} differences");
-    for (what, count) in met {
-        println!("{what}: {count}");
-    }
+    println!("{count} from seed {seed} on: {different} differences");
+    met.print();
     if different > 0 {
-        return Err("the program differs from the original".into());
+        return Err("it differs from the original".into());
+    }
+    let missing = met.missing(must);
+    if !missing.is_empty() {
+        return Err(format!("never met: {}", missing.join(", ")).into());
     }
     Ok(())
 }
@@ -129,30 +159,28 @@ pub fn compare(
 /// Bytes of a short deck.
 const SHORT: usize = 2_000;
 
-/// Of the decks of a run, of each kind with each answer: short ones, or the shortest. `each`: how many short decks at
-/// most with a refusal, and how many accepted ones.
-pub fn sampled(
-    seed: u64,
-    count: u64,
-    each: [usize; 2],
-    original: impl Fn(&[u8]) -> Original,
-) -> Vec<Case> {
+/// Of what the seeds of a run give, of each kind with each answer: short ones, or the shortest. `each`: how many short ones
+/// at most with a refusal, and how many accepted ones.
+pub fn sampled(seed: u64, count: u64, each: [usize; 2], draw: impl Fn(u64) -> Drawn) -> Vec<Case> {
     let mut groups: BTreeMap<(String, Vec<String>), Vec<Case>> = BTreeMap::new();
     for seed in seed..seed + count {
-        let (kind, deck) = drawn(seed);
-        let answer = original(&deck);
-        let group = groups.entry((kind.clone(), answer.answer)).or_default();
-        let is_short = deck.len() <= SHORT;
+        let Drawn {
+            kind,
+            input,
+            original,
+        } = draw(seed);
+        let group = groups.entry((kind.clone(), original.answer)).or_default();
+        let is_short = input.len() <= SHORT;
         let has_long = group.first().is_some_and(|case| case.deck.len() > SHORT);
-        if has_long && deck.len() < group[0].deck.len() {
+        if has_long && input.len() < group[0].deck.len() {
             group.clear();
         }
-        let most = each[usize::from(answer.is_accepted)];
+        let most = each[usize::from(original.is_accepted)];
         if group.is_empty() || is_short && group.len() < most {
             group.push(Case {
                 name: format!("{seed} {kind}"),
-                answer: Stored::of(&answer.text),
-                deck,
+                answer: Stored::of(&original.text),
+                deck: input,
             });
         }
     }

@@ -338,7 +338,7 @@ fn decomposition_is_tested_once() {
     let most = run(&lines.0, &Limits::LARGEST).most;
     // Two clauses of 17 atoms become two of 9 and eight of 3.
     assert_eq!((most.clauses, most.atoms), (10, 42));
-    let tables = |clauses: usize, atoms: usize| lines.refusal(&Limits::tables(clauses, atoms, 0));
+    let tables = |clauses: usize, atoms: usize| lines.refusal(&Limits::tables([clauses, atoms, 0]));
     assert_eq!(tables(9, 42), refusal(12, 0));
     assert_eq!(tables(10, 41), refusal(12, 0));
     assert_eq!(tables(10, 33), refusal(12, lines.last_line()));
@@ -362,7 +362,7 @@ fn reflexive_passes_have_line_0() {
     );
     for clauses in 1..4 {
         assert_eq!(
-            lines.refusal(&Limits::tables(clauses, 99, 9)),
+            lines.refusal(&Limits::tables([clauses, 99, 9])),
             refusal(12, 0)
         );
     }

@@ -58,6 +58,14 @@ pub fn write(cases: &[Case]) -> String {
     out
 }
 
+/// A deck or an answer as the file has it.
+#[must_use]
+pub fn lines(bytes: &[u8]) -> String {
+    let mut out = String::new();
+    write_lines(&mut out, bytes);
+    out
+}
+
 fn write_lines(out: &mut String, bytes: &[u8]) {
     let lines: Vec<&[u8]> = bytes.split_inclusive(|&byte| byte == b'\n').collect();
     for alike in lines.chunk_by(|first, second| first == second) {

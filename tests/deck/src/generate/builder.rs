@@ -34,6 +34,23 @@ impl<'r> Builder<'r> {
         }
     }
 
+    /// A deck to be continued.
+    pub fn on(rng: &'r mut Random, deck: &Deck) -> Self {
+        let mut builder = Self::new(rng);
+        builder.declare(deck.classes, deck.individuals, deck.roles);
+        builder.set_options(deck.options);
+        for &class in &deck.keys {
+            builder.key(class);
+        }
+        for concept in &deck.concepts {
+            builder.concept(concept.clone());
+        }
+        for axiom in &deck.axioms {
+            builder.axiom(axiom.clone());
+        }
+        builder
+    }
+
     pub fn finish(self) -> Deck {
         self.deck
     }
@@ -88,6 +105,11 @@ impl<'r> Builder<'r> {
             self.deck.axioms.push(axiom);
         }
         fits
+    }
+
+    /// Puts the last `count` axioms first.
+    pub fn last_axioms_first(&mut self, count: usize) {
+        self.deck.axioms.rotate_right(count);
     }
 
     pub fn shuffle_axioms(&mut self) {

@@ -125,24 +125,55 @@ fn any_levels(builder: &mut Builder) {
 /// normal form visits.
 fn last_visits(builder: &mut Builder) {
     let inclusion = Axiom::SubClassOf(builder.atomic(0), builder.atomic(1));
-    let mut concept = builder.atomic(0);
-    let mut sizes = vec![(concept, 1)];
+    let leaf = builder.atomic(0);
+    let levels = doubled(builder, leaf);
+    let visits = builder.rng.between(999_998, 1_000_002) - 8;
+    builder.axiom(inclusion.clone());
+    assert_levels(builder, &levels, visits);
+    builder.axiom(inclusion);
+    builder.shuffle_axioms();
+}
+
+/// Concepts over the leaf with two paths down from each level, and the visits that the normal form of each takes.
+fn doubled(builder: &mut Builder, leaf: u32) -> Vec<(u32, u32)> {
+    let (mut concept, mut size) = (leaf, 1);
+    let mut levels = vec![(concept, size)];
     for _ in 0..17 {
         let paths = [builder.some(0, concept), builder.all(1, concept)];
         concept = builder.and(&paths);
-        let (_, below) = sizes[sizes.len() - 1];
-        sizes.push((concept, 2 * below + 3));
+        size = 2 * size + 3;
+        levels.push((concept, size));
     }
-    let mut rest = builder.rng.between(999_998, 1_000_002) - 8;
-    builder.axiom(inclusion.clone());
-    for &(concept, size) in sizes.iter().rev() {
+    levels
+}
+
+/// Adds assertions of the levels that take so many visits together.
+fn assert_levels(builder: &mut Builder, levels: &[(u32, u32)], visits: u32) {
+    let mut rest = visits;
+    for &(concept, size) in levels.iter().rev() {
         while size <= rest {
             rest -= size;
             builder.axiom(Axiom::ClassAssertion(concept, 0));
         }
     }
-    builder.axiom(inclusion);
-    builder.shuffle_axioms();
+}
+
+/// Adds assertions that take so many visits, behind the other axioms or before them, and otherwise only concept lines and the
+/// names that these need.
+pub fn pad(builder: &mut Builder, visits: u32) {
+    let (classes, individuals, roles) = {
+        let deck = builder.deck();
+        (deck.classes, deck.individuals, deck.roles)
+    };
+    builder.declare(classes, individuals.max(1), roles.max(1));
+    let leaf = builder.top();
+    let levels = doubled(builder, leaf);
+    let before = builder.deck().axioms.len();
+    assert_levels(builder, &levels, visits);
+    if builder.rng.chance(1, 2) {
+        let added = builder.deck().axioms.len() - before;
+        builder.last_axioms_first(added);
+    }
 }
 
 /// Assertions use up most visits, so that the last of them falls to a head.

@@ -336,3 +336,23 @@ fn long_path(builder: &mut Builder) -> Axiom {
     }
     Axiom::SubClassOf(sub, sup)
 }
+
+/// A body of 254 to 256 atoms under an at-most over a reflexive role, so that a counted loop lengthens it by one.
+pub fn counted_body_long(builder: &mut Builder) {
+    builder.declare(300, 0, 2);
+    let somes = builder.rng.between(127, 128);
+    let mut members: Vec<u32> = (0..somes)
+        .map(|class| {
+            let leaf = builder.atomic(class);
+            builder.some(0, leaf)
+        })
+        .collect();
+    if somes == 127 && builder.rng.chance(1, 2) {
+        members.push(builder.atomic(299));
+    }
+    let sub = builder.and(&members);
+    let (n, class) = (builder.at_most(), builder.any_atomic());
+    let sup = builder.max(n, 2, class);
+    builder.axiom(Axiom::SubClassOf(sub, sup));
+    builder.axiom(Axiom::Reflexive(2));
+}

@@ -7,8 +7,13 @@ use crate::Axiom;
 pub fn reflexive(builder: &mut Builder) {
     if builder.rng.chance(1, 32) {
         around_the_cap(builder);
-        return;
+    } else {
+        below_the_cap(builder);
     }
+}
+
+/// Reflexive roles that mostly unfold into few clauses.
+pub fn below_the_cap(builder: &mut Builder) {
     let classes = builder.rng.between(2, 5);
     let individuals = builder.rng.below(2);
     let roles = builder.rng.between(1, 5);
@@ -142,10 +147,15 @@ fn at_most(builder: &mut Builder) -> u32 {
     builder.max(n, role, filler)
 }
 
-/// An antecedent of `width` different Somes over one reflexive role unfolds into 2^width - 1 clauses: 4,095 for 12, and
-/// each range adds one.
 fn around_the_cap(builder: &mut Builder) {
     let width = *builder.rng.pick(&[11, 12, 12, 12, 13]);
+    let ranges = builder.rng.below(4);
+    unfolding(builder, width, ranges);
+}
+
+/// An antecedent of `width` different Somes over one reflexive role unfolds into 2^width - 1 clauses: 4,095 for 12, and
+/// each range adds one.
+pub fn unfolding(builder: &mut Builder, width: u32, ranges: u32) {
     builder.declare(20, 0, 2);
     let members: Vec<u32> = (1..=width)
         .map(|class| {
@@ -156,7 +166,7 @@ fn around_the_cap(builder: &mut Builder) {
     let sub = builder.and(&members);
     let sup = builder.atomic(0);
     builder.axiom(Axiom::SubClassOf(sub, sup));
-    for class in 0..builder.rng.below(4) {
+    for class in 0..ranges {
         let range = builder.atomic(14 + class);
         builder.axiom(Axiom::Range(0, range));
     }

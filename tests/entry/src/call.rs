@@ -1,0 +1,138 @@
+//! The call: dirty tables of any size, anywhere, and what must stand there afterwards.
+
+use deck::random::Random;
+use lent::{Lent, bytes, first_not_zero};
+
+use crate::case::Expected;
+use crate::sizes::Sizes;
+
+/// `clausify_with_stats` of the proved library: the deck, then clauses, atoms, deferrals, numbers and scratch, each a place
+/// and its bytes. It answers 0, or a refusal's number × 2^32 + line.
+pub type Clausify = unsafe extern "C" fn(
+    deck: *const u8,
+    deck_len: usize,
+    clauses: *mut u8,
+    clauses_len: usize,
+    atoms: *mut u8,
+    atoms_len: usize,
+    deferrals: *mut u8,
+    deferrals_len: usize,
+    numbers: *mut u8,
+    numbers_len: usize,
+    scratch: *mut u8,
+    scratch_len: usize,
+) -> u64;
+
+#[cfg(feature = "linked")]
+unsafe extern "C" {
+    pub fn gorvask_clausify_with_stats(
+        deck: *const u8,
+        deck_len: usize,
+        clauses: *mut u8,
+        clauses_len: usize,
+        atoms: *mut u8,
+        atoms_len: usize,
+        deferrals: *mut u8,
+        deferrals_len: usize,
+        numbers: *mut u8,
+        numbers_len: usize,
+        scratch: *mut u8,
+        scratch_len: usize,
+    ) -> u64;
+}
+
+const NAMES: [&str; 5] = [
+    "the clause table",
+    "the atom table",
+    "the deferral table",
+    "the table of numbers",
+    "scratch",
+];
+const DEFERRALS: usize = 2;
+
+/// What is lent, call after call.
+#[derive(Default)]
+pub struct Call {
+    deck: Lent,
+    /// In the order of [`NAMES`].
+    tables: [Lent; 5],
+}
+
+impl Call {
+    /// The library's reply.
+    pub fn make(&mut self, rng: &mut Random, library: Clausify, deck: &[u8], sizes: &Sizes) -> u64 {
+        self.deck.lend_filled(rng, deck);
+        for (table, &len) in self.tables.iter_mut().zip(&sizes.0) {
+            table.lend(rng, len);
+        }
+        let [clauses, atoms, deferrals, numbers, scratch] = &mut self.tables;
+        // SAFETY: each place has its bytes, and nothing else is asked for.
+        unsafe {
+            library(
+                self.deck.pointer(),
+                self.deck.len(),
+                clauses.pointer(),
+                clauses.len(),
+                atoms.pointer(),
+                atoms.len(),
+                deferrals.pointer(),
+                deferrals.len(),
+                numbers.pointer(),
+                numbers.len(),
+                scratch.pointer(),
+                scratch.len(),
+            )
+        }
+    }
+
+    /// How the reply, or what the call left, is not as expected.
+    #[must_use]
+    pub fn difference(&self, reply: u64, deck: &[u8], expected: &Expected) -> Option<String> {
+        if reply != expected.reply {
+            let told = [reply, expected.reply].map(|reply| (reply >> 32, reply & 0xffff_ffff));
+            return Some(format!("the reply is {:?}, not {:?}", told[0], told[1]));
+        }
+        let mut places = (0..5).filter_map(|place| self.table_difference(place, expected));
+        places.next().or_else(|| self.written_beside(deck))
+    }
+
+    /// The records, then zeros.
+    fn table_difference(&self, place: usize, expected: &Expected) -> Option<String> {
+        let name = NAMES[place];
+        let records = bytes(&expected.words[place]);
+        let Some((found, rest)) = self.tables[place].bytes().split_at_checked(records.len()) else {
+            return Some(format!("{name} has no room for what is expected"));
+        };
+        if place == DEFERRALS {
+            if sorted_records(found) != sorted_records(&records) {
+                return Some(format!("{name} has other records"));
+            }
+        } else if let Some(byte) = (0..found.len()).find(|&byte| found[byte] != records[byte]) {
+            let (found, record) = (found[byte], records[byte]);
+            return Some(format!("byte {byte} of {name} is {found}, not {record}"));
+        }
+        let byte = first_not_zero(rest)?;
+        let (place, found) = (records.len() + byte, rest[byte]);
+        Some(format!("byte {place} of {name} is {found}, not 0"))
+    }
+
+    fn written_beside(&self, deck: &[u8]) -> Option<String> {
+        if self.deck.bytes() != deck {
+            return Some("the deck was changed".into());
+        }
+        let names = std::iter::once("the deck").chain(NAMES);
+        let tables = std::iter::once(&self.deck).chain(&self.tables);
+        names.zip(tables).find_map(|(name, table)| {
+            let side = table.written_beside()?;
+            Some(format!("a byte {side} {name} was written"))
+        })
+    }
+}
+
+/// Deferrals, whose order is free.
+fn sorted_records(bytes: &[u8]) -> Vec<[u8; lent::DEFERRAL]> {
+    let (records, _) = bytes.as_chunks();
+    let mut records = records.to_vec();
+    records.sort_unstable();
+    records
+}
