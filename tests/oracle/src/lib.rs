@@ -11,7 +11,7 @@ pub mod sampling;
 mod stages;
 
 /// The unmodified build.
-mod unmodified {
+pub mod unmodified {
     use rustdl as library;
     include!("bridge.rs");
 }

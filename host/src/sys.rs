@@ -1,0 +1,34 @@
+//! The C interface as `include/gorvask.h` declares it, and the sizes that go with it.
+
+/// Bytes of a clause's record.
+pub const CLAUSE_BYTES: usize = 12;
+/// Bytes of an atom's record.
+pub const ATOM_BYTES: usize = 24;
+/// Bytes of a deferral's record.
+pub const DEFERRAL_BYTES: usize = 8;
+/// Bytes of the ten numbers.
+pub const NUMBERS_BYTES: usize = 40;
+/// The least that scratch has.
+pub const SCRATCH_BYTES: usize = 1_572_864;
+
+unsafe extern "C" {
+    /// Clausifies a deck into lent tables. The reply is 0, or a refusal's number × 2^32 + line.
+    ///
+    /// # Safety
+    /// Each pointer is not null and is followed by so many bytes, which may be read, and but for the deck's written;
+    /// the six do not overlap, and nothing else uses the tables during the call. The bytes may hold anything.
+    pub fn gorvask_clausify_with_stats(
+        deck: *const u8,
+        deck_len: usize,
+        clauses: *mut u8,
+        clauses_len: usize,
+        atoms: *mut u8,
+        atoms_len: usize,
+        deferrals: *mut u8,
+        deferrals_len: usize,
+        numbers: *mut u8,
+        numbers_len: usize,
+        scratch: *mut u8,
+        scratch_len: usize,
+    ) -> u64;
+}
