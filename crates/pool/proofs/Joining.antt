@@ -85,7 +85,7 @@ collapsed-many unit list w i (suc zero) h k = absurd (k refl)
 collapsed-many unit list w i (suc (suc n)) h k = refl
 
 -- ---- clear marks
-take-sets : (vs l : List ℕ) (i n : ℕ) → n ≤ i → take n (sets l i vs) ≡ take n l
+pub take-sets : (vs l : List ℕ) (i n : ℕ) → n ≤ i → take n (sets l i vs) ≡ take n l
 take-sets [] l i n h = refl
 take-sets (a ∷ vs) l i n h = take-sets vs (set l i a) (suc i) n (omega arith) ∙ take-set-le n l i a h
 
@@ -117,7 +117,7 @@ given-below j e c n h b = rw (operand-is j e)
     low true = below-more (omega arith) (partsOf e) b
     low false = tt
 
-flattened-below : (j : Joint) (w : List ℕ) (n m : ℕ) → Held w n m → (l : List ℕ) → Each (λ d. d < n) l → Each (λ d. d < n) (flattened (operandIn j (poolOf w n)) l)
+pub flattened-below : (j : Joint) (w : List ℕ) (n m : ℕ) → Held w n m → (l : List ℕ) → Each (λ d. d < n) l → Each (λ d. d < n) (flattened (operandIn j (poolOf w n)) l)
 unfolding flattened
 flattened-below j w n m H [] h = tt
 flattened-below j w n m H (a ∷ l) h =
@@ -127,12 +127,12 @@ flattened-below j w n m H (a ∷ l) h =
     (each-append (λ d. d < n) (added (operandIn j (poolOf w n) a) a []) (flattened (operandIn j (poolOf w n)) l) b (flattened-below j w n m H l (h .1)))
 
 -- ---- the rule
-mk-short : (j : Joint) (l : List ℕ) (p : Pool) → anyAnnihilates (operandIn j p) l ≡ true → mkJoint j l p ≡ internRaw (annihilatorOf j) p
+pub mk-short : (j : Joint) (l : List ℕ) (p : Pool) → anyAnnihilates (operandIn j p) l ≡ true → mkJoint j l p ≡ internRaw (annihilatorOf j) p
 unfolding mkAnd mkOr
 mk-short conj l p h = ap (λ (b : Bool). andOf (flattened (operandIn conj p) l) b p) h
 mk-short disj l p h = ap (λ (b : Bool). orOf (flattened (operandIn disj p) l) b p) h
 
-mk-long : (j : Joint) (l : List ℕ) (p : Pool) → anyAnnihilates (operandIn j p) l ≡ false → mkJoint j l p ≡ collapsed (identityOf j) (listOf j) (sortDedup (flattened (operandIn j p) l)) p
+pub mk-long : (j : Joint) (l : List ℕ) (p : Pool) → anyAnnihilates (operandIn j p) l ≡ false → mkJoint j l p ≡ collapsed (identityOf j) (listOf j) (sortDedup (flattened (operandIn j p) l)) p
 unfolding mkAnd mkOr
 mk-long conj l p h = ap (λ (b : Bool). andOf (flattened (operandIn conj p) l) b p) h
 mk-long disj l p h = ap (λ (b : Bool). orOf (flattened (operandIn disj p) l) b p) h
@@ -147,7 +147,7 @@ beside {marks} {w} {v} O h v' e = record {
 }
 
 -- ---- the steps: bytes s at entry, s1 with clear marks, s2 with what the operands give, s3 with the sorted list in their place
-ready-after : (marks : ℕ) (s s' : List ℕ) (k : Counters) → Ready s k → poolWords ≤ marks → length s' ≡ length s → Outside marks (words s) (words s') → Ready s' k
+pub ready-after : (marks : ℕ) (s s' : List ℕ) (k : Counters) → Ready s k → poolWords ≤ marks → length s' ≡ length s → Outside marks (words s) (words s') → Ready s' k
 ready-after marks s s' k R h e O = record {
   room = rw e (R .room);
   held = outside-held O (k .concepts) (k .members) (R .held) h (rw (length-words s', length-words s, e) refl);

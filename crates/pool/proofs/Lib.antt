@@ -7,3 +7,6 @@ mod Marking
 mod Gathering
 mod Sorting
 mod Joining
+mod Inserting
+mod Placing
+mod Surveying

@@ -4,6 +4,7 @@ pub mod Held
 pub mod Answers
 pub mod Joints
 pub mod Marks
+pub mod Insertion
 pub mod Tabs
 pub mod Shapes
 pub mod HeldLaws

@@ -13,6 +13,9 @@ pub const POOL: usize = 30720;
 
 pub const MOST_CONCEPTS: u32 = 2048;
 
+// How many words the marks have: one for each concept.
+pub const MARK_WORDS: usize = 2048;
+
 pub const MOST_MEMBERS: usize = 16384;
 
 // The kinds of the two lists.

@@ -5,4 +5,5 @@ pub mod joint;
 pub mod layout;
 pub mod make;
 mod marks;
+mod place;
 pub mod record;

@@ -7,6 +7,7 @@ mod forms;
 mod listing;
 pub mod lists;
 pub mod met;
+pub mod replay;
 pub mod sampling;
 mod stages;
 
