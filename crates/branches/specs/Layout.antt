@@ -4,26 +4,33 @@ use Prim.Native.Nat.{ℕ}
 abbrev pub mostNamed : ℕ
 mostNamed = 262144
 
+-- the filter's words, and where they end
+abbrev pub filterAt : ℕ
+filterAt = 262144
+
+abbrev pub namedEnd : ℕ
+namedEnd = 294912
+
 abbrev pub bodyAt : ℕ
-bodyAt = 43691
+bodyAt = 49152
 
 abbrev pub copyAt : ℕ
-copyAt = 43947
+copyAt = 49408
 
 abbrev pub boundAt : ℕ
-boundAt = 265218
+boundAt = 297984
 
 abbrev pub topsAt : ℕ
-topsAt = 265475
+topsAt = 298241
 
 abbrev pub metAt : ℕ
-metAt = 265732
+metAt = 298498
 
 abbrev pub keepAt : ℕ
-keepAt = 266245
+keepAt = 299011
 
 abbrev pub renumberedAt : ℕ
-renumberedAt = 266757
+renumberedAt = 299523
 
 abbrev pub workWords : ℕ
-workWords = 267013
+workWords = 299779

@@ -7,6 +7,7 @@ pub mod Clauses
 pub mod ClauseLaws
 pub mod Layout
 pub mod Trees
+pub mod FilterLaws
 pub mod Found
 pub mod FoundLaws
 pub mod Grouped
@@ -18,6 +19,7 @@ pub mod PackLaws
 pub mod RenumberLaws
 pub mod Renumbered
 pub mod SameLaws
+pub mod Hash
 pub mod InsertLaws
 pub mod Sorting
 pub mod Edges

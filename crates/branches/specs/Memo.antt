@@ -11,9 +11,10 @@ use Rattle.rules.specs.Base.{Res, ok, refused}
 use Rattle.rules.specs.Invariants.{Each}
 use Rattle.rules.specs.Branches.{Branch, memoOf, nameOf}
 use Rattle.rules.specs.Branches as Rules
-use Rattle.branches.specs.Layout.{mostNamed, bodyAt, metAt, keepAt, renumberedAt}
+use Rattle.branches.specs.Layout.{mostNamed, filterAt, namedEnd, bodyAt, metAt, keepAt, renumberedAt}
 use Rattle.tables.specs.TabledLaws.{At}
 use Rattle.branches.specs.Wide.{AtomsAre}
+use Rattle.branches.specs.Hash.{hashOf}
 use Rattle.branches.specs.declared.memo.Naming.{Naming}
 use Rattle.branches.specs.declared.memo.Name.{Name}
 use Rattle.branches.specs.declared.memo.Name.the-variants as Names
@@ -59,6 +60,10 @@ namedWords (b ∷ l) = length (b .body) ∷ (map packed (b .body) ++ namedWords 
 abbrev pub noBranch : Branch
 noBranch = record { body = []; name = 0 }
 
+-- the filter's word for the branch is set
+abbrev pub Marked : List ℕ → Branch → Type 0
+Marked w b = getD w (filterAt + hashOf (map packed (b .body))) 0 ≡ 1
+
 -- the rule's state z in the words w and the code's numbers: names follow one another
 pub record NamedHeld (w : List ℕ) (s : Naming) (z : Rules.Naming) : Type 0 where
   pub many : s .named ≡ length (z .named)
@@ -68,6 +73,7 @@ pub record NamedHeld (w : List ℕ) (s : Naming) (z : Rules.Naming) : Type 0 whe
   pub few : s .used ≤ mostNamed
   pub words : At w 0 (namedWords (z .named))
   pub bodies : Each (λ b. Each Packable (b .body) × (length (b .body) ≤ 256)) (z .named)
+  pub marks : Each (Marked w) (z .named)
 
 pub record NamedThere (w : List ℕ) (s : Naming) : Type 0 where
   pub state : Rules.Naming
@@ -85,5 +91,5 @@ NamedBy w body z (Names.Refused x) = (x ≡ 12) × (memoOf (z .named) body ≡ n
 
 -- the bodies under work, the tree and the variables to keep are as they were
 pub record OnlyMemo (w w' : List ℕ) : Type 0 where
-  pub work : (j : ℕ) → mostNamed ≤ j → j < metAt → getD w' j 0 ≡ getD w j 0
+  pub work : (j : ℕ) → namedEnd ≤ j → j < metAt → getD w' j 0 ≡ getD w j 0
   pub keep : (j : ℕ) → keepAt ≤ j → j < renumberedAt → getD w' j 0 ≡ getD w j 0

@@ -19,7 +19,7 @@ use Rattle.rules.specs.Invariants.{Each}
 use Rattle.rules.specs.Branches.{memoOf, nameOf, nameOrNew, metWith, renumber, renumberFrom}
 use Rattle.rules.specs.Branches as Rules
 use Rattle.rules.specs.BranchLaws.{renumber-length}
-use Rattle.branches.specs.Layout.{mostNamed, metAt, keepAt}
+use Rattle.branches.specs.Layout.{namedEnd, metAt, keepAt}
 use Rattle.tables.specs.TabledLaws.{At}
 use Rattle.branches.specs.Wide.{AtomsAre}
 use Rattle.branches.specs.Memo.{packed, Packable, Tame, TameThere, namedWords, NamedHeld, NamedThere, Named, OnlyMemo}
@@ -28,6 +28,7 @@ use Rattle.branches.specs.Found.{BodyHeld, Found}
 use Rattle.branches.specs.PackLaws.{cons-same}
 use Rattle.branches.specs.MetLaws.{place-most}
 use Rattle.branches.specs.RenumberLaws.{run-kept}
+use Rattle.branches.specs.FilterLaws.{marks-kept}
 use Rattle.branches.specs.declared.memo.Naming.{Naming}
 
 -- ---- words determine their atoms
@@ -77,7 +78,10 @@ body-held r w w' base count root l T few A a = record {
 }
 
 -- ---- the branches stay
-pub named-kept : (m : ℕ) (w w' : List ℕ) (s : Naming) (z : Rules.Naming) → take m w' ≡ take m w → mostNamed ≤ m → NamedHeld w s z → NamedHeld w' s z
+pub get-below : (m : ℕ) (w w' : List ℕ) (j : ℕ) → take m w' ≡ take m w → j < m → getD w' j 0 ≡ getD w j 0
+get-below m w w' j e h = sym (getD-take m w' j 0 h) ∙ ap (λ (l : List ℕ). getD l j 0) e ∙ getD-take m w j 0 h
+
+pub named-kept : (m : ℕ) (w w' : List ℕ) (s : Naming) (z : Rules.Naming) → take m w' ≡ take m w → namedEnd ≤ m → NamedHeld w s z → NamedHeld w' s z
 named-kept m w w' s z e h H = record {
   many = H .many;
   names = H .names;
@@ -86,9 +90,10 @@ named-kept m w w' s z e h H = record {
   few = H .few;
   words = run-kept m w w' 0 (length (namedWords (z .named))) e (omega (arith, H .used, H .few)) ∙ H .words;
   bodies = H .bodies;
+  marks = marks-kept w w' (z .named) (λ j l. get-below m w w' j e (omega arith)) (H .marks);
 }
 
-pub there-kept : (m : ℕ) (w w' : List ℕ) (s : Naming) → take m w' ≡ take m w → mostNamed ≤ m → NamedThere w s → NamedThere w' s
+pub there-kept : (m : ℕ) (w w' : List ℕ) (s : Naming) → take m w' ≡ take m w → namedEnd ≤ m → NamedThere w s → NamedThere w' s
 there-kept m w w' s e h T = record { state = T .state; held = named-kept m w w' s (T .state) e h (T .held) }
 
 -- ---- the answer
@@ -105,9 +110,6 @@ found-none s i (some e) h f = absurd (let k = f .0 in omega arith)
 found-none s i none h f = refl
 
 -- ---- what is not written
-pub get-below : (m : ℕ) (w w' : List ℕ) (j : ℕ) → take m w' ≡ take m w → j < m → getD w' j 0 ≡ getD w j 0
-get-below m w w' j e h = sym (getD-take m w' j 0 h) ∙ ap (λ (l : List ℕ). getD l j 0) e ∙ getD-take m w j 0 h
-
 get-run : (k n : ℕ) (w : List ℕ) (j : ℕ) → k ≤ j → j < k + n → getD (run w k n) (j - k) 0 ≡ getD w j 0
 get-run k n w j h l =
     let e : k + (j - k) ≡ j = omega arith in
@@ -116,7 +118,7 @@ get-run k n w j h l =
 pub get-within : (k n : ℕ) (w w' : List ℕ) (j : ℕ) → run w' k n ≡ run w k n → k ≤ j → j < k + n → getD w' j 0 ≡ getD w j 0
 get-within k n w w' j e h l = sym (get-run k n w' j h l) ∙ ap (λ (x : List ℕ). getD x (j - k) 0) e ∙ get-run k n w j h l
 
-pub only-memo : (w w1 w2 : List ℕ) → OnlyRenumbered metAt keepAt w w1 → ((j : ℕ) → mostNamed ≤ j → getD w2 j 0 ≡ getD w1 j 0) → OnlyMemo w w2
+pub only-memo : (w w1 w2 : List ℕ) → OnlyRenumbered metAt keepAt w w1 → ((j : ℕ) → namedEnd ≤ j → getD w2 j 0 ≡ getD w1 j 0) → OnlyMemo w w2
 only-memo w w1 w2 O f = record {
   work = λ j h l. f j h ∙ get-below metAt w w1 j (O .before) l;
   keep = λ j h l. f j (omega arith) ∙ get-within keepAt 512 w w1 j (O .keep) h l;

@@ -5,18 +5,21 @@ pub const NAMED: usize = 0;
 
 pub const MOST_NAMED: usize = 262144;
 
-// Records of six words: the body under work, and a copy while it is arranged.
-pub const BODY: usize = 43691;
+// The filter: a word for each hash, 1 where a named branch's body has the hash.
+pub const FILTER: usize = 262144;
 
-pub const COPY: usize = 43947;
+// Records of six words: the body under work, and a copy while it is arranged.
+pub const BODY: usize = 49152;
+
+pub const COPY: usize = 49408;
 
 // Words: the bound variables, for each the child of the root above it, the variables met, those to keep, a renumbered body.
-pub const BOUND: usize = 265218;
+pub const BOUND: usize = 297984;
 
-pub const TOPS: usize = 265475;
+pub const TOPS: usize = 298241;
 
-pub const MET: usize = 265732;
+pub const MET: usize = 298498;
 
-pub const KEEP: usize = 266245;
+pub const KEEP: usize = 299011;
 
-pub const RENUMBERED: usize = 266757;
+pub const RENUMBERED: usize = 299523;

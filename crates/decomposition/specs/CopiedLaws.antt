@@ -20,7 +20,7 @@ use Rattle.rules.specs.DecodeLaws.{flat-long}
 use Rattle.rules.specs.Branches.{isTreeAtom}
 use Rattle.rules.specs.Branches as Rules
 use Rattle.rules.specs.Invariants.{Each, Bounds, AtomIn}
-use Rattle.branches.specs.Layout.{mostNamed, bodyAt, workWords}
+use Rattle.branches.specs.Layout.{namedEnd, bodyAt, workWords}
 use Rattle.branches.specs.Wide.{AtomsAre}
 use Rattle.branches.specs.Memo.{Tame, TameThere, NamedHeld, NamedThere}
 use Rattle.branches.specs.Edges.{KeepIs}
@@ -88,7 +88,7 @@ module _ (s : List ℕ) (first nb : ℕ) (w w1 w2 : List ℕ) (few : nb ≤ 256)
     long2 : length w2 ≡ length w1
     long2 = same-long bodyAt nb w1 w2 l copied (A .long) room
 
-    low : (j : ℕ) → j < mostNamed → getD w2 j 0 ≡ getD w j 0
+    low : (j : ℕ) → j < namedEnd → getD w2 j 0 ≡ getD w j 0
     low j h = before bodyAt nb w1 w2 l copied (A .long) room j (omega arith) ∙ O .before j (omega arith)
 
     pub held-still : (n : Naming) (z : Rules.Naming) → NamedHeld w n z → NamedHeld w2 n z

@@ -103,6 +103,7 @@ module _ (k : Counters) (c a : List ℕ) (D : Decomposing k c a) where
       few = omega arith;
       words = refl;
       bodies = tt;
+      marks = tt;
     };
     half = half-start (D .state .clauses) c a;
   }

@@ -4,6 +4,7 @@ pub mod place;
 mod turn;
 
 use crate::turn::Turned;
+use branches::filter;
 use branches::memo::Naming;
 use ir::answer::Answer;
 use ir::counters::Counters;
@@ -27,6 +28,7 @@ pub fn decompose_wide_bodies(
     requires { ⌜ Decomposing k (words (now clauses)) (words (now atoms)) × (4 * workWords ≤ length (now scratch)) × Sized (length (now clauses)) (length (now atoms)) 0 ⌝ }
     ensures { λ r. ⌜ ((D : Decomposing k (words (now (clauses .entry))) (words (now (atoms .entry)))) → after r (words (now (clauses .exit))) (words (now (atoms .exit))) (D .deferrals) ≡ shown (λ n. n) k (D .env .rooms) (decomposeWideBodies (D .env) (D .state))) ⌝ }
 {
+    filter::clear(scratch);
     let mut s = Naming {
         first: k.next_class,
         named: 0,

@@ -12,9 +12,10 @@ use Rattle.rules.specs.Run.{flat}
 use Rattle.rules.specs.DecodeLaws.{flat-long}
 use Rattle.rules.specs.Branches as Rules
 use Rattle.tables.specs.TabledLaws.{At}
-use Rattle.branches.specs.Layout.{mostNamed, keepAt, renumberedAt}
+use Rattle.branches.specs.Layout.{namedEnd, keepAt, renumberedAt}
 use Rattle.branches.specs.Wide.{AtomsAre}
 use Rattle.branches.specs.Memo.{namedWords, NamedHeld, NamedThere}
+use Rattle.branches.specs.FilterLaws.{marks-kept}
 use Rattle.branches.specs.Edges.{KeepIs}
 use Rattle.branches.specs.declared.memo.Naming.{Naming}
 
@@ -44,7 +45,7 @@ module _ (w w' : List ℕ) (long : length w' ≡ length w) where
   pub atoms-stay : (base count : ℕ) (l : List Atom) → ((j : ℕ) → 6 * base ≤ j → j < 6 * (base + count) → getD w' j 0 ≡ getD w j 0) → AtomsAre w base count l → AtomsAre w' base count l
   atoms-stay base count l f A = record { long = A .long; there = at-stay (6 * base) (flat l) (λ j h k. f j h (omega (arith, flat-long l, A .long))) (A .there) }
 
-  pub named-stay : (s : Naming) (z : Rules.Naming) → ((j : ℕ) → j < mostNamed → getD w' j 0 ≡ getD w j 0) → NamedHeld w s z → NamedHeld w' s z
+  pub named-stay : (s : Naming) (z : Rules.Naming) → ((j : ℕ) → j < namedEnd → getD w' j 0 ≡ getD w j 0) → NamedHeld w s z → NamedHeld w' s z
   named-stay s z f H = record {
     many = H .many;
     names = H .names;
@@ -53,9 +54,10 @@ module _ (w w' : List ℕ) (long : length w' ≡ length w) where
     few = H .few;
     words = at-stay 0 (namedWords (z .named)) (λ j h k. f j (omega (arith, H .used, H .few))) (H .words);
     bodies = H .bodies;
+    marks = marks-kept w w' (z .named) f (H .marks);
   }
 
-  pub named-there-stay : (s : Naming) → ((j : ℕ) → j < mostNamed → getD w' j 0 ≡ getD w j 0) → NamedThere w s → NamedThere w' s
+  pub named-there-stay : (s : Naming) → ((j : ℕ) → j < namedEnd → getD w' j 0 ≡ getD w j 0) → NamedThere w s → NamedThere w' s
   named-there-stay s f T = record { state = T .state; held = named-stay s (T .state) f (T .held) }
 
   keep-run : (k r n : ℕ) → r ≡ k + 512 → n ≤ 512 → ((j : ℕ) → k ≤ j → j < r → getD w' j 0 ≡ getD w j 0) → take n (drop k w') ≡ take n (drop k w)

@@ -8,7 +8,7 @@ use Rattle.ir.specs.declared.atom.Atom.{Atom}
 use Rattle.rules.specs.Base.{Res, ok, refused}
 use Rattle.rules.specs.Branches as Rules
 use Rattle.rules.specs.Invariants.{Each}
-use Rattle.branches.specs.Layout.{mostNamed, bodyAt, copyAt, keepAt, renumberedAt}
+use Rattle.branches.specs.Layout.{mostNamed, namedEnd, bodyAt, copyAt, keepAt, renumberedAt}
 use Rattle.branches.specs.Wide.{AtomsAre}
 use Rattle.branches.specs.Memo.{Tame, namedWords, NamedHeld}
 use Rattle.branches.specs.declared.memo.Naming.{Naming}
@@ -39,6 +39,6 @@ ReducedBy w base count l kept s (refused k) r = ⊥
 
 -- the atoms beside these, and the variables to keep, are as they were
 pub record OnlyNames (base count : ℕ) (w w' : List ℕ) : Type 0 where
-  pub before : (j : ℕ) → mostNamed ≤ j → j < 6 * base → getD w' j 0 ≡ getD w j 0
+  pub before : (j : ℕ) → namedEnd ≤ j → j < 6 * base → getD w' j 0 ≡ getD w j 0
   pub between : (j : ℕ) → 6 * (base + count) ≤ j → j < 6 * copyAt → getD w' j 0 ≡ getD w j 0
   pub keep : (j : ℕ) → keepAt ≤ j → j < renumberedAt → getD w' j 0 ≡ getD w j 0

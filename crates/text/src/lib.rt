@@ -1,8 +1,9 @@
 // The text of a deck: 11 columns to a number, fields and a line feed to a line. It reads any slice.
 ghost use mathlib.Core.Path.{_≡_};
+ghost use mathlib.Core.List.{[], _∷_};
 ghost use Prim.Native.Nat.{_+_, _*_, _≤_, _<_};
 ghost use lib.ListN.{length, getD, drop};
-ghost use Rattle.rules.specs.Text.{isDigit, column, numberIn, number, rowOf};
+ghost use Rattle.rules.specs.Text.{isDigit, column, columns, numberIn, number, rowOf};
 ghost use Rattle.text.specs.Rows.{Small, columnsOf, rowAt, lineOf};
 ghost use Rattle.text.specs.declared.Columns.the-variants.{Spaces, Digits};
 
@@ -76,12 +77,40 @@ fn number_in(x: Columns) -> usize
     }
 }
 
+// Four bytes as one number: a machine reads them at once.
+fn four(a: u8, b: u8, c: u8, d: u8) -> usize
+    ensures { λ r. ⌜ r ≡ a + 256 * b + 65536 * c + 16777216 * d ⌝ }
+{
+    let low = a as usize + 256 * (b as usize);
+    low + 65536 * (c as usize) + 16777216 * (d as usize)
+}
+
+// The number in a field's last three columns, behind spaces.
+fn three(a: usize, b: usize, c: usize) -> usize
+    ensures { λ r. ⌜ r ≡ numberIn (columns (columnsOf Spaces) (a ∷ b ∷ c ∷ [])) ⌝ }
+{
+    let x = first_digit(a);
+    let y = next_column(x, b);
+    let z = next_column(y, c);
+    number_in(z)
+}
+
 // The number in the 11 bytes from `at` on; 4294967296 where they are no field. A field without a space in front is
-// more than the largest number, so its first column needs no test of its own.
+// more than the largest number, so its first column needs no test of its own. Most numbers have at most three digits:
+// eight spaces, 538976288 twice, are tested first.
 fn number_at(deck: &[u8], at: usize) -> usize
     requires { ⌜ at + 11 ≤ length (now deck) ⌝ }
     ensures { λ r. ⌜ r ≡ number (drop at (now (deck .entry))) ⌝ }
 {
+    if four(deck[at], deck[at + 1], deck[at + 2], deck[at + 3]) == 538976288 {
+        if four(deck[at + 4], deck[at + 5], deck[at + 6], deck[at + 7]) == 538976288 {
+            return three(
+                deck[at + 8] as usize,
+                deck[at + 9] as usize,
+                deck[at + 10] as usize,
+            );
+        }
+    }
     let mut x = Columns::Spaces;
     let mut i: usize = 0;
     while i < 11 {

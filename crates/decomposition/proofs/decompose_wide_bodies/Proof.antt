@@ -21,19 +21,23 @@ Inv-loop scratch₀ clauses₀ atoms₀ k s₀ rewritten₀ to₀ c₀ scratch c
 abbrev μ-loop : tie.MeasureT-loop
 μ-loop scratch₀ clauses₀ atoms₀ k s₀ rewritten₀ to₀ c₀ scratch clauses atoms s rewritten to c = k .clauses - c
 
+clear-requires : tie.Need-clear-requires Inv-loop μ-loop
+clear-requires c κs = search needs
+
 loop-holds : tie.Need-loop-holds Inv-loop μ-loop
 loop-holds c =
-    let st = c .before .before .before in
+    let cleared = c .before .before .clear in
+    let st = c .before .before .before .before .before .before .before in
     let k = st .args .k in
     let cl = words (st .args .clauses .now) in
     let at = words (st .args .atoms .now) in
     let D = st .pre .0 in
-    (omega arith, refl, refl, refl, λ D. passed-start k cl at D (words (st .args .scratch .now)))
+    (omega arith, refl, refl, refl, λ D. passed-start k cl at D (words (cleared .last .0)))
 
 turn-requires : tie.Need-turn-requires Inv-loop μ-loop
 turn-requires c κs =
     let lp = c .before .before .before .before .before in
-    let st = lp .before .before .before .before in
+    let st = lp .before .before .before .before .before .before .before .before in
     let k = st .args .k in
     let cl = words (st .args .clauses .now) in
     let at = words (st .args .atoms .now) in
@@ -48,7 +52,7 @@ turn-requires c κs =
         more = omega (arith, c .before .before .before .if1 .taken, clauses-many k cl at D);
         passed = here .inv .4 D;
       },
-      omega (arith, here .inv .1, st .pre .1),
+      omega (arith, here .inv .1, lp .before .before .before .clear .kept .0, st .pre .1),
       record { clauses = omega (arith, here .inv .2, st .pre .2 .clauses); atoms = omega (arith, here .inv .3, st .pre .2 .atoms); deferrals = omega arith },
     )
 
@@ -70,7 +74,7 @@ same-length-3 c = search needs
 returns : tie.Need-returns Inv-loop μ-loop
 returns c =
     let lp = c .before .before .before .before .before .before .before .before .before .before .before .before .before .before .before in
-    let st = lp .before .before .before .before in
+    let st = lp .before .before .before .before .before .before .before .before in
     let k = st .args .k in
     let cl = words (st .args .clauses .now) in
     let at = words (st .args .atoms .now) in
@@ -92,7 +96,7 @@ loop-less c = search needs
 loop-again : tie.Need-loop-again Inv-loop μ-loop
 loop-again c =
     let lp = c .before .before .before .before .before .before .before .before .before .before .before .before .before .before .before in
-    let st = lp .before .before .before .before in
+    let st = lp .before .before .before .before .before .before .before .before in
     let k = st .args .k in
     let cl = words (st .args .clauses .now) in
     let at = words (st .args .atoms .now) in
@@ -112,14 +116,14 @@ loop-again c =
 finish-requires : tie.Need-finish-requires Inv-loop μ-loop
 finish-requires c κs =
     let lp = c .before .before .before .before .before in
-    let st = lp .before .before .before .before in
+    let st = lp .before .before .before .before .before .before .before .before in
     let k = st .args .k in
     let cl = words (st .args .clauses .now) in
     let at = words (st .args .atoms .now) in
     let D = st .pre .0 in
     let here = lp .loop in
     let e : here .c ≡ k .clauses = omega (arith, here .inv .0, c .before .before .before .if1 .left) in
-    (record { c = cl; a = at; before = D; passed = rw e at (here .inv .4 D) }, omega (arith, here .inv .1, st .pre .1), record { clauses = omega (arith, here .inv .2, st .pre .2 .clauses); atoms = omega (arith, here .inv .3, st .pre .2 .atoms); deferrals = omega arith })
+    (record { c = cl; a = at; before = D; passed = rw e at (here .inv .4 D) }, omega (arith, here .inv .1, lp .before .before .before .clear .kept .0, st .pre .1), record { clauses = omega (arith, here .inv .2, st .pre .2 .clauses); atoms = omega (arith, here .inv .3, st .pre .2 .atoms); deferrals = omega arith })
 
 same-length-4 : tie.Need-same-length-4 Inv-loop μ-loop
 same-length-4 c = search needs
@@ -133,7 +137,7 @@ same-length-6 c = search needs
 returns-2 : tie.Need-returns-2 Inv-loop μ-loop
 returns-2 c =
     let lp = c .before .before .before .before .before .before .before .before .before .before in
-    let st = lp .before .before .before .before in
+    let st = lp .before .before .before .before .before .before .before .before in
     let k = st .args .k in
     let cl = words (st .args .clauses .now) in
     let at = words (st .args .atoms .now) in
@@ -148,6 +152,7 @@ decompose-wide-bodies-spec =
     (tie.spec
     Inv-loop
     μ-loop
+    clear-requires
     loop-holds
     turn-requires
     enum-known-m
