@@ -24,17 +24,17 @@ use Rattle.branches.specs.MetLaws.{run-from, run-out}
 use Rattle.branches.specs.declared.memo.Naming.{Naming}
 
 -- ---- the hash
-hash-below : (h : ℕ) (l : List ℕ) → h < 4294967296 → hashBy h l < 4294967296
+hash-below : (h : ℕ) (l : List ℕ) → h < 4294967291 → hashBy h l < 4294967291
 unfolding hashBy
 hash-below h [] k = k
-hash-below h (x ∷ l) k = hash-below (1640531527 * (h + x) % 4294967296) l (omega arith)
+hash-below h (x ∷ l) k = hash-below (1937098319 * (h + x) % 4294967291) l (omega arith)
 
 pub hash-small : (l : List ℕ) → hashOf l < 32768
 hash-small l = let k = hash-below 0 l (omega arith) in omega arith
 
 -- of n words from r on, before word i
 module _ (w : List ℕ) (r n i : ℕ) (long : r + n ≤ length w) where
-  pub hash-next : (g x : ℕ) → i < n → x ≡ getD w (r + i) 0 → hashBy (1640531527 * (g + x) % 4294967296) (drop (i + 1) (run w r n)) ≡ hashBy g (drop i (run w r n))
+  pub hash-next : (g x : ℕ) → i < n → x ≡ getD w (r + i) 0 → hashBy (1937098319 * (g + x) % 4294967291) (drop (i + 1) (run w r n)) ≡ hashBy g (drop i (run w r n))
   unfolding hashBy
   hash-next g x h e = rw (run-from w r n i long h, e) refl
 

@@ -18,7 +18,7 @@ pub fn clear(scratch: &mut [u8])
     words::clear_words(scratch, FILTER, 32768);
 }
 
-// The hash of the `count` renumbered words.
+// The hash of the `count` renumbered words. Modulo 2^32 a role, whose code stands in the high bits, would hardly tell.
 pub fn hash(scratch: &[u8], count: u32) -> usize
     requires { ⌜ (count ≤ 256) × (4 * workWords ≤ length (now scratch)) ⌝ }
     ensures { λ r. ⌜ (r ≡ hashOf (run (words (now (scratch .entry))) renumberedAt count)) × (r < 32768) ⌝ }
@@ -27,7 +27,7 @@ pub fn hash(scratch: &[u8], count: u32) -> usize
     let mut i: usize = 0;
     while i < count as usize {
         let w = words::get_word(scratch, RENUMBERED + i) as usize;
-        h = 1640531527 * (h + w) % 4294967296;
+        h = 1937098319 * (h + w) % 4294967291;
         i += 1;
     }
     h / 131072

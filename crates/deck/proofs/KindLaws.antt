@@ -17,11 +17,11 @@ use Rattle.ir.specs.declared.role.Role.{Role}
 use Rattle.rules.specs.Base.{all}
 use Rattle.rules.specs.Concept.{Concept, conceptRow}
 use Rattle.rules.specs.Concept.{Top, Bot, Atomic, Nominal, SelfRestriction, Not, And, Or, Some, All, Min, Max}
-use Rattle.rules.specs.Deck.{mostListed, sections, fixedFields, listKinds, sectionOf, fixedOf, listOf, conceptOf, fieldsOk, partsOf, memberOf, underAnd, underOr, listOk, membersOk, boundOk}
+use Rattle.rules.specs.Deck.{mostListed, sections, fixedFields, sectionOf, fixedOf, listOf, conceptOf, fieldsOk, partsOf, memberOf, underAnd, underOr, listOk, membersOk, boundOk}
 use Rattle.rules.specs.DeckLaws.{all-each}
 use Rattle.rules.specs.Text.{mostNumber}
-use Rattle.rules.specs.TextLaws.{each-getD, by-test}
-use Rattle.deck.specs.Records.{firstPart, kindMember, under, IsList}
+use Rattle.rules.specs.TextLaws.{each-getD, by-test, and-true}
+use Rattle.deck.specs.Records.{firsts, firstPart, kindMember, under, IsList}
 
 pub fixed-most : (k : ℕ) → fixedOf k ≤ 4
 fixed-most k = each-getD (λ n. n ≤ 4) fixedFields k 0 (all-each (λ n. leb n 4) (λ n. n ≤ 4) (λ n. leb-true n 4) fixedFields refl) (omega arith)
@@ -38,9 +38,8 @@ pub all-map : {A : Type 0} (q : A → Bool) (f : ℕ → A) (l : List ℕ) → a
 all-map q f [] = refl
 all-map q f (x ∷ l) = rw (all-map q f l) refl
 
--- the rules' tables, as the code has them: a row for each kind
-abbrev pub kindRow : ℕ → List ℕ
-kindRow k = sectionOf k ∷ fixedOf k ∷ getD listKinds k 0 ∷ []
+pub first-most : (k : ℕ) → firstPart k ≤ 5
+first-most k = each-getD (λ n. n ≤ 5) firsts k 0 (all-each (λ n. leb n 5) (λ n. n ≤ 5) (λ n. leb-true n 5) firsts refl) (omega arith)
 
 -- ---- the sections
 pub section-most : (k : ℕ) → sectionOf k ≤ 4
@@ -57,6 +56,24 @@ late m k v a z h e =
 
 early : (m k v : ℕ) → all (λ n. not (eqb n v)) (take m sections) ≡ true → (0 ≡ v → ⊥) → k < m → sectionOf k ≡ v → ⊥
 early m k v a z h e = none-is v (take m sections) a z k (getD-take m sections k 0 h ∙ e)
+
+-- kinds in a row that have one section: n of them from m on
+same-at : (v : ℕ) (l : List ℕ) → all (λ n. eqb n v) l ≡ true → (i : ℕ) → i < length l → v ≡ getD l i 0
+same-at v [] a i h = absurd (omega arith)
+same-at v (x ∷ l) a zero h = sym (eqb-true x v (and-true (eqb x v) (all (λ n. eqb n v) l) a .0))
+same-at v (x ∷ l) a (suc i) h = same-at v l (and-true (eqb x v) (all (λ n. eqb n v) l) a .1) i (omega arith)
+
+pub stretch : (m n v k : ℕ) → all (λ i. eqb i v) (take n (drop m sections)) ≡ true → length (take n (drop m sections)) ≡ n → m ≤ k → k < m + n → v ≡ sectionOf k
+stretch m n v k a e h l =
+    let q : m + (k - m) ≡ k = omega arith in
+    let i : k - m < n = omega arith in
+    same-at v (take n (drop m sections)) a (k - m) (rw e i) ∙ getD-take n (drop m sections) (k - m) 0 i ∙ getD-drop m sections (k - m) 0 ∙ ap sectionOf q
+
+-- 13 and 15 to 20 are no kinds
+pub no-kind : (k : ℕ) → 13 ≤ k → (k ≡ 14 → ⊥) → k < 21 → 0 ≡ sectionOf k
+no-kind k h d l =
+    by-test (ltb k 14) (λ c. stretch 13 1 0 k refl refl h (omega (arith, ltb-true k 14 c)))
+    (λ c. stretch 15 6 0 k refl refl (omega (arith, ltb-false k 14 c, d)) (omega arith))
 
 -- key marks are of kind 14
 pub key-kind : (k : ℕ) → sectionOf k ≡ 2 → k ≡ 14

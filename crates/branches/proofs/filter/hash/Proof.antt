@@ -13,7 +13,7 @@ use Rattle.branches.proofs.filter.hash.Statement.{statement}
 use Rattle.branches.proofs.filter.hash.Tie as tie
 
 abbrev Inv-loop : tie.InvT-loop
-Inv-loop scratch count h₀ i₀ h i = (h < 4294967296) × (hashBy h (drop i (run (words scratch) renumberedAt count)) ≡ hashBy 0 (run (words scratch) renumberedAt count))
+Inv-loop scratch count h₀ i₀ h i = (h < 4294967291) × (hashBy h (drop i (run (words scratch) renumberedAt count)) ≡ hashBy 0 (run (words scratch) renumberedAt count))
 
 abbrev μ-loop : tie.MeasureT-loop
 μ-loop scratch count h₀ i₀ h i = count - i

@@ -1,31 +1,29 @@
 use borrow.Author.Needs.{needs}
-use mathlib.Core.Path.{sym, ap}
-use mathlib.Core.List.{List}
-use Prim.Native.Nat.{ℕ}
-use lib.ListN.{getD}
+use native.Mathlib.Omega.{arith}
+use mathlib.Core.Path.{refl, sym}
 use lib.ListN.{List·getD-eq-default}
 use Rattle.rules.specs.Deck.{sections}
-use Rattle.deck.specs.Records.{tab}
-use Rattle.deck.specs.TabLaws.{getD-tab}
-use Rattle.deck.proofs.KindLaws.{kindRow}
+use Rattle.deck.proofs.KindLaws.{stretch, no-kind}
 use Rattle.deck.proofs.kinds.section_of.Statement.{statement}
 use Rattle.deck.proofs.kinds.section_of.Tie as tie
 
-mul-result : tie.Need-mul-result
-mul-result c = search needs
-
-index-1-result : tie.Need-index-1-result
-index-1-result c = search needs
-
-index-2-result : tie.Need-index-2-result
-index-2-result c = search needs
-
 returns : tie.Need-returns
-unfolding tab
-returns c = ap (λ (r : List ℕ). getD r 0 0) (getD-tab kindRow _ 37 (c .before .before .args .kind) (c .before .if1 .taken))
+returns c = search needs
 
 returns-2 : tie.Need-returns-2
-returns-2 c = sym (List·getD-eq-default sections 0 (c .if1 .left))
+returns-2 c = stretch 1 12 3 (c .before .before .args .kind) refl refl (omega (arith, c .before .if1 .left)) (c .if2 .taken)
+
+returns-3 : tie.Need-returns-3
+returns-3 c = search needs
+
+returns-4 : tie.Need-returns-4
+returns-4 c = no-kind (c .before .before .before .before .args .kind) (c .before .before .if2 .left) (c .before .if3 .left) (c .if4 .taken)
+
+returns-5 : tie.Need-returns-5
+returns-5 c = stretch 21 16 4 (c .before .before .before .before .before .args .kind) refl refl (c .before .if4 .left) (c .if5 .taken)
+
+returns-6 : tie.Need-returns-6
+returns-6 c = sym (List·getD-eq-default sections 0 (c .if5 .left))
 
 pub section-of-spec : {M : Type 1} → statement M
-section-of-spec = tie.close (tie.spec mul-result index-1-result index-2-result returns returns-2)
+section-of-spec = tie.close (tie.spec returns returns-2 returns-3 returns-4 returns-5 returns-6)
