@@ -38,7 +38,7 @@ pool-still w w' k m e A H = ap (poolOf w') (A .concepts) ∙ hands-pool w w' e (
 
 pub encoding-kept : (s s' : List ℕ) (k m : Counters) → length s' ≡ length s → take handsAt (words s') ≡ take handsAt (words s) → Alike k m → Encoding s k → Encoding s' m
 encoding-kept s s' k m l e A R = record {
-  reading = reading-alike s' k m A (reading-kept s s' k 12800 (R .reading) (omega arith) e l);
+  reading = reading-alike s' k m A (reading-kept s s' k 13500 (R .reading) (omega arith) e l);
   rows = rw (A .concepts) (hands-numbered (words s) (words s') e (k .concepts) (k .members) (k .concepts) (R .reading .ready .held) (omega arith) (R .rows));
   canon = R .canon;
   roles = hands-roles (words s) (words s') e (R .canon) (R .roles);
@@ -55,7 +55,7 @@ write-ready s s' k m base c R lt ab room l e A =
     let q = A .concepts in
     (R' .reading .ready, R' .rows, encoding-named s' m R', omega (arith, q, lt), ab, omega (arith, room, l))
 
-pub hand-fits : (s s' : List ℕ) → 24 * (12800 + 256) ≤ length s → length s' ≡ length s → 6 * (12800 + 256) ≤ length (words s')
+pub hand-fits : (s s' : List ℕ) → 24 * (13500 + 256) ≤ length s → length s' ≡ length s → 6 * (13500 + 256) ≤ length (words s')
 hand-fits s s' room l = omega (arith, length-words s', room, l)
 
 pub encodes-kept : (env : Env) (w w' : List ℕ) (k m : Counters) (c y count f : ℕ) (t : Out) (l : Alternatives) (s : Out) → take handsAt w' ≡ take handsAt w → Alike k m → Held w (k .concepts) (k .members)
@@ -108,24 +108,24 @@ module _ (each : Env → List Atom → E (Unit {0})) (k : Counters) (c y count :
       kept = A .alike;
     }
 
-    module _ (lt : i < count) (H : Held (x₀ .scratch) (k .concepts) (k .members)) (w1 : List ℕ) (r : ℕ) (W : Written (x .scratch) m 12800 c 0 y i w1 r) where
-      stored : (env : Env) (f : ℕ) (t : Out) (l : Alternatives) (s : Out) → Encodes env (x₀ .scratch) k c y count f t l s → Stored (x .scratch) 12800 (getD l i []) w1 r
+    module _ (lt : i < count) (H : Held (x₀ .scratch) (k .concepts) (k .members)) (w1 : List ℕ) (r : ℕ) (W : Written (x .scratch) m 13500 c 0 y i w1 r) where
+      stored : (env : Env) (f : ℕ) (t : Out) (l : Alternatives) (s : Out) → Encodes env (x₀ .scratch) k c y count f t l s → Stored (x .scratch) 13500 (getD l i []) w1 r
       stored env f t l s N =
           let M = encodes-kept env (x₀ .scratch) (x .scratch) k m c y count f t l s (A .frame) (A .alike) H N in
           W .rule env f t l s (M .roles) (M .first) (M .above) (M .begins) (M .fine) (M .encoded) (omega (arith, lt, N .long))
 
       -- the numbers, for some env
-      pub short-body : Sourced (x₀ .scratch) k c y count → (12800 ≤ r) × (r - 12800 ≤ 256)
+      pub short-body : Sourced (x₀ .scratch) k c y count → (13500 ≤ r) × (r - 13500 ≤ 256)
       short-body X = let S = stored (X .env) (X .bound) (X .start) (X .alternatives) (X .end) (X .encodes) in (omega (arith, S .next), omega (arith, S .next, S .short))
 
-      pub written-frame : take (6 * 12800) w1 ≡ take (6 * 12800) (x₀ .scratch)
+      pub written-frame : take (6 * 13500) w1 ≡ take (6 * 13500) (x₀ .scratch)
       written-frame = W .kept .low ∙ A .frame
 
       -- the rule was run on it
-      module _ (fit : 6 * (12800 + 256) ≤ length (x .scratch)) (T : SameSizes x₀ x) (n : ℕ) (en : n ≡ r - 12800) (x' : Four) (z : Answer)
-          (D : Did (λ _. 0) 0 (λ env f b s. each env b s) m 12800 n (four w1 (x .clauses) (x .atoms) (x .deferrals)) x' z) where
-        run-frame : take (6 * 12800) (x' .scratch) ≡ take (6 * 12800) (x₀ .scratch)
-        run-frame = frame-less (6 * 12800) (6 * (12800 + n)) w1 (x' .scratch) (omega arith) (D .frame) ∙ written-frame
+      module _ (fit : 6 * (13500 + 256) ≤ length (x .scratch)) (T : SameSizes x₀ x) (n : ℕ) (en : n ≡ r - 13500) (x' : Four) (z : Answer)
+          (D : Did (λ _. 0) 0 (λ env f b s. each env b s) m 13500 n (four w1 (x .clauses) (x .atoms) (x .deferrals)) x' z) where
+        run-frame : take (6 * 13500) (x' .scratch) ≡ take (6 * 13500) (x₀ .scratch)
+        run-frame = frame-less (6 * 13500) (6 * (13500 + n)) w1 (x' .scratch) (omega arith) (D .frame) ∙ written-frame
 
         -- what it did, and what is left
         run-so : (env : Env) (f : ℕ) (t : Out) (l : Alternatives) (s : Out) → EnvHeld env k x₀ → Encodes env (x₀ .scratch) k c y count f t l s → (S : BodiedSo each env k m x l s i)
@@ -134,10 +134,10 @@ module _ (each : Env → List Atom → E (Unit {0})) (k : Counters) (c y count :
             let B = stored env f t l s N in
             D .equal env 0 (getD l i []) (S .state) (omega arith)
             (record {
-              read = env-alike env k m w1 (A .alike) (env-kept env k (x₀ .scratch) w1 12800 (omega arith) written-frame (E .read));
+              read = env-alike env k m w1 (A .alike) (env-kept env k (x₀ .scratch) w1 13500 (omega arith) written-frame (E .read));
               lent = lent-kept (env .rooms) (x₀ .clauses) (x₀ .atoms) (x₀ .deferrals) (x .clauses) (x .atoms) (x .deferrals) (T .clauses) (T .atoms) (T .deferrals) (E .lent);
             })
-            (hand-stored (x .scratch) w1 12800 r n (getD l i []) B en (omega (arith, fit, B .short)))
+            (hand-stored (x .scratch) w1 13500 r n (getD l i []) B en (omega (arith, fit, B .short)))
             (drawn-alike k m (env .rooms) (S .state) (x .clauses) (x .atoms) (x .deferrals) (A .alike) (S .drawn))
             ∙ shown-alike (λ _. 0) k m (env .rooms) (each env (getD l i []) (S .state)) (A .alike)
 

@@ -57,8 +57,8 @@ cover-by env pool class (m ∷ l) hs s = go (λ more. cover-by env pool class l 
     go rest (some c) = more rest c (ltb (length hs) 256)
 
 -- ---- scratch, changed above the hands alone
-pub low-hands : (w w' : List ℕ) (n : ℕ) → take (6 * (12800 + n)) w' ≡ take (6 * (12800 + n)) w → take handsAt w' ≡ take handsAt w
-low-hands w w' n e = sym (take-take handsAt (6 * (12800 + n)) w' (omega arith)) ∙ ap (take handsAt) e ∙ take-take handsAt (6 * (12800 + n)) w (omega arith)
+pub low-hands : (w w' : List ℕ) (n : ℕ) → take (6 * (13500 + n)) w' ≡ take (6 * (13500 + n)) w → take handsAt w' ≡ take handsAt w
+low-hands w w' n e = sym (take-take handsAt (6 * (13500 + n)) w' (omega arith)) ∙ ap (take handsAt) e ∙ take-take handsAt (6 * (13500 + n)) w (omega arith)
 
 pub members-kept : (w w' : List ℕ) (k : Counters) (i count : ℕ) → take handsAt w' ≡ take handsAt w → Members w k i count → Members w' k i count
 members-kept w w' k i count e M = record { below = M .below; ids = λ j h. rw (hands-word w w' e (i + j) (omega (arith, h, M .below))) (M .ids j h) }
@@ -101,12 +101,12 @@ module _ (k : Counters) (i count : ℕ) (w₀ w : List ℕ) (j m : ℕ) (H : Hel
     next-is env hs E =
         ap (λ (l : List ℕ). headsOf env (poolOf w₀ (k .concepts)) l hs) run-next
         ∙ ap (withHead (λ more. headsOf env (poolOf w₀ (k .concepts)) (run w₀ (i + (j + 1)) (count - (j + 1))) more) hs)
-        (ap (classIdOf env) (sym concept-is) ∙ sym (eo env (env-kept env k w₀ w 12801 (omega arith) (A .frame) E)))
+        (ap (classIdOf env) (sym concept-is) ∙ sym (eo env (env-kept env k w₀ w 13501 (omega arith) (A .frame) E)))
 
     pub heads-missing : o ≡ ClassIs.None → HeadsDid k i count w₀ w Missing
     heads-missing q = record {
       equal = λ env x E h. let S = A .so env x E h in
-          subst (Outcome 12800 count w x Missing) (sym (S .rest ∙ next-is env (S .heads) E ∙ ap (λ (z : ClassId). withHead (λ more. headsOf env (poolOf w₀ (k .concepts)) (run w₀ (i + (j + 1)) (count - (j + 1))) more) (S .heads) (classIn z)) q)) tt;
+          subst (Outcome 13500 count w x Missing) (sym (S .rest ∙ next-is env (S .heads) E ∙ ap (λ (z : ClassId). withHead (λ more. headsOf env (poolOf w₀ (k .concepts)) (run w₀ (i + (j + 1)) (count - (j + 1))) more) (S .heads) (classIn z)) q)) tt;
       frame = A .frame;
       few = λ z. absurd (let y : _≡_ {A = ℕ} 0 1 = cc in omega arith);
     }
@@ -121,27 +121,27 @@ module _ (k : Counters) (i count : ℕ) (w₀ w : List ℕ) (j m : ℕ) (H : Hel
         equal = λ env x E y. let S = A .so env x E y in
             let z : headsOf env (poolOf w₀ (k .concepts)) (run w₀ i count) [] ≡ long
             = found env x E S ∙ ap (λ (b : Bool). oneMore (λ more. headsOf env (poolOf w₀ (k .concepts)) (run w₀ (i + (j + 1)) (count - (j + 1))) more) (S .heads) c b) (le-ltb (length (S .heads)) 256 (omega (arith, h, S .long))) in
-            subst (Outcome 12800 count w x Long) (sym z) tt;
+            subst (Outcome 13500 count w x Long) (sym z) tt;
         frame = A .frame;
         few = λ z. absurd (let y : _≡_ {A = ℕ} 0 1 = cc in omega arith);
       }
 
-      pub heads-next : (w' : List ℕ) → j < 256 → w' ≡ sets w (6 * (12800 + 1 + j)) (six (Class c 0)) → 6 * (12800 + 1 + j) + 6 ≤ length w → HeadsAt k i count w₀ w' (j + 1)
+      pub heads-next : (w' : List ℕ) → j < 256 → w' ≡ sets w (6 * (13500 + 1 + j)) (six (Class c 0)) → 6 * (13500 + 1 + j) + 6 ≤ length w → HeadsAt k i count w₀ w' (j + 1)
       heads-next w' h e fit =
-          let p : 12800 + (1 + j) ≡ 12800 + 1 + j = omega arith in
-          let e' : w' ≡ sets w (6 * (12800 + (1 + j))) (six (Class c 0)) = rw p e in
-          let fr : take (6 * (12800 + (1 + j))) w' ≡ take (6 * (12800 + (1 + j))) w = put-frame 12800 (1 + j) w w' (six (Class c 0)) (6 * (12800 + (1 + j))) e' (omega arith) in
+          let p : 13500 + (1 + j) ≡ 13500 + 1 + j = omega arith in
+          let e' : w' ≡ sets w (6 * (13500 + (1 + j))) (six (Class c 0)) = rw p e in
+          let fr : take (6 * (13500 + (1 + j))) w' ≡ take (6 * (13500 + (1 + j))) w = put-frame 13500 (1 + j) w w' (six (Class c 0)) (6 * (13500 + (1 + j))) e' (omega arith) in
           record {
             within = omega arith;
             few = omega arith;
-            frame = sym (take-take (6 * (12800 + 1)) (6 * (12800 + (1 + j))) w' (omega arith)) ∙ ap (take (6 * (12800 + 1))) fr ∙ take-take (6 * (12800 + 1)) (6 * (12800 + (1 + j))) w (omega arith) ∙ A .frame;
+            frame = sym (take-take (6 * (13500 + 1)) (6 * (13500 + (1 + j))) w' (omega arith)) ∙ ap (take (6 * (13500 + 1))) fr ∙ take-take (6 * (13500 + 1)) (6 * (13500 + (1 + j))) w (omega arith) ∙ A .frame;
             so = λ env x E y. let S = A .so env x E y in
                 let la = length-append (S .heads) (Class c 0 ∷ []) in
                 let z : 1 + j + 1 ≡ 1 + (j + 1) = omega arith in
                 record {
                   heads = S .heads ++ (Class c 0 ∷ []);
                   long = omega (arith, la, S .long);
-                  hand = subst (λ (n : ℕ). InHand w' 12800 n (x ∷ (S .heads ++ (Class c 0 ∷ [])))) z (hand-more 12800 (1 + j) w w' (x ∷ S .heads) (Class c 0) e' (omega arith) (S .hand));
+                  hand = subst (λ (n : ℕ). InHand w' 13500 n (x ∷ (S .heads ++ (Class c 0 ∷ [])))) z (hand-more 13500 (1 + j) w w' (x ∷ S .heads) (Class c 0) e' (omega arith) (S .hand));
                   rest = found env x E S ∙ rw (lt-ltb (length (S .heads)) 256 (omega (arith, h, S .long))) refl;
                 };
           }
@@ -154,48 +154,48 @@ heads-all k i count w₀ w j A h =
       equal = λ env x E y. let S = A .so env x E y in
           let e : count - j ≡ 0 = omega arith in
           let z : headsOf env (poolOf w₀ (k .concepts)) (run w₀ i count) [] ≡ all (S .heads) = S .rest ∙ rw e refl in
-          subst (Outcome 12800 count w x All) (sym z) (record { hand = subst (λ (n : ℕ). InHand w 12800 (1 + n) (x ∷ S .heads)) q (S .hand); few = omega (arith, A .few) });
+          subst (Outcome 13500 count w x All) (sym z) (record { hand = subst (λ (n : ℕ). InHand w 13500 (1 + n) (x ∷ S .heads)) q (S .hand); few = omega (arith, A .few) });
       frame = A .frame;
       few = λ z. omega (arith, A .few);
     }
 
 -- ---- the whole
-module _ (k : Counters) (class i count : ℕ) (w w1 w2 : List ℕ) (e1 : w1 ≡ sets w (6 * 12800) (six (Class class 0))) (fit : 6 * 12800 + 6 ≤ length w) (H : Held w (k .concepts) (k .members)) (M : Members w k i count) where
-  first : take (6 * 12800) w1 ≡ take (6 * 12800) w
-  first = put-frame 12800 0 w w1 (six (Class class 0)) (6 * 12800) e1 fit
+module _ (k : Counters) (class i count : ℕ) (w w1 w2 : List ℕ) (e1 : w1 ≡ sets w (6 * 13500) (six (Class class 0))) (fit : 6 * 13500 + 6 ≤ length w) (H : Held w (k .concepts) (k .members)) (M : Members w k i count) where
+  first : take (6 * 13500) w1 ≡ take (6 * 13500) w
+  first = put-frame 13500 0 w w1 (six (Class class 0)) (6 * 13500) e1 fit
 
   pub first-hands : take handsAt w1 ≡ take handsAt w
   first-hands = first
 
-  one : InHand w1 12800 1 (Class class 0 ∷ [])
-  one = hand-one 12800 w w1 (Class class 0) e1 fit
+  one : InHand w1 13500 1 (Class class 0 ∷ [])
+  one = hand-one 13500 w w1 (Class class 0) e1 fit
 
   module _ (r : Heads) (D : HeadsDid k i count w1 w2 r) where
-    pub whole-frame : take (6 * 12800) w2 ≡ take (6 * 12800) w
-    whole-frame = sym (take-take (6 * 12800) (6 * (12800 + 1)) w2 (omega arith)) ∙ ap (take (6 * 12800)) (D .frame) ∙ take-take (6 * 12800) (6 * (12800 + 1)) w1 (omega arith) ∙ first
+    pub whole-frame : take (6 * 13500) w2 ≡ take (6 * 13500) w
+    whole-frame = sym (take-take (6 * 13500) (6 * (13500 + 1)) w2 (omega arith)) ∙ ap (take (6 * 13500)) (D .frame) ∙ take-take (6 * 13500) (6 * (13500 + 1)) w1 (omega arith) ∙ first
 
     same-run : run w1 i count ≡ run w i count
     same-run = tab-same (λ j. getD w1 j 0) (λ j. getD w j 0) i i count (λ j h. hands-word w w1 first-hands (i + j) (omega (arith, h, M .below)))
 
-    outcome : (env : Env) → EnvIn env k w → Outcome 12800 count w2 (Class class 0) r (headsOf env (poolOf w (k .concepts)) (run w i count) [])
-    outcome env E = subst (λ (l : List ℕ). Outcome 12800 count w2 (Class class 0) r (headsOf env (poolOf w (k .concepts)) l [])) same-run
-        (subst (λ (p : Pool). Outcome 12800 count w2 (Class class 0) r (headsOf env p (run w1 i count) [])) (hands-pool w w1 first-hands (k .concepts) (k .members) H)
-        (D .equal env (Class class 0) (env-kept env k w w1 12800 (omega arith) first E) one))
+    outcome : (env : Env) → EnvIn env k w → Outcome 13500 count w2 (Class class 0) r (headsOf env (poolOf w (k .concepts)) (run w i count) [])
+    outcome env E = subst (λ (l : List ℕ). Outcome 13500 count w2 (Class class 0) r (headsOf env (poolOf w (k .concepts)) l [])) same-run
+        (subst (λ (p : Pool). Outcome 13500 count w2 (Class class 0) r (headsOf env p (run w1 i count) [])) (hands-pool w w1 first-hands (k .concepts) (k .members) H)
+        (D .equal env (Class class 0) (env-kept env k w w1 13500 (omega arith) first E) one))
 
     module _ (c a d c' a' d' : List ℕ) (z : Answer) (g : GoodAnswer z) (q : KeptAnswer k z) where
-      all-by : (env : Env) (s : Out) (X : Covering) → Outcome 12800 count w2 (Class class 0) All X
-          → ((h : List Atom) → InHand w2 12800 (1 + count) (Class class 0 ∷ h) → after z c' a' d ≡ shown (λ _. 0) k (env .rooms) (push env (Class class 0 ∷ []) h s))
+      all-by : (env : Env) (s : Out) (X : Covering) → Outcome 13500 count w2 (Class class 0) All X
+          → ((h : List Atom) → InHand w2 13500 (1 + count) (Class class 0 ∷ h) → after z c' a' d ≡ shown (λ _. 0) k (env .rooms) (push env (Class class 0 ∷ []) h s))
           → after z c' a' d ≡ shown (λ _. 0) k (env .rooms) (coverBy env class X s)
       all-by env s (all hs) O P = P hs (O .hand)
       all-by env s missing O P = absurd O
       all-by env s long O P = absurd O
 
       pub cover-all : r ≡ All
-          → ((env : Env) (b h : List Atom) (s : Out) (d : List ℕ) → 1 ≡ length b → InHand w2 12800 (1 + count) (b ++ h) → Lent (env .rooms) c a d → tables k c a d ≡ show k (env .rooms) s → after z c' a' d ≡ shown (λ _. 0) k (env .rooms) (push env b h s))
-          → Did (λ _. 0) 0 (λ env f b s. cover env (poolOf w (k .concepts)) class (run w i count) [] s) k 12800 0 (four w c a d) (four w2 c' a' d) z
+          → ((env : Env) (b h : List Atom) (s : Out) (d : List ℕ) → 1 ≡ length b → InHand w2 13500 (1 + count) (b ++ h) → Lent (env .rooms) c a d → tables k c a d ≡ show k (env .rooms) s → after z c' a' d ≡ shown (λ _. 0) k (env .rooms) (push env b h s))
+          → Did (λ _. 0) 0 (λ env f b s. cover env (poolOf w (k .concepts)) class (run w i count) [] s) k 13500 0 (four w c a d) (four w2 c' a' d) z
       cover-all e P = record {
         equal = λ env f b s lo E y t.
-            all-by env s (headsOf env (poolOf w (k .concepts)) (run w i count) []) (subst (λ (u : Heads). Outcome 12800 count w2 (Class class 0) u (headsOf env (poolOf w (k .concepts)) (run w i count) [])) e (outcome env (E .read)))
+            all-by env s (headsOf env (poolOf w (k .concepts)) (run w i count) []) (subst (λ (u : Heads). Outcome 13500 count w2 (Class class 0) u (headsOf env (poolOf w (k .concepts)) (run w i count) [])) e (outcome env (E .read)))
             (λ h I. P env (Class class 0 ∷ []) h s d refl I (E .lent) t)
             ∙ ap (shown (λ _. 0) k (env .rooms)) (sym (cover-by env (poolOf w (k .concepts)) class (run w i count) [] s));
         frame = whole-frame;
@@ -203,7 +203,7 @@ module _ (k : Counters) (class i count : ℕ) (w w1 w2 : List ℕ) (e1 : w1 ≡ 
         kept = q;
       }
 
-      missing-by : (env : Env) (s : Out) (X : Covering) → Outcome 12800 count w2 (Class class 0) Missing X
+      missing-by : (env : Env) (s : Out) (X : Covering) → Outcome 13500 count w2 (Class class 0) Missing X
           → after z c a d' ≡ shown (λ _. 0) k (env .rooms) (defer env DisjointUnionCovering s) → after z c a d' ≡ shown (λ _. 0) k (env .rooms) (coverBy env class X s)
       missing-by env s (all hs) O P = absurd O
       missing-by env s missing O P = P
@@ -211,10 +211,10 @@ module _ (k : Counters) (class i count : ℕ) (w w1 w2 : List ℕ) (e1 : w1 ≡ 
 
       pub cover-missing : r ≡ Missing
           → ((env : Env) (s : Out) (c a : List ℕ) → Lent (env .rooms) c a d → tables k c a d ≡ show k (env .rooms) s → after z c a d' ≡ shown (λ _. 0) k (env .rooms) (defer env DisjointUnionCovering s))
-          → Did (λ _. 0) 0 (λ env f b s. cover env (poolOf w (k .concepts)) class (run w i count) [] s) k 12800 0 (four w c a d) (four w2 c a d') z
+          → Did (λ _. 0) 0 (λ env f b s. cover env (poolOf w (k .concepts)) class (run w i count) [] s) k 13500 0 (four w c a d) (four w2 c a d') z
       cover-missing e P = record {
         equal = λ env f b s lo E y t.
-            missing-by env s (headsOf env (poolOf w (k .concepts)) (run w i count) []) (subst (λ (u : Heads). Outcome 12800 count w2 (Class class 0) u (headsOf env (poolOf w (k .concepts)) (run w i count) [])) e (outcome env (E .read)))
+            missing-by env s (headsOf env (poolOf w (k .concepts)) (run w i count) []) (subst (λ (u : Heads). Outcome 13500 count w2 (Class class 0) u (headsOf env (poolOf w (k .concepts)) (run w i count) [])) e (outcome env (E .read)))
             (P env s c a (E .lent) t)
             ∙ ap (shown (λ _. 0) k (env .rooms)) (sym (cover-by env (poolOf w (k .concepts)) class (run w i count) [] s));
         frame = whole-frame;
@@ -222,15 +222,15 @@ module _ (k : Counters) (class i count : ℕ) (w w1 w2 : List ℕ) (e1 : w1 ≡ 
         kept = q;
       }
 
-    long-by : (env : Env) (s : Out) (X : Covering) → Outcome 12800 count w2 (Class class 0) Long X → refused 12 ≡ shown (λ _. 0) k (env .rooms) (coverBy env class X s)
+    long-by : (env : Env) (s : Out) (X : Covering) → Outcome 13500 count w2 (Class class 0) Long X → refused 12 ≡ shown (λ _. 0) k (env .rooms) (coverBy env class X s)
     long-by env s (all hs) O = absurd O
     long-by env s missing O = absurd O
     long-by env s long O = refl
 
-    pub cover-long : (c a d : List ℕ) → r ≡ Long → Did (λ _. 0) 0 (λ env f b s. cover env (poolOf w (k .concepts)) class (run w i count) [] s) k 12800 0 (four w c a d) (four w2 c a d) (Refused 12)
+    pub cover-long : (c a d : List ℕ) → r ≡ Long → Did (λ _. 0) 0 (λ env f b s. cover env (poolOf w (k .concepts)) class (run w i count) [] s) k 13500 0 (four w c a d) (four w2 c a d) (Refused 12)
     cover-long c a d e = record {
       equal = λ env f b s lo E y t.
-          long-by env s (headsOf env (poolOf w (k .concepts)) (run w i count) []) (subst (λ (u : Heads). Outcome 12800 count w2 (Class class 0) u (headsOf env (poolOf w (k .concepts)) (run w i count) [])) e (outcome env (E .read)))
+          long-by env s (headsOf env (poolOf w (k .concepts)) (run w i count) []) (subst (λ (u : Heads). Outcome 13500 count w2 (Class class 0) u (headsOf env (poolOf w (k .concepts)) (run w i count) [])) e (outcome env (E .read)))
           ∙ ap (shown (λ _. 0) k (env .rooms)) (sym (cover-by env (poolOf w (k .concepts)) class (run w i count) [] s));
       frame = whole-frame;
       good = tt;

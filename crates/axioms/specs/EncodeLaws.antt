@@ -117,7 +117,7 @@ module _ (k k1 : Counters) (m : ℕ) (w : List ℕ) (r : Encoded) (q1 : k1 ≡ v
 
     -- with the alternatives; for each, what the call did
     pub encoded-found : (each : Env → List Atom → E (Unit {0})) → ((env : Env) (l : Alternatives) (s : Out) → rest env (some l) s ≡ forEach (each env) l s) → (n : Counters) (count j : ℕ) (y : Four) (z : Answer) → r ≡ Found n count j → Good k1
-        → Bodied each n m 1 count (four w c a d) y z → Did (λ _. 0) 0 (λ env f b s. encodedThen env (poolOf w (k .concepts)) m (rest env) s) k 12800 0 (four w c a d) y z
+        → Bodied each n m 1 count (four w c a d) y z → Did (λ _. 0) 0 (λ env f b s. encodedThen env (poolOf w (k .concepts)) m (rest env) s) k 13500 0 (four w c a d) y z
     encoded-found each some-is n count j y z q g B =
         let A = found-alike n count j q in
         record {
@@ -137,7 +137,7 @@ module _ (k k1 : Counters) (m : ℕ) (w : List ℕ) (r : Encoded) (q1 : k1 ≡ v
     -- without; only the deferral table changes
     pub encoded-none : (n : Counters) (d' : List ℕ) (z : Answer) → r ≡ Unsupported n → GoodAnswer z → KeptAnswer n z
         → ((env : Env) (s : Out) (c a : List ℕ) → Lent (env .rooms) c a d → tables n c a d ≡ show n (env .rooms) s → after z c a d' ≡ shown (λ _. 0) n (env .rooms) (rest env none s))
-        → Did (λ _. 0) 0 (λ env f b s. encodedThen env (poolOf w (k .concepts)) m (rest env) s) k 12800 0 (four w c a d) (four w c a d') z
+        → Did (λ _. 0) 0 (λ env f b s. encodedThen env (poolOf w (k .concepts)) m (rest env) s) k 13500 0 (four w c a d) (four w c a d') z
     encoded-none n d' z q g kept P =
         let A = none-alike n q in
         record {
@@ -149,7 +149,7 @@ module _ (k k1 : Counters) (m : ℕ) (w : List ℕ) (r : Encoded) (q1 : k1 ≡ v
           kept = kept-then k n z A kept;
         }
 
-    pub encoded-refused : (e : ℕ) → r ≡ Refused e → Did (λ _. 0) 0 (λ env f b s. encodedThen env (poolOf w (k .concepts)) m (rest env) s) k 12800 0 (four w c a d) (four w c a d) (Answers.Refused e)
+    pub encoded-refused : (e : ℕ) → r ≡ Refused e → Did (λ _. 0) 0 (λ env f b s. encodedThen env (poolOf w (k .concepts)) m (rest env) s) k 13500 0 (four w c a d) (four w c a d) (Answers.Refused e)
     encoded-refused e q = record {
       equal = λ env f b s lo E i t. rule-is env s (refused e) (refused-is env k1 m w c a d (restarted s) r C (drawn-restarted k k1 (env .rooms) s c a d q1 t) e q);
       frame = refl;

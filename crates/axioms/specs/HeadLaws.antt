@@ -24,12 +24,12 @@ use Rattle.axioms.specs.BodyLaws.{pool-still}
 
 -- what it asks: no concept needs more room than there is
 pub emitting : (s s' : List ℕ) (k m : Counters) (n c : ℕ) → Reading s k → length s' ≡ length s → take handsAt (words s') ≡ take handsAt (words s) → Alike k m → Good m → n ≤ 256 → c < k .concepts → 4 * (handsAt + 127000) ≤ length s
-    → Emitting s' m 12800 n c
+    → Emitting s' m 13500 n c
 emitting s s' k m n c R l e A g h lt fit =
     let u = used-within (words s) (k .concepts) (k .members) (R .ready .held) c lt in
-    let o = room-on s s' k 12800 R (omega arith) e c lt in
+    let o = room-on s s' k 13500 R (omega arith) e c lt in
     record {
-      reading = reading-alike s' k m A (reading-kept s s' k 12800 R (omega arith) e l);
+      reading = reading-alike s' k m A (reading-kept s s' k 13500 R (omega arith) e l);
       good = g;
       held = rw (A .concepts) lt;
       room = record { above = omega arith; short = h; fits = omega (arith, u, o, l, fit, lt, h, R .ready .held .few, R .ready .held .space) };

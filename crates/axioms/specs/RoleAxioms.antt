@@ -14,10 +14,10 @@ use Rattle.rules.specs.Axioms.{domain, range, asymmetric, disjointRoles}
 
 -- the first atom in hand, and the bytes of scratch up to the last one that an axiom needs
 abbrev pub handAt : ℕ
-handAt = 12800
+handAt = 13500
 
 abbrev pub inHandBytes : ℕ
-inHandBytes = 321600
+inHandBytes = 338400
 
 abbrev pub irreflexive : Env → Role → E (Unit {0})
 irreflexive env r = push env (RoleAtom (canon env r) 0 0 ∷ []) []

@@ -79,7 +79,7 @@ module _ (s : List ℕ) (x y : ℕ) (first : Encoded) (F : First s x y first) wh
 
   module _ (deferred : Bool) (c a d : List ℕ) where
     abbrev pub SecondDid : Four → Answer → Type 0
-    SecondDid x' z = Did (λ _. 0) 0 (λ env f h t. pairFrom env (unencoded env deferred) x y (poolOf (words s) (F .counters .concepts)) t) (F .counters) 12800 0 (four (words s) c a d) x' z
+    SecondDid x' z = Did (λ _. 0) 0 (λ env f h t. pairFrom env (unencoded env deferred) x y (poolOf (words s) (F .counters .concepts)) t) (F .counters) 13500 0 (four (words s) c a d) x' z
 
     abbrev One : Env → Out → Res Out (Option Alternatives)
     One env t = encodeBy env (poolOf (words s) (F .counters .concepts)) (suc x) x 0 t
@@ -178,8 +178,8 @@ first-restarted s k k1 x y r q R g h h' C e =
     }
 
 pub pair-restarted : (k k1 : Counters) (x y : ℕ) (deferred : Bool) (w c a d : List ℕ) (x' : Four) (z : Answer) → k1 ≡ varsRestarted k
-    → Did (λ _. 0) 0 (λ env f h t. pairFrom env (unencoded env deferred) x y (poolOf w (k1 .concepts)) t) k1 12800 0 (four w c a d) x' z
-    → Did (λ _. 0) 0 (λ env f h t. pairRule env (unencoded env deferred) x y (poolOf w (k .concepts)) t) k 12800 0 (four w c a d) x' z
+    → Did (λ _. 0) 0 (λ env f h t. pairFrom env (unencoded env deferred) x y (poolOf w (k1 .concepts)) t) k1 13500 0 (four w c a d) x' z
+    → Did (λ _. 0) 0 (λ env f h t. pairRule env (unencoded env deferred) x y (poolOf w (k .concepts)) t) k 13500 0 (four w c a d) x' z
 unfolding restartVars
 pair-restarted k k1 x y deferred w c a d x' z q D =
     let A = alike-restart k k1 q in

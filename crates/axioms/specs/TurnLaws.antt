@@ -25,7 +25,7 @@ use Rattle.axioms.specs.BodyLaws.{encodes-kept}
 use Rattle.axioms.specs.Turns.{Has, Turn, Turned, TurnsSo, TurnsAt}
 
 -- ---- scratch that is changed above top alone
-pub below-top : (top : ℕ) (w w' : List ℕ) → 12800 ≤ top → take (6 * top) w' ≡ take (6 * top) w → take handsAt w' ≡ take handsAt w
+pub below-top : (top : ℕ) (w w' : List ℕ) → 13500 ≤ top → take (6 * top) w' ≡ take (6 * top) w → take handsAt w' ≡ take handsAt w
 below-top top w w' h e = sym (take-take handsAt (6 * top) w' (omega arith)) ∙ ap (take handsAt) e ∙ take-take handsAt (6 * top) w (omega arith)
 
 abbrev pub has-kept : (env : Env) (w w' : List ℕ) (k m : Counters) (c y count : ℕ) → take handsAt w' ≡ take handsAt w → Alike k m → Held w (k .concepts) (k .members) → Has env w k c y count → Has env w' m c y count
@@ -89,7 +89,7 @@ module _ (top : ℕ) (P : Env → Type 0) (turn : Turn P) (k : Counters) (c y co
 
   module _ (w ci ai : List ℕ) (m : Counters) (i : ℕ) (A : TurnsAt top P turn k c y count w₀ c₀ a₀ w ci ai m i) (lt : i < count) where
     -- the alternative that was written
-    module _ (above : 12800 ≤ top) (H : Held w₀ (k .concepts) (k .members)) (w1 : List ℕ) (r : ℕ) (W : Written w m top c 0 y i w1 r) where
+    module _ (above : 13500 ≤ top) (H : Held w₀ (k .concepts) (k .members)) (w1 : List ℕ) (r : ℕ) (W : Written w m top c 0 y i w1 r) where
       pub turn-stored : (env : Env) (q : Has env w₀ k c y count) → Stored w top (getD (q .alternatives) i []) w1 r
       turn-stored env q =
           let N = encodes-kept env w₀ w k m c y count (q .bound) (q .start) (q .alternatives) (q .end) (below-top top w₀ w above (A .frame)) (A .alike) H (q .encodes) in

@@ -17,7 +17,7 @@ ghost use Rattle.axioms.specs.RoleAxioms.{inHandBytes};
 ghost use Rattle.axioms.specs.Bodies.{Encoding, Sourced, givesClass, Bodied};
 
 // The first atom in hand: word HANDS.
-pub const HAND: usize = 12800;
+pub const HAND: usize = 13500;
 
 // Each alternative of `sub` gives the class.
 pub fn push_bodies(

@@ -31,7 +31,7 @@ use Rattle.clausifier.specs.Arms.{AxiomsOf, AxiomOf}
 use Rattle.clausifier.specs.All.{shownLined, afterLined, ClausifiedAll}
 use Rattle.axioms.specs.OnwardLaws.{untouched-same, untouched-then, onward-same, onward-then}
 use Rattle.lists.specs.TurnLaws.{env-turned}
-use Rattle.clausifier.specs.KeptAxioms.{axiom-kept}
+use Rattle.normalize.specs.KeptAxioms.{axiom-kept}
 use Rattle.clausifier.specs.KeptLaws.{axioms-of-kept}
 
 -- ---- at another line

@@ -6,6 +6,5 @@ pub mod ArmLaws
 pub mod RoleArmLaws
 pub mod KeptLaws
 pub mod AllLaws
-pub mod KeptAxioms
 pub mod Prepare
 pub mod PrepareLaws

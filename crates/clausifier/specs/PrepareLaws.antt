@@ -41,7 +41,7 @@ use Rattle.antecedents.specs.Table.{Numbered, Outside}
 use Rattle.antecedents.specs.TableLaws.{same-words, outside-pool, outside-held}
 use Rattle.axioms.specs.Wholes.{Clausifying}
 use Rattle.clausifier.specs.Arms.{AxiomsOf}
-use Rattle.clausifier.specs.KeptAxioms.{axioms-kept, held-axioms}
+use Rattle.normalize.specs.KeptAxioms.{axioms-kept, held-axioms}
 use Rattle.clausifier.specs.Prepare.{Preparing, empty, Prepared}
 
 -- ---- nnf_axioms' answer

@@ -15,10 +15,10 @@ use Rattle.tables.specs.TabledLaws.{At}
 
 -- the first atom in hand, and the bytes of scratch up to the last one that a clause needs
 abbrev pub handAt : ℕ
-handAt = 12800
+handAt = 13500
 
 abbrev pub inHandBytes : ℕ
-inHandBytes = 321600
+inHandBytes = 338400
 
 -- the clause x is in hand, its nb body atoms before its nh head atoms
 pub record ClauseInHand (w : List ℕ) (nb nh : ℕ) (x : Clause) : Type 0 where

@@ -20,7 +20,7 @@ ghost use Rattle.contraction.specs.Placed.{ClauseAt, ClauseThere};
 ghost use Rattle.contraction.specs.SameLaws.{sameRuns};
 
 // The first atom in hand: word HANDS.
-pub const HAND: usize = 12800;
+pub const HAND: usize = 13500;
 
 // Whether a role is reflexive, by its code.
 pub fn is_flagged(scratch: &[u8], code: u32) -> bool

@@ -130,7 +130,7 @@ pub fn add_counted_self_loops(
     atoms: &mut [u8],
     k: Counters,
 ) -> Answer
-    requires { ⌜ Standing k (words (now clauses)) (words (now atoms)) × ((d : List ℕ) × Drawn k (words (now clauses)) (words (now atoms)) d) × Good k × (321600 ≤ length (now scratch)) × Sized (length (now clauses)) (length (now atoms)) 0 ⌝ }
+    requires { ⌜ Standing k (words (now clauses)) (words (now atoms)) × ((d : List ℕ) × Drawn k (words (now clauses)) (words (now atoms)) d) × Good k × (338400 ≤ length (now scratch)) × Sized (length (now clauses)) (length (now atoms)) 0 ⌝ }
     ensures { λ r. ⌜ ((d : List ℕ) → Passed (λ env set. addCountedSelfLoops env set) k (four (words (now (scratch .entry))) (words (now (clauses .entry))) (words (now (atoms .entry))) d) (four (words (now (scratch .exit))) (words (now (clauses .exit))) (words (now (atoms .exit))) d) r) ⌝ }
     ensures { λ r. ⌜ StandingBelowAfter (2 ^ 31 + 1) (words (now (clauses .exit))) (words (now (atoms .exit))) r ⌝ }
 {

@@ -25,5 +25,8 @@ linesAt = 51200
 abbrev pub stackAt : ℕ
 stackAt = 58368
 
+abbrev pub normalFormsAt : ℕ
+normalFormsAt = 76800
+
 abbrev pub handsAt : ℕ
-handsAt = 76800
+handsAt = 81000

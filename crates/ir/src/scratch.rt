@@ -26,5 +26,8 @@ pub const LINES: usize = 51200;
 // Lists whose members are being normalised.
 pub const STACK: usize = 58368;
 
+// Two words for each concept: its normal form and that of its negation, with the visits they take.
+pub const NORMAL_FORMS: usize = 76800;
+
 // Bodies and heads that are being made.
-pub const HANDS: usize = 76800;
+pub const HANDS: usize = 81000;

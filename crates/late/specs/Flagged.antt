@@ -27,4 +27,4 @@ pub record Flagged (s : List ℕ) (k : Counters) (size : ℕ) (c a d : List ℕ)
   pub few : vars < 2 ^ 31
   pub inside : Each (ClauseIn bounds (state .nextFresh) vars) (state .clauses)
   pub good : Good k
-  pub space : 321600 ≤ length s
+  pub space : 338400 ≤ length s

@@ -5,9 +5,10 @@ use mathlib.Core.List.{List, [], _∷_, _++_, append-nil, append-assoc}
 use Prim.Native.Nat.{ℕ, suc, _+_, _-_, _<_, _≤_}
 use native.Mathlib.Omega.{arith}
 use lib.ListN.{length, getD, set}
+use lib.Seq.{getD-set-other}
 use Rattle.words.specs.Words.{words}
 use Rattle.words.specs.Laws.{length-words}
-use Rattle.ir.specs.Scratch.{handsAt}
+use Rattle.ir.specs.Scratch.{normalFormsAt}
 use Rattle.ir.specs.declared.counters.Counters.{Counters}
 use Rattle.ir.specs.declared.answer.Answer.{Answer}
 use Rattle.ir.specs.declared.answer.Answer.the-variants.{Done, Refused}
@@ -26,6 +27,8 @@ use Rattle.pool.specs.HeldLaws.{pool-length, members-rise}
 use Rattle.normalize.specs.Steps.{nnfBy}
 use Rattle.normalize.specs.States.{stateOf, told, afterRun, Kept, Normalizing, NormalizingRun}
 use Rattle.normalize.specs.StateLaws.{counted-same, Stated, stated, stated-post, told-on, told-refused, grown-count, same-pool, by-done}
+use Rattle.normalize.specs.Known.{KnownIf, KnownAfter}
+use Rattle.normalize.specs.KnownLaws.{known-if-on}
 use Rattle.normalize.specs.KeptLaws.{Under, under-set, kept-refl, kept-call, kept-set, run-next, run-rest}
 
 -- every id below c has a depth above it
@@ -39,7 +42,7 @@ whole b F k w i n = each (λ d. nnfBy b (F d) d) (run w i n) (stateOf k w)
 abbrev pub left : Bool → (ℕ → ℕ) → Counters → List ℕ → ℕ → ℕ → ℕ → Res St (List ℕ)
 left b F k w at n i = then (whole b F k w (at + i) (n - i)) (λ l. return (run w at i ++ l))
 
-pub record Turn (s₀ : List ℕ) (k₀ : Counters) (at n top c : ℕ) (b : Bool) (s : List ℕ) (k : Counters) (i : ℕ) : Type 0 where
+pub record Turn (s₀ : List ℕ) (k₀ : Counters) (at n top c : ℕ) (b m : Bool) (s : List ℕ) (k : Counters) (i : ℕ) : Type 0 where
   pub bounds : Bounds
   pub within : i ≤ n
   pub len : length s ≡ length s₀
@@ -48,14 +51,16 @@ pub record Turn (s₀ : List ℕ) (k₀ : Counters) (at n top c : ℕ) (b : Bool
   pub grows : Grown (poolOf (words s₀) (k₀ .concepts)) (poolOf (words s) (k .concepts))
   pub kept : Kept at n top (words s₀) (words s)
   pub below : Each (λ d. d < c) (run (words s) (at + i) (n - i))
+  pub known : KnownIf m (words s) (k .concepts)
   pub rest : (F : ℕ → ℕ) → Deep c F → told k₀ (whole b F k₀ (words s₀) at n) ≡ told k (left b F k (words s) at n i)
 
 -- what is known of concept d after a call: the bytes s' and the answer r
-pub record Called (s : List ℕ) (k : Counters) (top : ℕ) (b : Bool) (d : ℕ) (s' : List ℕ) (r : Answer) : Type 0 where
+pub record Called (s : List ℕ) (k : Counters) (top : ℕ) (b m : Bool) (d : ℕ) (s' : List ℕ) (r : Answer) : Type 0 where
   pub len : length s' ≡ length s
   pub gave : (f : ℕ) → d < f → after r (words s') ≡ told k (nnfBy b f d (stateOf k (words s)))
   pub held : HeldAfter r (words s')
   pub kept : Kept top 0 top (words s) (words s')
+  pub known : KnownAfter m r (words s')
 
 -- ---- answers in a row
 then-return : (r : Res St (List ℕ)) → r ≡ then r (λ l. return l)
@@ -80,11 +85,11 @@ then-map f g (ok l s) h = ap (λ (x : List ℕ). ok x s) (h l)
 then-map f g (refused e) h = refl
 
 module _ {s₀ : List ℕ} {k₀ : Counters} {at n top c : ℕ} (P : NormalizingRun s₀ k₀ at n top c) where
-  pub turn-first : (b : Bool) → Turn s₀ k₀ at n top c b s₀ k₀ 0
+  pub turn-first : (b m : Bool) → KnownIf m (words s₀) (k₀ .concepts) → Turn s₀ k₀ at n top c b m s₀ k₀ 0
   unfolding tab
-  turn-first b =
+  turn-first b m K =
       let a : at + 0 ≡ at = omega arith in
-      let m : n - 0 ≡ n = omega arith in
+      let o : n - 0 ≡ n = omega arith in
       record {
         bounds = P .bounds;
         within = omega arith;
@@ -93,11 +98,12 @@ module _ {s₀ : List ℕ} {k₀ : Counters} {at n top c : ℕ} (P : Normalizing
         wf = P .wf;
         grows = grown-refl (poolOf (words s₀) (k₀ .concepts));
         kept = kept-refl at n top (words s₀);
-        below = rw (a, m) (P .below);
-        rest = λ F h. rw (a, m) (ap (told k₀) (then-return (whole b F k₀ (words s₀) at n)));
+        below = rw (a, o) (P .below);
+        known = K;
+        rest = λ F h. rw (a, o) (ap (told k₀) (then-return (whole b F k₀ (words s₀) at n)));
       }
 
-  module _ {b : Bool} {s : List ℕ} {k : Counters} {i : ℕ} (T : Turn s₀ k₀ at n top c b s k i) where
+  module _ {b m : Bool} {s : List ℕ} {k : Counters} {i : ℕ} (T : Turn s₀ k₀ at n top c b m s k i) where
     -- ---- after the last
     pub turn-end : n ≤ i → (F : ℕ → ℕ) → Deep c F → afterRun (Done k 0) (run (words s) at n) (words s) ≡ told k₀ (whole b F k₀ (words s₀) at n)
     unfolding each
@@ -109,7 +115,7 @@ module _ {s₀ : List ℕ} {k₀ : Counters} {at n top c : ℕ} (P : Normalizing
 
     -- ---- a turn
     module _ (lt : i < n) where
-      room-now : top + members (poolOf (words s) c) + c ≤ handsAt
+      room-now : top + members (poolOf (words s) c) + c ≤ normalFormsAt
       room-now = rw (same-pool (words s₀) (words s) (k₀ .concepts) (k .concepts) (T .grows) c (P .inside)) (P .room)
 
       next-run : run (words s) (at + i) (n - i) ≡ getD (words s) (at + i) 0 ∷ run (words s) (at + (i + 1)) (n - (i + 1))
@@ -136,7 +142,7 @@ module _ {s₀ : List ℕ} {k₀ : Counters} {at n top c : ℕ} (P : Normalizing
           space = omega (arith, T .len, P .space);
         }
 
-        module _ {s' : List ℕ} {r : Answer} (C : Called s k top b d s' r) where
+        module _ {s' : List ℕ} {r : Answer} (C : Called s k top b m d s' r) where
           one-more : (F : ℕ → ℕ) → Deep c F → told k₀ (whole b F k₀ (words s₀) at n) ≡ told k (then (nnfBy b (F d) d (stateOf k (words s)))
               (λ y u. then (each (λ d. nnfBy b (F d) d) (run (words s) (at + (i + 1)) (n - (i + 1))) u) (λ l. return (run (words s) at i ++ (y ∷ l)))))
           one-more F deep =
@@ -183,7 +189,13 @@ module _ {s₀ : List ℕ} {k₀ : Counters} {at n top c : ℕ} (P : Normalizing
                 rw put (run-rest (words s) (words s') (at + i) (n - (i + 1)) y (at + (i + 1)) (omega arith)
                 (λ j h. let z : at + (i + 1) + j ≡ at + (i + 1 + j) = omega arith in rw z (same (i + 1 + j) (omega arith))))
 
-            pub turn-next : Turn s₀ k₀ at n top c b s'' k' (i + 1)
+            known' : KnownIf m (words s'') (k' .concepts)
+            known' =
+                known-if-on (words s') (words s'') (k' .concepts) (k' .concepts) (rw pool'' (grown-refl (poolOf (words s') (k' .concepts))))
+                (λ j lo hi. rw put (getD-set-other (words s') (at + i) j y 0 (λ (e : j ≡ at + i). absurd (omega (arith, P .apart, P .room)))))
+                m (subst (λ (a : Answer). KnownAfter m a (words s')) q (C .known))
+
+            pub turn-next : Turn s₀ k₀ at n top c b m s'' k' (i + 1)
             turn-next = record {
               bounds = T .bounds;
               within = omega arith;
@@ -193,6 +205,7 @@ module _ {s₀ : List ℕ} {k₀ : Counters} {at n top c : ℕ} (P : Normalizing
               grows = rw pool'' (grown-trans (T .grows) (done .ran .grows));
               kept = rw put (kept-set at n top (words s₀) (words s') turn-kept (at + i) y (omega arith) (omega arith) (omega (arith, P .apart, P .room)));
               below = rw run-left (next-below .1);
+              known = known';
               rest = λ F deep. one-more F deep
                   ∙ told-on k k' y (words s') (nnfBy b (F d) d (stateOf k (words s)))
                   (λ y u. then (each (λ d. nnfBy b (F d) d) (run (words s) (at + (i + 1)) (n - (i + 1))) u) (λ l. return (run (words s) at i ++ (y ∷ l)))) (state (F d) (deep d turn-below))

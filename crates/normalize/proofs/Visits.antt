@@ -12,7 +12,7 @@ use lib.Dec.{ltb}
 use Rattle.words.specs.Words.{words}
 use Rattle.words.specs.Laws.{length-words}
 use Rattle.ir.specs.Counts.{tick, visited}
-use Rattle.ir.specs.Scratch.{keysAt, handsAt}
+use Rattle.ir.specs.Scratch.{keysAt, normalFormsAt}
 use Rattle.ir.specs.declared.counters.Counters.{Counters}
 use Rattle.ir.specs.declared.counters.Visit.the-variants.{Begun, Full}
 use Rattle.ir.specs.declared.answer.Answer.{Answer}
@@ -20,7 +20,8 @@ use Rattle.ir.specs.declared.answer.Answer.the-variants.{Done, Refused}
 use Rattle.rules.specs.Base.{Res, ok, refused, then, each}
 use Rattle.rules.specs.Concept.{Concept}
 use Rattle.rules.specs.Concept.{Top, Bot, Atomic, Nominal, SelfRestriction, Not, And, Or, Some, All, Min, Max}
-use Rattle.rules.specs.Pool.{at, width, members}
+use Rattle.rules.specs.Pool.{Pool, at, width, members}
+use Rattle.rules.specs.Post.{Post, gives, post-map}
 use Rattle.rules.specs.Deck.{partsOf}
 use Rattle.rules.specs.Normalize.{St, visit, inPool}
 use Rattle.rules.specs.Invariants.{Each, Wf, Grown}
@@ -30,12 +31,17 @@ use Rattle.rules.specs.NormalizeLaws.{AllDone}
 use Rattle.pool.specs.Layout.{run, conceptAt, poolOf}
 use Rattle.pool.specs.Held.{Ready}
 use Rattle.pool.specs.Answers.{after, shown, HeldAfter}
-use Rattle.pool.specs.HeldLaws.{pool-length, pool-at, members-next}
+use Rattle.pool.specs.HeldLaws.{pool-length, pool-at, members-next, word-above}
+use Rattle.words.specs.Runs.{getD-sets-after}
 use Rattle.pool.specs.Shapes.{by-test}
 use Rattle.normalize.specs.Steps.{nnfBy, visitedParts, partNegated, rebuilt}
 use Rattle.normalize.specs.States.{stateOf, told, afterRun, HeldRun, Kept, Normalizing, NormalizingRun, RebuildingAfter, RebuiltAfter}
 use Rattle.normalize.specs.StepLaws.{stepBy, nnf-by}
 use Rattle.normalize.specs.StateLaws.{Stated, stated, stated-post, told-on, told-refused, shown-told, grown-count, same-concept, same-pool, each-by-done}
+use Rattle.normalize.specs.Known.{KnownIf, KnownAfter}
+use Rattle.normalize.specs.KnownLaws.{known-if-on}
+use Rattle.normalize.specs.LastingLaws.{rebuilt-lasts}
+use Rattle.normalize.specs.SettledLaws.{parts-each}
 use Rattle.normalize.specs.KeptLaws.{Under, under-sets, run-sets, kept-parts}
 use Rattle.normalize.proofs.Turns.{Deep}
 
@@ -66,22 +72,6 @@ parts-few true (All _ _) = omega arith
 parts-few true (Min zero _ _) = omega arith
 parts-few true (Min (suc _) _ _) = omega arith
 parts-few true (Max _ _ _) = omega arith
-
-parts-each : (P : ℕ → Type 0) (b : Bool) (e : Concept) → Each P (partsOf e) → Each P (visitedParts b e)
-parts-each P false e h = h
-parts-each P true Top h = h
-parts-each P true Bot h = h
-parts-each P true (Atomic _) h = h
-parts-each P true (Nominal _) h = h
-parts-each P true (SelfRestriction _) h = h
-parts-each P true (Not _) h = h
-parts-each P true (And l) h = h
-parts-each P true (Or l) h = h
-parts-each P true (Some _ _) h = h
-parts-each P true (All _ _) h = h
-parts-each P true (Min zero _ _) h = tt
-parts-each P true (Min (suc _) _ _) h = h
-parts-each P true (Max _ _ _) h = h
 
 -- ---- the visit
 told-tick : {A : Type 0} (k : Counters) (x : Res St A) → told (tick k) x ≡ told k x
@@ -115,6 +105,9 @@ module _ (k v : Counters) (begun : visited k ≡ Begun v) where
     space = P .space;
   })
 
+  pub begun-known : (w : List ℕ) (m : Bool) → KnownIf m w (k .concepts) → KnownIf m w (v .concepts)
+  begun-known w m K = subst (λ (j : Counters). KnownIf m w (j .concepts)) (sym (begun-test k v begun .1)) K
+
   visit-told : (w : List ℕ) (c : ℕ) (b : Bool) (f : ℕ) → told v (stepBy b f c (stateOf v w)) ≡ told k (nnfBy b (suc f) c (stateOf k w))
   unfolding visit
   visit-told w c b f =
@@ -122,6 +115,11 @@ module _ (k v : Counters) (begun : visited k ≡ Begun v) where
       ap (λ (j : Counters). told j (stepBy b f c (stateOf j w))) (t .1)
       ∙ told-tick k (stepBy b f c (stateOf (tick k) w))
       ∙ sym (ap (told k) (nnf-by b f c (stateOf k w)) ∙ rw (t .0) refl)
+
+-- an answer's pool has grown where the rule's has
+grew : (k k3 : Counters) (i : ℕ) (w : List ℕ) (p : Pool) (x : Res Pool ℕ) → after (Done k3 i) w ≡ shown k x → Post (λ _ q. Grown p q) x → Grown p (poolOf w (k3 .concepts))
+grew k k3 i w p (ok j q) e (gives g) = let o : poolOf w (k3 .concepts) ≡ q = cc in rw o g
+grew k k3 i w p (refused n) e g = absurd (let z : _≡_ {A = ℕ} 0 1 = cc in omega arith)
 
 -- ---- after the visit
 -- the parts of concept c are put on the stack of s, which gives s1
@@ -132,21 +130,22 @@ pub record Parted (s : List ℕ) (v : Counters) (top c : ℕ) (b : Bool) (n : �
   pub put : words s1 ≡ sets (words s) top (visitedParts b (conceptAt (words s) c))
 
 -- and then normalised, which gives s2 and the answer r
-pub record Normalized (v : Counters) (top c : ℕ) (b : Bool) (n : ℕ) (s1 : List ℕ) (b' : Bool) (s2 : List ℕ) (r : Answer) : Type 0 where
+pub record Normalized (m : Bool) (v : Counters) (top c : ℕ) (b : Bool) (n : ℕ) (s1 : List ℕ) (b' : Bool) (s2 : List ℕ) (r : Answer) : Type 0 where
   pub turned : b' ≡ partNegated b (conceptAt (words s1) c)
   pub len : length s2 ≡ length s1
   pub gave : (F : ℕ → ℕ) → Deep c F → afterRun r (run (words s2) top n) (words s2) ≡ told v (each (λ d. nnfBy b' (F d) d) (run (words s1) top n) (stateOf v (words s1)))
   pub held : HeldRun r (words s2)
   pub kept : Kept top n (top + n) (words s1) (words s2)
+  pub known : KnownAfter m r (words s2)
 
 module _ {s : List ℕ} {v : Counters} {top c : ℕ} {b : Bool} {n : ℕ} {s1 : List ℕ} (P : Parted s v top c b n s1) where
   abbrev parts : List ℕ
   parts = visitedParts b (conceptAt (words s) c)
 
-  parts-room : top + length parts + members (poolOf (words s) c) + c ≤ handsAt
+  parts-room : top + length parts + members (poolOf (words s) c) + c ≤ normalFormsAt
   parts-room = omega (arith, P .asked .room, parts-few b (conceptAt (words s) c), members-next (words s) c)
 
-  pub parts-end : top + n ≤ handsAt
+  pub parts-end : top + n ≤ normalFormsAt
   parts-end = omega (arith, parts-room, P .count)
 
   under : Under (words s) (words s1) (v .concepts) (v .members)
@@ -193,20 +192,25 @@ module _ {s : List ℕ} {v : Counters} {top c : ℕ} {b : Bool} {n : ℕ} {s1 : 
       let t : b' ≡ partNegated b (conceptAt (words s) c) = turned ∙ ap (partNegated b) same1 in
       rw (pool-at (words s) (v .concepts) c (P .asked .held), run1, under .pool, t) refl
 
-  module _ {b' : Bool} {s2 : List ℕ} where
-    state : {k : Counters} {i : ℕ} → Normalized v top c b n s1 b' s2 (Done k i) → (f : ℕ) → c ≤ f → Stated v k (run (words s2) top n) (words s2) (rule b' f)
+  -- what is known before them
+  pub parts-known : (m : Bool) → KnownIf m (words s) (v .concepts) → KnownIf m (words s1) (v .concepts)
+  parts-known m = known-if-on (words s) (words s1) (v .concepts) (v .concepts) grown
+      (λ j lo hi. rw (P .put) (getD-sets-after parts (words s) top j 0 (omega (arith, parts-room)))) m
+
+  module _ {mm b' : Bool} {s2 : List ℕ} where
+    state : {k : Counters} {i : ℕ} → Normalized mm v top c b n s1 b' s2 (Done k i) → (f : ℕ) → c ≤ f → Stated v k (run (words s2) top n) (words s2) (rule b' f)
     state {k} R f h = stated v k (run (words s2) top n) (words s2) (rule b' f) (R .gave (λ d. f) (λ d l. omega arith))
 
-    made : {k : Counters} {i : ℕ} → Normalized v top c b n s1 b' s2 (Done k i) → Made (run (words s2) top n) (stateOf k (words s2))
+    made : {k : Counters} {i : ℕ} → Normalized mm v top c b n s1 b' s2 (Done k i) → Made (run (words s2) top n) (stateOf k (words s2))
     made {k} R =
         stated-post Made v k (run (words s2) top n) (words s2) (rule b' c) (state R c (omega arith))
         (each-by-done (P .asked .bounds) b' (λ d. c) c (λ d h. h) (run (words s1) top n) (run-call .below) (stateOf v (words s1)) wf1
         (rw (pool-length (words s1) (v .concepts)) (below-more (run-call .inside) (run (words s1) top n) (run-call .below))))
 
-    same2 : {k : Counters} {i : ℕ} → Normalized v top c b n s1 b' s2 (Done k i) → conceptAt (words s2) c ≡ conceptAt (words s) c
+    same2 : {k : Counters} {i : ℕ} → Normalized mm v top c b n s1 b' s2 (Done k i) → conceptAt (words s2) c ≡ conceptAt (words s) c
     same2 {k} R = same-concept (words s1) (words s2) (v .concepts) (k .concepts) (made R .ran .grows) c (P .asked .held) ∙ same1
 
-    pub rebuild-call : {r : Answer} → Normalized v top c b n s1 b' s2 r → RebuildingAfter s2 r top c n b
+    pub rebuild-call : {r : Answer} → Normalized mm v top c b n s1 b' s2 r → RebuildingAfter s2 r top c n b
     rebuild-call {r = Done k i} R = record {
       bounds = P .asked .bounds;
       ready = record { room = omega (arith, R .len, parts-ready .room); held = R .held };
@@ -221,7 +225,7 @@ module _ {s : List ℕ} {v : Counters} {top c : ℕ} {b : Bool} {n : ℕ} {s1 : 
 
     -- the concept made again
     module _ (s3 : List ℕ) (r3 : Answer) where
-      step-answer : {r : Answer} → Normalized v top c b n s1 b' s2 r → RebuiltAfter r top c n b (words s2) (words s3) r3
+      step-answer : {r : Answer} → Normalized mm v top c b n s1 b' s2 r → RebuiltAfter r top c n b (words s2) (words s3) r3
           → (f : ℕ) → c ≤ f → after r3 (words s3) ≡ told v (stepBy b f c (stateOf v (words s)))
       step-answer {r = Done k i} R m f h =
           m .equal
@@ -233,12 +237,22 @@ module _ {s : List ℕ} {v : Counters} {top c : ℕ} {b : Bool} {n : ℕ} {s1 : 
           ap (λ (a : Answer). after a (words s3)) m
           ∙ sym (ap (told v) (step-is b' (R .turned) f) ∙ rw (told-refused v e (rule b' f) (R .gave (λ d. f) (λ d l. omega arith))) refl)
 
-      pub visit-answer : {r : Answer} → Normalized v top c b n s1 b' s2 r → RebuiltAfter r top c n b (words s2) (words s3) r3 → (k : Counters) → visited k ≡ Begun v
+      pub visit-answer : {r : Answer} → Normalized mm v top c b n s1 b' s2 r → RebuiltAfter r top c n b (words s2) (words s3) r3 → (k : Counters) → visited k ≡ Begun v
           → (f : ℕ) → c < f → after r3 (words s3) ≡ told k (nnfBy b f c (stateOf k (words s)))
       visit-answer R m k begun zero h = absurd (omega arith)
       visit-answer R m k begun (suc f) h = step-answer R m f (omega arith) ∙ visit-told k v begun (words s) c b f
 
-    pub visit-kept : {r : Answer} → Normalized v top c b n s1 b' s2 r → (s3 : List ℕ) → drop keysAt (words s3) ≡ drop keysAt (words s2) → Kept top 0 top (words s) (words s3)
+    pub visit-known : {r : Answer} → Normalized mm v top c b n s1 b' s2 r → (s3 : List ℕ) (r3 : Answer) → RebuiltAfter r top c n b (words s2) (words s3) r3
+        → drop keysAt (words s3) ≡ drop keysAt (words s2) → KnownAfter mm r3 (words s3)
+    visit-known {r = Done k i} R s3 (Done k3 i3) m frame =
+        known-if-on (words s2) (words s3) (k .concepts) (k3 .concepts)
+        (grew k k3 i3 (words s3) (poolOf (words s2) (k .concepts)) _ (m .equal)
+        (post-map (rebuilt-lasts b c (conceptAt (words s2) c) (run (words s2) top n) (poolOf (words s2) (k .concepts)) (made R .held)) (λ j q f. f .0)))
+        (λ j lo hi. word-above keysAt (words s2) (words s3) frame j (omega arith)) mm (R .known)
+    visit-known {r = Done k i} R s3 (Refused e) m frame = tt
+    visit-known {r = Refused e} R s3 r3 m frame = rw m tt
+
+    pub visit-kept : {r : Answer} → Normalized mm v top c b n s1 b' s2 r → (s3 : List ℕ) → drop keysAt (words s3) ≡ drop keysAt (words s2) → Kept top 0 top (words s) (words s3)
     visit-kept R s3 frame =
         kept-parts top (words s) parts (P .asked .above) (omega (arith, parts-room)) (words s2) (rw (P .count, P .put) at (R .kept)) (words s3) frame
 

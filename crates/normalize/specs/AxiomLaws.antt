@@ -23,6 +23,7 @@ use Rattle.pool.specs.Layout.{tab, run}
 use Rattle.pool.specs.Tabs.{tab-same, length-tab, tab-each}
 use Rattle.deck.proofs.KindLaws.{axiom-kinds}
 use Rattle.ontology.specs.Layout.{axiomStart, axiomCount, axiomNumber, axiomRow, axiomAt, AxiomsHeld}
+use Rattle.normalize.specs.Known.{KnownAfter}
 use Rattle.normalize.specs.States.{stateOf, told, afterRun, HeldRun, Kept, NormalizingRun}
 use Rattle.normalize.specs.Axioms.{firstConcept, conceptCount, baseIn, conceptsAt, conceptsIn, afterAxiom, NormalizingAxioms}
 use Rattle.normalize.specs.AxiomRows.{Row, nnf-row, row-named}
@@ -215,12 +216,12 @@ module _ (s : List ℕ) (k : Counters) (n i : ℕ) (A : NormalizingAxioms s k n)
     pub run-asks : NormalizingRun s k a m stackAt (k .concepts)
     run-asks = rw (p, q) axiom-asks
 
-    pub axiom-did : (r : Answer) (w' : List ℕ) → afterRun r (run w' a m) w' ≡ told k (each nnf (run (words s) a m) (stateOf k (words s))) → HeldRun r w' → Kept a m stackAt (words s) w'
-        → (afterAxiom r (axiomAt w' i) w' ≡ told k (nnfAxiom (axiomAt (words s) i) (stateOf k (words s)))) × (HeldRun r w' × Kept (conceptsAt (words s) i) (conceptsIn (words s) i) stackAt (words s) w')
-    axiom-did r w' e l K =
+    pub axiom-did : (r : Answer) (w' : List ℕ) → afterRun r (run w' a m) w' ≡ told k (each nnf (run (words s) a m) (stateOf k (words s))) → HeldRun r w' → Kept a m stackAt (words s) w' → KnownAfter true r w'
+        → (afterAxiom r (axiomAt w' i) w' ≡ told k (nnfAxiom (axiomAt (words s) i) (stateOf k (words s)))) × (HeldRun r w' × (Kept (conceptsAt (words s) i) (conceptsIn (words s) i) stackAt (words s) w' × KnownAfter true r w'))
+    axiom-did r w' e l K N =
         let K′ : Kept (conceptsAt (words s) i) (conceptsIn (words s) i) stackAt (words s) w' = rw (← p, ← q) K in
         let e′ : afterRun r (run w' (conceptsAt (words s) i) (conceptsIn (words s) i)) w' ≡ told k (each nnf (run (words s) (conceptsAt (words s) i) (conceptsIn (words s) i)) (stateOf k (words s))) = rw (← p, ← q) e in
-        (axiom-returns (words s) w' n i (A .held) h K′ r k e′, (l, K′))
+        (axiom-returns (words s) w' n i (A .held) h K′ r k e′, (l, (K′, N)))
 
 -- the numbers that the code reads
 pub concepts-at : (w : List ℕ) (i kind first start : ℕ) → kind ≡ axiomNumber w i 0 → first ≡ firstConcept kind → start ≡ axiomStart w i → numbersAt + start + first ≡ conceptsAt w i

@@ -28,6 +28,8 @@ use Rattle.pool.specs.Held.{Held}
 use Rattle.pool.specs.HeldLaws.{pool-length}
 use Rattle.pool.specs.Tabs.{tab-same, tab-snoc, tab-each, each-tab}
 use Rattle.ontology.specs.Layout.{axiomCount, axiomNumber, axiomAt, axiomsOf, AxiomsHeld}
+use mathlib.Core.Bool.{true}
+use Rattle.normalize.specs.Known.{Known, KnownAfter}
 use Rattle.normalize.specs.States.{stateOf, counted, told, HeldRun, Kept}
 use Rattle.normalize.specs.Axioms.{conceptsAt, conceptsIn, afterAxiom, afterAxioms, toldLined, HeldLined, NormalizingAxioms}
 use Rattle.normalize.specs.AxiomLaws.{concepts-inside, axiom-kept, held-after}
@@ -211,9 +213,10 @@ pub record Going (s₀ : List ℕ) (k₀ : Counters) (n line : ℕ) (s : List �
   pub turn : Turn bounds (words s₀) k₀ n line (words s) v i
   pub long : length s ≡ length s₀
   pub space : 4 * handsAt ≤ length s₀
+  pub known : Known (words s) (v .concepts)
 
-pub going-first : (s : List ℕ) (k : Counters) (n line : ℕ) → NormalizingAxioms s k n → Going s k n line s k 0
-going-first s k n line A = record { bounds = A .bounds; turn = turn-first (A .bounds) (words s) k n line (A .ready .held) (A .wf) (A .held) (A .inside); long = refl; space = A .space }
+pub going-first : (s : List ℕ) (k : Counters) (n line : ℕ) → NormalizingAxioms s k n → Known (words s) (k .concepts) → Going s k n line s k 0
+going-first s k n line A K = record { known = K; bounds = A .bounds; turn = turn-first (A .bounds) (words s) k n line (A .ready .held) (A .wf) (A .held) (A .inside); long = refl; space = A .space }
 
 module _ (s₀ : List ℕ) (k₀ : Counters) (n line : ℕ) (s : List ℕ) (v : Counters) (i : ℕ) where
   module _ (G : Going s₀ k₀ n line s v i) where
@@ -229,24 +232,25 @@ module _ (s₀ : List ℕ) (k₀ : Counters) (n line : ℕ) (s : List ℕ) (v : 
 
     module _ (h : i < n) (r : Answer) (s' : List ℕ) (l : length s' ≡ length s) where
       pub going-next : (v' : Counters) (j : ℕ) → r ≡ Done v' j
-          → (afterAxiom r (axiomAt (words s') i) (words s') ≡ told v (nnfAxiom (axiomAt (words s) i) (stateOf v (words s)))) × (HeldRun r (words s') × Kept (conceptsAt (words s) i) (conceptsIn (words s) i) stackAt (words s) (words s'))
+          → (afterAxiom r (axiomAt (words s') i) (words s') ≡ told v (nnfAxiom (axiomAt (words s) i) (stateOf v (words s)))) × (HeldRun r (words s') × (Kept (conceptsAt (words s) i) (conceptsIn (words s) i) stackAt (words s) (words s') × KnownAfter true r (words s')))
           → Going s₀ k₀ n line s' v' (i + 1)
       going-next v' j e d =
-          let d′ = subst (λ (x : Answer). (afterAxiom x (axiomAt (words s') i) (words s') ≡ told v (nnfAxiom (axiomAt (words s) i) (stateOf v (words s)))) × (HeldRun x (words s') × Kept (conceptsAt (words s) i) (conceptsIn (words s) i) stackAt (words s) (words s'))) e d in
+          let d′ = subst (λ (x : Answer). (afterAxiom x (axiomAt (words s') i) (words s') ≡ told v (nnfAxiom (axiomAt (words s) i) (stateOf v (words s)))) × (HeldRun x (words s') × (Kept (conceptsAt (words s) i) (conceptsIn (words s) i) stackAt (words s) (words s') × KnownAfter true x (words s')))) e d in
           record {
             bounds = G .bounds;
-            turn = turn-next (G .bounds) (words s₀) k₀ n line (words s) v i (G .turn) h v' j (words s') (d′ .0) (d′ .1 .0) (d′ .1 .1);
+            turn = turn-next (G .bounds) (words s₀) k₀ n line (words s) v i (G .turn) h v' j (words s') (d′ .0) (d′ .1 .0) (d′ .1 .1 .0);
+            known = d′ .1 .1 .1;
             long = l ∙ G .long;
             space = G .space;
           }
 
       pub going-stop : (e : ℕ) → r ≡ Refused e
-          → (afterAxiom r (axiomAt (words s') i) (words s') ≡ told v (nnfAxiom (axiomAt (words s) i) (stateOf v (words s)))) × (HeldRun r (words s') × Kept (conceptsAt (words s) i) (conceptsIn (words s) i) stackAt (words s) (words s'))
+          → (afterAxiom r (axiomAt (words s') i) (words s') ≡ told v (nnfAxiom (axiomAt (words s) i) (stateOf v (words s)))) × (HeldRun r (words s') × (Kept (conceptsAt (words s) i) (conceptsIn (words s) i) stackAt (words s) (words s') × KnownAfter true r (words s')))
           → (afterAxioms (Stopped e (line + i)) (axiomsOf (words s') n) (words s') ≡ toldLined k₀ (nnfAxioms line (axiomsOf (words s₀) n) (stateOf k₀ (words s₀))))
           × (HeldLined (Stopped e (line + i)) n (words s') × Kept numbersAt (linesAt - numbersAt) stackAt (words s₀) (words s'))
       going-stop e q d = (
         turn-stop (G .bounds) (words s₀) k₀ n line (words s) v i (G .turn) h e (axiomAt (words s') i) (words s') (subst (λ (x : Answer). afterAxiom x (axiomAt (words s') i) (words s') ≡ told v (nnfAxiom (axiomAt (words s) i) (stateOf v (words s)))) q (d .0)),
-        (tt, kept-axiom (words s₀) (words s) (words s') n i (G .turn .axioms) h (G .turn .kept) (d .1 .1)),
+        (tt, kept-axiom (words s₀) (words s) (words s') n i (G .turn .axioms) h (G .turn .kept) (d .1 .1 .0)),
       )
 
     pub going-end : n ≤ i → (afterAxioms (Finished v) (axiomsOf (words s) n) (words s) ≡ toldLined k₀ (nnfAxioms line (axiomsOf (words s₀) n) (stateOf k₀ (words s₀))))

@@ -1,10 +1,17 @@
 pub mod Steps
+pub mod Settled
 pub mod States
+pub mod Known
 pub mod Axioms
 pub mod StepLaws
 pub mod StateLaws
+pub mod LastingLaws
+pub mod SettledLaws
 pub mod KeptLaws
+pub mod KnownLaws
 pub mod AxiomRows
 pub mod AxiomLaws
+pub mod KeptAxioms
 pub mod AxiomTurns
+pub mod ClearedLaws
 pub mod Loaded

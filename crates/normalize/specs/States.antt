@@ -6,7 +6,7 @@ use Prim.Native.Nat.{ℕ, suc, _+_, _*_, _<_, _≤_}
 use lib.ListN.{length, getD}
 use Rattle.words.specs.Words.{words}
 use Rattle.ir.specs.Counts.{counters}
-use Rattle.ir.specs.Scratch.{keysAt, handsAt}
+use Rattle.ir.specs.Scratch.{keysAt, normalFormsAt, handsAt}
 use Rattle.ir.specs.declared.counters.Counters.{Counters}
 use Rattle.ir.specs.declared.answer.Answer.{Answer}
 use Rattle.ir.specs.declared.answer.Answer.the-variants.{Done, Refused}
@@ -53,7 +53,7 @@ pub record Normalizing (s : List ℕ) (k : Counters) (top c : ℕ) : Type 0 wher
   pub wf : Wf bounds (poolOf (words s) (k .concepts))
   pub held : c < k .concepts
   pub above : keysAt ≤ top
-  pub room : top + members (poolOf (words s) (suc c)) + suc c ≤ handsAt
+  pub room : top + members (poolOf (words s) (suc c)) + suc c ≤ normalFormsAt
   pub space : 4 * handsAt ≤ length s
 
 -- for the concepts in the n words from i on, all below c
@@ -65,7 +65,7 @@ pub record NormalizingRun (s : List ℕ) (k : Counters) (i n top c : ℕ) : Type
   pub below : Each (λ d. d < c) (run (words s) i n)
   pub above : keysAt ≤ i
   pub apart : i + n ≤ top
-  pub room : top + members (poolOf (words s) c) + c ≤ handsAt
+  pub room : top + members (poolOf (words s) c) + c ≤ normalFormsAt
   pub space : 4 * handsAt ≤ length s
 
 -- to make concept c again of the normal forms in the n words from top on

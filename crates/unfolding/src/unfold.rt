@@ -117,7 +117,7 @@ pub fn apply_reflexive_roles(
     deferrals: &mut [u8],
     k: Counters,
 ) -> Answer
-    requires { ⌜ Standing k (words (now clauses)) (words (now atoms)) × Drawn k (words (now clauses)) (words (now atoms)) (words (now deferrals)) × Good k × (321600 ≤ length (now scratch)) × Sized (length (now clauses)) (length (now atoms)) (length (now deferrals)) ⌝ }
+    requires { ⌜ Standing k (words (now clauses)) (words (now atoms)) × Drawn k (words (now clauses)) (words (now atoms)) (words (now deferrals)) × Good k × (338400 ≤ length (now scratch)) × Sized (length (now clauses)) (length (now atoms)) (length (now deferrals)) ⌝ }
     ensures { λ r. ⌜ Passed (λ env set. applyReflexiveRoles env set) k (four (words (now (scratch .entry))) (words (now (clauses .entry))) (words (now (atoms .entry))) (words (now (deferrals .entry)))) (four (words (now (scratch .exit))) (words (now (clauses .exit))) (words (now (atoms .exit))) (words (now (deferrals .exit)))) r ⌝ }
     ensures { λ r. ⌜ StandingAfter (words (now (clauses .exit))) (words (now (atoms .exit))) r ⌝ }
 {

@@ -31,7 +31,7 @@ loop-holds c = (bodies-start _ _ _ _ _ _ (c .before .before .before .before .pre
 
 write-alternative-requires : tie.Need-write-alternative-requires Inv-loop μ-loop
 write-alternative-requires c κs = let s = c .before .before .before .before .before .before .before in let L = c .before .before .loop in
-    write-ready (s .args .scratch .now) (L .scratch) (s .args .k) (L .l) 12800 (s .args .sub) (s .pre .0) (s .pre .1) (omega arith) (omega (arith, s .pre .3)) (L .inv .1) (L .inv .0 .frame) (L .inv .0 .alike)
+    write-ready (s .args .scratch .now) (L .scratch) (s .args .k) (L .l) 13500 (s .args .sub) (s .pre .0) (s .pre .1) (omega arith) (omega (arith, s .pre .3)) (L .inv .1) (L .inv .0 .frame) (L .inv .0 .alike)
 
 sub-n : tie.Need-sub-n Inv-loop μ-loop
 sub-n c = let s = c .before .before .before .before .before .before .before .before .before .before in let L = c .before .before .before .before .before .loop in
@@ -71,7 +71,7 @@ same-length-4 c = search needs
 returns : tie.Need-returns Inv-loop μ-loop
 returns c = let s = c .before .before .before .before .before .before .before .before .before .before .before .before .before .before .before .before .before .before .before .before .before .before .before .before .before .before in let L = c .before .before .before .before .before .before .before .before .before .before .before .before .before .before .before .before .before .before .before .before .before .loop in let h = c .before .before .before .before .before .before .before .before .before .before .before .before .before .before .before .before .before .before .before .before .loop-test .taken in let W = c .before .before .before .before .before .before .before .before .before .before .before .before .before .before .before .before .before .before .write-alternative in let P = c .before .before .before .before .before .before .before .before .before .before .before .emit-head in
     let H = s .pre .0 .reading .ready .held in
-    let D = emitted (words (s .args .scratch .now)) (s .args .k) (L .l) 12800 _ (s .args .head) 0 _ _ _ H (written-frame _ _ _ _ _ _ _ _ _ (L .inv .0) h H _ _ (W .ensures)) (L .inv .0 .alike) (P .ensures) in
+    let D = emitted (words (s .args .scratch .now)) (s .args .k) (L .l) 13500 _ (s .args .head) 0 _ _ _ H (written-frame _ _ _ _ _ _ _ _ _ (L .inv .0) h H _ _ (W .ensures)) (L .inv .0 .alike) (P .ensures) in
     let g = c .before .e .given in
     bodies-stop _ _ _ _ _ _ _ _ _ (L .inv .0) h H _ _ (W .ensures) (hand-fits (s .args .scratch .now) (L .scratch) (omega (arith, s .pre .3)) (L .inv .1))
     (sizes-on _ _ (s .args .clauses .now) (s .args .atoms .now) (s .args .deferrals .now) (L .clauses) (L .atoms) (L .deferrals) (L .inv .2) (L .inv .3) (L .inv .4)) _ refl _ _ D (g .0 .0) (g .1)
@@ -85,7 +85,7 @@ loop-less c = let h = c .before .before .before .before .before .before .before 
 loop-again : tie.Need-loop-again Inv-loop μ-loop
 loop-again c = let s = c .before .before .before .before .before .before .before .before .before .before .before .before .before .before .before .before .before .before .before .before .before .before .before .before .before .before in let L = c .before .before .before .before .before .before .before .before .before .before .before .before .before .before .before .before .before .before .before .before .before .loop in let h = c .before .before .before .before .before .before .before .before .before .before .before .before .before .before .before .before .before .before .before .before .loop-test .taken in let W = c .before .before .before .before .before .before .before .before .before .before .before .before .before .before .before .before .before .before .write-alternative in let P = c .before .before .before .before .before .before .before .before .before .before .before .emit-head in
     let H = s .pre .0 .reading .ready .held in
-    let D = emitted (words (s .args .scratch .now)) (s .args .k) (L .l) 12800 _ (s .args .head) 0 _ _ _ H (written-frame _ _ _ _ _ _ _ _ _ (L .inv .0) h H _ _ (W .ensures)) (L .inv .0 .alike) (P .ensures) in
+    let D = emitted (words (s .args .scratch .now)) (s .args .k) (L .l) 13500 _ (s .args .head) 0 _ _ _ H (written-frame _ _ _ _ _ _ _ _ _ (L .inv .0) h H _ _ (W .ensures)) (L .inv .0 .alike) (P .ensures) in
     let g = c .before .m .given in (
       bodies-next _ _ _ _ _ _ _ _ _ (L .inv .0) h H _ _ (W .ensures) (hand-fits (s .args .scratch .now) (L .scratch) (omega (arith, s .pre .3)) (L .inv .1))
           (sizes-on _ _ (s .args .clauses .now) (s .args .atoms .now) (s .args .deferrals .now) (L .clauses) (L .atoms) (L .deferrals) (L .inv .2) (L .inv .3) (L .inv .4)) _ refl _ _ D (g .0 .0) (g .0 .1 .0) (g .1),

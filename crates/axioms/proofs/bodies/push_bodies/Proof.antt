@@ -29,7 +29,7 @@ loop-holds c = let s = c .before .before .before in (λ d. bodies-start _ _ _ _ 
 
 write-alternative-requires : tie.Need-write-alternative-requires Inv-loop μ-loop
 write-alternative-requires c κs = let s = c .before .before .before .before .before .before in let L = c .before .before .loop in
-    write-ready (s .args .scratch .now) (L .scratch) (s .args .k) (L .l) 12800 (s .args .sub) (s .pre .0) (s .pre .1) (omega arith) (omega (arith, s .pre .2)) (L .inv .1) (L .inv .0 [] .frame) (L .inv .0 [] .alike)
+    write-ready (s .args .scratch .now) (L .scratch) (s .args .k) (L .l) 13500 (s .args .sub) (s .pre .0) (s .pre .1) (omega arith) (omega (arith, s .pre .2)) (L .inv .1) (L .inv .0 [] .frame) (L .inv .0 [] .alike)
 
 sub-n : tie.Need-sub-n Inv-loop μ-loop
 sub-n c = let s = c .before .before .before .before .before .before .before .before .before in let L = c .before .before .before .before .before .loop in

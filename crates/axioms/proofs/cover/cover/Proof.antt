@@ -20,10 +20,10 @@ put-atom-requires c κs = search needs
 
 put-heads-requires : tie.Need-put-heads-requires
 put-heads-requires c κs = let s = c .before .before .before .before .before .before .before .before .before in
-    let room : 6 * 12800 + 6 ≤ length (words (s .args .scratch .now)) = omega (arith, length-words (s .args .scratch .now), s .pre .2) in
+    let room : 6 * 13500 + 6 ≤ length (words (s .args .scratch .now)) = omega (arith, length-words (s .args .scratch .now), s .pre .2) in
     let low = first-hands (s .args .k) (s .args .class) (s .args .at) (s .args .count) (words (s .args .scratch .now)) _ (words (s .args .scratch .now)) (c .before .before .before .put-atom .ensures) room (s .pre .0 .ready .held) (s .pre .1) in
     let l = c .before .before .before .put-atom .kept .0 in
-    (reading-kept (s .args .scratch .now) _ (s .args .k) 12800 (s .pre .0) (omega arith) low l, members-kept (words (s .args .scratch .now)) _ (s .args .k) (s .args .at) (s .args .count) low (s .pre .1), omega (arith, l, s .pre .2))
+    (reading-kept (s .args .scratch .now) _ (s .args .k) 13500 (s .pre .0) (omega arith) low l, members-kept (words (s .args .scratch .now)) _ (s .args .k) (s .args .at) (s .args .count) low (s .pre .1), omega (arith, l, s .pre .2))
 
 enum-told : tie.Need-enum-told
 enum-told c = search needs
@@ -55,7 +55,7 @@ same-length-3 c = search needs
 
 returns : tie.Need-returns
 returns c = let s = c .before .before .before .before .before .before .before .before .before .before .before .before .before .before .before .before .before .before .before .before .before .before in
-    let room : 6 * 12800 + 6 ≤ length (words (s .args .scratch .now)) = omega (arith, length-words (s .args .scratch .now), s .pre .2) in
+    let room : 6 * 13500 + 6 ≤ length (words (s .args .scratch .now)) = omega (arith, length-words (s .args .scratch .now), s .pre .2) in
     let p = c .before .before .before .before .push-run .ensures in
     cover-all (s .args .k) (s .args .class) (s .args .at) (s .args .count) (words (s .args .scratch .now)) _ _ (c .before .before .before .before .before .before .before .before .before .before .before .before .before .before .before .before .put-atom .ensures) room (s .pre .0 .ready .held) (s .pre .1)
     _ (c .before .before .before .before .before .before .before .before .before .before .before .before .put-heads .ensures) (words (s .args .clauses .now)) (words (s .args .atoms .now)) (words (s .args .deferrals .now)) _ _ (words (s .args .deferrals .now)) _ (p .1 .0) (p .1 .1) (c .before .before .before .before .before .before .before .before .enum-told .given .1) (p .0)
@@ -68,7 +68,7 @@ same-length-5 c = search needs
 
 returns-2 : tie.Need-returns-2
 returns-2 c = let s = c .before .before .before .before .before .before .before .before .before .before .before .before .before .before .before .before .before .before in
-    let room : 6 * 12800 + 6 ≤ length (words (s .args .scratch .now)) = omega (arith, length-words (s .args .scratch .now), s .pre .2) in
+    let room : 6 * 13500 + 6 ≤ length (words (s .args .scratch .now)) = omega (arith, length-words (s .args .scratch .now), s .pre .2) in
     let p = c .before .before .defer .ensures in
     cover-missing (s .args .k) (s .args .class) (s .args .at) (s .args .count) (words (s .args .scratch .now)) _ _ (c .before .before .before .before .before .before .before .before .before .before .before .before .put-atom .ensures) room (s .pre .0 .ready .held) (s .pre .1)
     _ (c .before .before .before .before .before .before .before .before .put-heads .ensures) (words (s .args .clauses .now)) (words (s .args .atoms .now)) (words (s .args .deferrals .now)) (words (s .args .clauses .now)) (words (s .args .atoms .now)) _ _ (p .1 .0 (s .pre .5)) (p .1 .1) (c .before .before .before .before .enum-told2 .given .1) (p .0)
@@ -78,7 +78,7 @@ same-length-6 c = search needs
 
 returns-3 : tie.Need-returns-3
 returns-3 c = let s = c .before .before .before .before .before .before .before .before .before .before .before .before .before .before in
-    let room : 6 * 12800 + 6 ≤ length (words (s .args .scratch .now)) = omega (arith, length-words (s .args .scratch .now), s .pre .2) in
+    let room : 6 * 13500 + 6 ≤ length (words (s .args .scratch .now)) = omega (arith, length-words (s .args .scratch .now), s .pre .2) in
     cover-long (s .args .k) (s .args .class) (s .args .at) (s .args .count) (words (s .args .scratch .now)) _ _ (c .before .before .before .before .before .before .before .before .put-atom .ensures) room (s .pre .0 .ready .held) (s .pre .1)
     _ (c .before .before .before .before .put-heads .ensures) (words (s .args .clauses .now)) (words (s .args .atoms .now)) (words (s .args .deferrals .now)) (c .enum-told3 .given .1)
 

@@ -37,7 +37,7 @@ get-word-requires c κs = let s = c .before .before .before .before in let b = s
 
 class-id-of-requires : tie.Need-class-id-of-requires Inv-loop μ-loop
 class-id-of-requires c κs = let s = c .before .before .before .before .before .before in let L = c .before .before .before .before .loop in (
-  reading-kept (s .args .scratch .now) (L .scratch) (s .args .k) 12801 (s .pre .0) (omega arith) (L .inv .0 .frame) (L .inv .1),
+  reading-kept (s .args .scratch .now) (L .scratch) (s .args .k) 13501 (s .pre .0) (omega arith) (L .inv .0 .frame) (L .inv .1),
   m-small (s .args .k) (s .args .at) (s .args .count) (words (s .args .scratch .now)) (words (L .scratch)) (L .i) _ (s .pre .0 .ready .held) (s .pre .1) (L .inv .0) (c .before .before .before .loop-test .taken) (c .before .get-word .ensures),
 )
 
@@ -82,7 +82,7 @@ loop-less c = let h = c .before .before .before .before .before .before .before 
 
 loop-again : tie.Need-loop-again Inv-loop μ-loop
 loop-again c = let s = c .before .before .before .before .before .before .before .before .before .before .before .before .before .before .before in let L = c .before .before .before .before .before .before .before .before .before .before .before .before .before .loop in let g = c .before .before .before .before .before .before .a .given in
-    let fit : 6 * (12800 + 1 + L .i) + 6 ≤ length (words (L .scratch)) = omega (arith, length-words (L .scratch), c .before .before .before .before .if1 .left, s .pre .2, L .inv .1) in (
+    let fit : 6 * (13500 + 1 + L .i) + 6 ≤ length (words (L .scratch)) = omega (arith, length-words (L .scratch), c .before .before .before .before .if1 .left, s .pre .2, L .inv .1) in (
       heads-next (s .args .k) (s .args .at) (s .args .count) (words (s .args .scratch .now)) (words (L .scratch)) (L .i) _ (s .pre .0 .ready .held) (s .pre .1) (L .inv .0) (c .before .before .before .before .before .before .before .before .before .before .before .before .loop-test .taken) (c .before .before .before .before .before .before .before .before .before .before .get-word .ensures) _ (c .before .before .before .before .before .before .before .before .class-id-of .ensures .0) (g .0 .0) (g .1)
           _ (c .before .before .before .before .if1 .left) (c .before .before .put-atom .ensures) fit,
       search needs,

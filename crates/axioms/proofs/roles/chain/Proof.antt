@@ -71,16 +71,16 @@ returns : tie.Need-returns
 returns c = let s = c .before .before .before .before .before .before .before .before .before .before .before .before .before .before .before .before .before .before .before .before .before .before .before .before .before .before .before .before .before .before .before .before in
     let A = s .args in
     let w = words (s .args .scratch .now) in
-    let room : 6 * 12800 + 18 ≤ length (words (s .args .scratch .now)) = omega (arith, length-words (s .args .scratch .now), s .pre .3) in
+    let room : 6 * 13500 + 18 ≤ length (words (s .args .scratch .now)) = omega (arith, length-words (s .args .scratch .now), s .pre .3) in
     let p = c .before .before .before .before .push-run .ensures in
     let e1 = c .before .before .before .before .before .before .before .before .before .before .before .before .before .before .before .before .before .before .put-atom .ensures in
     let e2 = c .before .before .before .before .before .before .before .before .before .before .before .before .before .before .put-atom2 .ensures in
     let e3 = c .before .before .before .before .before .before .before .before .before .before .put-atom3 .ensures in
-    λ d. chain-did (A .k) _ _ _ 12800 (poolOf (words (s .args .scratch .now)) (s .args .k .concepts)) (words (s .args .scratch .now)) _ _ _ _ _ d _ _ _ (roleOf (A .r)) (roleOf (A .s)) (roleOf (A .t)) _
+    λ d. chain-did (A .k) _ _ _ 13500 (poolOf (words (s .args .scratch .now)) (s .args .k .concepts)) (words (s .args .scratch .now)) _ _ _ _ _ d _ _ _ (roleOf (A .r)) (roleOf (A .s)) (roleOf (A .t)) _
     (c .before .before .before .before .before .before .before .before .before .before .before .before .before .before .before .before .before .before .before .before .before .before .before .before .before .before .before .before .restart-vars .ensures) (c .before .before .before .before .before .before .before .before .before .before .before .before .before .before .before .before .before .before .before .before .before .before .before .before .before .before .before .fresh-var .ensures) (c .before .before .before .before .before .before .before .before .before .before .before .before .before .before .before .before .before .before .before .before .before .before .before .before .before .before .fresh-var2 .ensures)
     (c .before .before .before .before .before .before .before .before .before .before .before .before .before .before .before .before .before .before .before .before .before .before .before .before .canon .ensures .0) (c .before .before .before .before .before .before .before .before .before .before .before .before .before .before .before .before .before .before .before .before .before .before .canon2 .ensures .0) (c .before .before .before .before .before .before .before .before .before .before .before .before .before .before .before .before .before .before .before .before .canon3 .ensures .0)
-    (frame-three 12800 (words (s .args .scratch .now)) _ (RoleAtom (c .before .before .before .before .before .before .before .before .before .before .before .before .before .before .before .before .before .before .before .before .before .before .before .before .canon .result) 0 1) e1 _ (RoleAtom (c .before .before .before .before .before .before .before .before .before .before .before .before .before .before .before .before .before .before .before .before .before .before .canon2 .result) 1 2) e2 _ (RoleAtom (c .before .before .before .before .before .before .before .before .before .before .before .before .before .before .before .before .before .before .before .before .canon3 .result) 0 2) e3 room)
-    (hand-three 12800 (words (s .args .scratch .now)) _ (RoleAtom (c .before .before .before .before .before .before .before .before .before .before .before .before .before .before .before .before .before .before .before .before .before .before .before .before .canon .result) 0 1) e1 _ (RoleAtom (c .before .before .before .before .before .before .before .before .before .before .before .before .before .before .before .before .before .before .before .before .before .before .canon2 .result) 1 2) e2 _ (RoleAtom (c .before .before .before .before .before .before .before .before .before .before .before .before .before .before .before .before .before .before .before .before .canon3 .result) 0 2) e3 room)
+    (frame-three 13500 (words (s .args .scratch .now)) _ (RoleAtom (c .before .before .before .before .before .before .before .before .before .before .before .before .before .before .before .before .before .before .before .before .before .before .before .before .canon .result) 0 1) e1 _ (RoleAtom (c .before .before .before .before .before .before .before .before .before .before .before .before .before .before .before .before .before .before .before .before .before .before .canon2 .result) 1 2) e2 _ (RoleAtom (c .before .before .before .before .before .before .before .before .before .before .before .before .before .before .before .before .before .before .before .before .canon3 .result) 0 2) e3 room)
+    (hand-three 13500 (words (s .args .scratch .now)) _ (RoleAtom (c .before .before .before .before .before .before .before .before .before .before .before .before .before .before .before .before .before .before .before .before .before .before .before .before .canon .result) 0 1) e1 _ (RoleAtom (c .before .before .before .before .before .before .before .before .before .before .before .before .before .before .before .before .before .before .before .before .before .before .canon2 .result) 1 2) e2 _ (RoleAtom (c .before .before .before .before .before .before .before .before .before .before .before .before .before .before .before .before .before .before .before .before .canon3 .result) 0 2) e3 room)
     (p .0) (p .1 .0) (p .1 .1)
 
 pub chain-spec : {M : Type 1} → statement M

@@ -36,10 +36,10 @@ same-length-3 c = search needs
 returns : tie.Need-returns
 returns c = let s = c .before .before .before .before .before .before .before .before .before .before .before .before .before .before .before .before .before in
     let w = words (s .args .scratch .now) in
-    let room : 6 * 12800 + 6 ≤ length (words (s .args .scratch .now)) = omega (arith, length-words (s .args .scratch .now), s .pre .1) in
+    let room : 6 * 13500 + 6 ≤ length (words (s .args .scratch .now)) = omega (arith, length-words (s .args .scratch .now), s .pre .1) in
     let e1 = c .before .before .before .before .before .before .before .before .before .before .put-atom .ensures in
     let x = c .before .before .before .before .before .before .before .before .before .before .before .before .canon in
-    λ d. irreflexive-did (s .args .k) 12800 w _ _ _ d _ (x .result) (roleOf (s .args .r)) _ (omega arith) (x .ensures .0) (frame-one 12800 w _ (RoleAtom (x .result) 0 0) e1 room) (hand-one 12800 w _ (RoleAtom (x .result) 0 0) e1 room)
+    λ d. irreflexive-did (s .args .k) 13500 w _ _ _ d _ (x .result) (roleOf (s .args .r)) _ (omega arith) (x .ensures .0) (frame-one 13500 w _ (RoleAtom (x .result) 0 0) e1 room) (hand-one 13500 w _ (RoleAtom (x .result) 0 0) e1 room)
     (c .before .before .before .before .push-none .ensures d)
 
 pub irreflexive-spec : {M : Type 1} → statement M

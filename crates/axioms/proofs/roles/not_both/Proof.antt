@@ -61,15 +61,15 @@ same-length-3 c = search needs
 returns : tie.Need-returns
 returns c = let s = c .before .before .before .before .before .before .before .before .before .before .before .before .before .before .before .before .before .before .before .before .before .before .before .before .before .before in
     let w = words (s .args .scratch .now) in
-    let room : 6 * 12800 + 12 ≤ length (words (s .args .scratch .now)) = omega (arith, length-words (s .args .scratch .now), s .pre .2) in
+    let room : 6 * 13500 + 12 ≤ length (words (s .args .scratch .now)) = omega (arith, length-words (s .args .scratch .now), s .pre .2) in
     let e1 = c .before .before .before .before .before .before .before .before .before .before .before .before .before .before .put-atom .ensures in
     let e2 = c .before .before .before .before .before .before .before .before .before .before .put-atom2 .ensures in
     let x = c .before .before .before .before .before .before .before .before .before .before .before .before .before .before .before .before .before .before .before .canon in
     let y = c .before .before .before .before .before .before .before .before .before .before .before .before .before .before .before .before .before .canon2 in
     let o = c .before .before .before .before .before .before .before .before .before .before .before .before .before .before .before .before .second in
-    λ d. not-both-did (s .args .k) _ _ 12800 w _ _ _ d _ (x .result) (y .result) (roleOf (s .args .r)) (roleOf (s .args .s)) (o .result) (s .args .back) _ (omega arith)
+    λ d. not-both-did (s .args .k) _ _ 13500 w _ _ _ d _ (x .result) (y .result) (roleOf (s .args .r)) (roleOf (s .args .s)) (o .result) (s .args .back) _ (omega arith)
     (c .before .before .before .before .before .before .before .before .before .before .before .before .before .before .before .before .before .before .before .before .before .before .restart-vars .ensures) (c .before .before .before .before .before .before .before .before .before .before .before .before .before .before .before .before .before .before .before .before .before .fresh-var .ensures) (x .ensures .0) (y .ensures .0) (o .ensures .0)
-    (frame-two 12800 w _ (RoleAtom (x .result) 0 1) e1 _ (o .result) e2 room) (hand-two 12800 w _ (RoleAtom (x .result) 0 1) e1 _ (o .result) e2 room) (c .before .before .before .before .push-none .ensures d)
+    (frame-two 13500 w _ (RoleAtom (x .result) 0 1) e1 _ (o .result) e2 room) (hand-two 13500 w _ (RoleAtom (x .result) 0 1) e1 _ (o .result) e2 room) (c .before .before .before .before .push-none .ensures d)
 
 pub not-both-spec : {M : Type 1} → statement M
 not-both-spec =

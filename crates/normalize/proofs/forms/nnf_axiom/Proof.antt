@@ -9,7 +9,7 @@ use Rattle.normalize.proofs.forms.nnf_axiom.Reads as reads
 use Rattle.normalize.proofs.forms.nnf_axiom.Lts as lts
 use Rattle.normalize.proofs.forms.concept_count.Reads as concept-count-reads
 use Rattle.normalize.proofs.forms.first_concept.Reads as first-concept-reads
-use Rattle.normalize.proofs.nnf.normal_run.Reads as normal-run-reads
+use Rattle.normalize.proofs.nnf.normal_each.Reads as normal-each-reads
 use Rattle.ontology.proofs.axiom.count.Reads as count-reads
 use Rattle.ontology.proofs.axiom.number.Reads as number-reads
 use Rattle.ontology.proofs.axiom.start.Reads as start-reads
@@ -48,12 +48,12 @@ cast-at-2 c = search needs
 add-at-2 : tie.Need-add-at-2
 add-at-2 c = search needs
 
-normal-run-requires : tie.Need-normal-run-requires
-normal-run-requires c κs =
+normal-each-requires : tie.Need-normal-each-requires
+normal-each-requires c κs =
     let a = c .before .before .before .before .before .before .before .before .before .before in
     let k = c .before .before .before .before .before .before .before .number .ensures in
-    run-asks (a .args .scratch .now) (a .args .k) (a .args .n) (a .args .i) (a .pre .0) (a .pre .1) _ _
-    (concepts-at (words (a .args .scratch .now)) (a .args .i) _ _ _ k (c .before .before .before .before .before .before .first-concept .ensures) (c .before .start .ensures)) (concepts-count (words (a .args .scratch .now)) (a .args .i) _ _ _ k (c .before .before .before .before .count .ensures) (c .before .before .before .concept-count .ensures))
+    (run-asks (a .args .scratch .now) (a .args .k) (a .args .n) (a .args .i) (a .pre .0) (a .pre .1) _ _
+    (concepts-at (words (a .args .scratch .now)) (a .args .i) _ _ _ k (c .before .before .before .before .before .before .first-concept .ensures) (c .before .start .ensures)) (concepts-count (words (a .args .scratch .now)) (a .args .i) _ _ _ k (c .before .before .before .before .count .ensures) (c .before .before .before .concept-count .ensures)), a .pre .2)
 
 same-length : tie.Need-same-length
 same-length c = search needs
@@ -63,10 +63,10 @@ returns c =
     let d = c .before .before .before in
     let a = d .before .before .before .before .before .before .before .before .before .before in
     let k = d .before .before .before .before .before .before .before .number .ensures in
-    let r = c .before .before .normal-run .ensures in
+    let r = c .before .before .normal-each .ensures in
     axiom-did (a .args .scratch .now) (a .args .k) (a .args .n) (a .args .i) (a .pre .0) (a .pre .1) _ _
     (concepts-at (words (a .args .scratch .now)) (a .args .i) _ _ _ k (d .before .before .before .before .before .before .first-concept .ensures) (d .before .start .ensures)) (concepts-count (words (a .args .scratch .now)) (a .args .i) _ _ _ k (d .before .before .before .before .count .ensures) (d .before .before .before .concept-count .ensures))
-    (c .before .before .normal-run .result) _ (r .0 suc (λ x l. omega arith)) (r .1 .0) (r .1 .1)
+    (c .before .before .normal-each .result) _ (r .0 suc (λ x l. omega arith)) (r .1 .0) (r .1 .1 .0) (r .1 .1 .1)
 
 pub nnf-axiom-spec : {M : Type 1} → statement M
 nnf-axiom-spec =
@@ -81,6 +81,6 @@ nnf-axiom-spec =
     add-at
     cast-at-2
     add-at-2
-    normal-run-requires
+    normal-each-requires
     same-length
     returns)

@@ -1,75 +1,36 @@
 use borrow.Author.Needs.{needs}
-use Prim.Native.Nat.{_-_}
-use Rattle.normalize.specs.AxiomTurns.{Going, going-first, going-asks, going-next, going-stop, going-end}
+use Rattle.words.specs.Words.{words}
+use Rattle.normalize.specs.ClearedLaws.{cleared-asks, cleared-known, cleared-did, cleared-kept}
 use Rattle.normalize.proofs.forms.nnf_axioms.Statement.{statement}
 use Rattle.normalize.proofs.forms.nnf_axioms.Tie as tie
 use Rattle.normalize.proofs.forms.nnf_axioms.Reads as reads
 use Rattle.normalize.proofs.forms.nnf_axioms.Lts as lts
-use Rattle.normalize.proofs.forms.nnf_axiom.Reads as nnf-axiom-reads
+use Rattle.normalize.proofs.forms.nnf_each.Reads as nnf-each-reads
+use Rattle.words.proofs.clear_words.Reads as clear-words-reads
 
-abbrev Inv-loop : tie.InvT-loop
-Inv-loop scratch₀ n line v₀ i₀ scratch v i = Going scratch₀ v₀ n line scratch v i
+clear-words-requires : tie.Need-clear-words-requires
+clear-words-requires c κs = search needs
 
-abbrev μ-loop : tie.MeasureT-loop
-μ-loop scratch₀ n line v₀ i₀ scratch v i = n - i
+nnf-each-requires : tie.Need-nnf-each-requires
+nnf-each-requires c κs =
+    let x = c .before .before .before in
+    let s = x .before .before .before in
+    let A = s .pre .0 in
+    (cleared-asks (s .args .scratch .now) (x .clear-words .last .0) (s .args .k) (s .args .n) A (x .clear-words .ensures) (x .clear-words .kept .0), s .pre .1, cleared-known (s .args .scratch .now) (x .clear-words .last .0) (s .args .k) (s .args .n) A (x .clear-words .ensures) (x .clear-words .kept .0))
 
-loop-holds : tie.Need-loop-holds Inv-loop μ-loop
-loop-holds c = going-first _ _ _ _ (c .before .pre .0)
-
-nnf-axiom-requires : tie.Need-nnf-axiom-requires Inv-loop μ-loop
-nnf-axiom-requires c κs = (going-asks _ _ _ _ _ _ _ (c .before .before .loop .inv), c .before .loop-test .taken)
-
-enum-known-w : tie.Need-enum-known-w Inv-loop μ-loop
-enum-known-w c = search needs
-
-enum-known-e : tie.Need-enum-known-e Inv-loop μ-loop
-enum-known-e c = search needs
-
-add-t13 : tie.Need-add-t13 Inv-loop μ-loop
-add-t13 c = search needs
-
-same-length : tie.Need-same-length Inv-loop μ-loop
+same-length : tie.Need-same-length
 same-length c = search needs
 
-returns : tie.Need-returns Inv-loop μ-loop
+returns : tie.Need-returns
 returns c =
-    let t = c .before .before .before .before .before .before .before .before in
-    let x = c .before .before .before .before .before in
-    going-stop _ _ _ _ _ _ _ (t .loop .inv) (c .before .before .before .before .before .before .before .loop-test .taken) (x .nnf-axiom .result) _ (x .nnf-axiom .kept .0) _ (c .before .e .given .1) (x .nnf-axiom .ensures)
-
-add-i : tie.Need-add-i Inv-loop μ-loop
-add-i c = search needs
-
-loop-less : tie.Need-loop-less Inv-loop μ-loop
-loop-less c = search needs
-
-loop-again : tie.Need-loop-again Inv-loop μ-loop
-loop-again c =
-    let t = c .before .before .before .before .before .before .before .before in
-    let x = c .before .before .before .before .before in
-    going-next _ _ _ _ _ _ _ (t .loop .inv) (c .before .before .before .before .before .before .before .loop-test .taken) (x .nnf-axiom .result) _ (x .nnf-axiom .kept .0) _ _ (c .before .w .given .1) (x .nnf-axiom .ensures)
-
-same-length-2 : tie.Need-same-length-2 Inv-loop μ-loop
-same-length-2 c = search needs
-
-returns-2 : tie.Need-returns-2 Inv-loop μ-loop
-returns-2 c = going-end _ _ _ _ _ _ _ (c .before .loop .inv) (c .loop-test .left)
+    let y = c .before .before in
+    let x = y .before .before .before .before in
+    let s = x .before .before .before in
+    let A = s .pre .0 in
+    let E = y .nnf-each .ensures in (
+      cleared-did (s .args .scratch .now) (x .clear-words .last .0) (s .args .k) (s .args .n) A (x .clear-words .ensures) (x .clear-words .kept .0) (y .nnf-each .result) (s .args .line) (words (y .nnf-each .last .0)) (E .0),
+      (E .1 .0, cleared-kept (s .args .scratch .now) (x .clear-words .last .0) (s .args .k) (s .args .n) A (x .clear-words .ensures) (x .clear-words .kept .0) (words (y .nnf-each .last .0)) (E .1 .1)),
+    )
 
 pub nnf-axioms-spec : {M : Type 1} → statement M
-nnf-axioms-spec =
-    tie.close
-    (tie.spec
-    Inv-loop
-    μ-loop
-    loop-holds
-    nnf-axiom-requires
-    enum-known-w
-    enum-known-e
-    add-t13
-    same-length
-    returns
-    add-i
-    loop-less
-    loop-again
-    same-length-2
-    returns-2)
+nnf-axioms-spec = tie.close (tie.spec clear-words-requires nnf-each-requires same-length returns)
