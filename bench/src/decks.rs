@@ -36,8 +36,13 @@ impl Known {
     }
 }
 
+/// The kind whose decks are also shown one by one.
+pub const REALISTIC: &str = "realistic, 900 axioms";
 /// Axioms of a realistic deck.
 pub const AXIOMS: u32 = 900;
+/// Seeds of the realistic decks: those of 1 to 200 whose decks have sizes nearest to twelve that rise evenly from the
+/// least of the 200 to the greatest.
+const SEEDS: [u64; 12] = [134, 178, 61, 35, 146, 148, 103, 102, 83, 48, 120, 196];
 /// Axioms of the decks that show how time grows.
 pub const SERIES: [u32; 8] = [16, 32, 64, 128, 256, 512, 900, 1_024];
 
@@ -47,8 +52,8 @@ pub fn kinds() -> Vec<Kind> {
     let alone = |name, deck| kind(name, vec![deck]);
     vec![
         kind(
-            "realistic, 900 axioms",
-            (1..=5).map(|seed| realistic(seed, AXIOMS)).collect(),
+            REALISTIC,
+            SEEDS.map(|seed| realistic(seed, AXIOMS)).to_vec(),
         ),
         kind("small", small()),
         alone("visits in normal forms", visits_in_normal_forms()),
@@ -86,4 +91,19 @@ fn small() -> Vec<Vec<u8>> {
         }
     }
     decks
+}
+
+#[cfg(test)]
+mod tests {
+    use super::{AXIOMS, SEEDS, realistic};
+
+    #[test]
+    fn realistic_decks_rise_from_38_to_55_kilobytes() {
+        let sizes = SEEDS.map(|seed| realistic(seed, AXIOMS).len());
+        assert!(38_000 <= sizes[0] && sizes[0] < 40_000);
+        assert!(53_000 <= sizes[11] && sizes[11] < 55_000);
+        for pair in sizes.windows(2) {
+            assert!(pair[0] < pair[1] && pair[1] - pair[0] < 2_000);
+        }
+    }
 }

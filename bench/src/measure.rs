@@ -29,18 +29,22 @@ impl Times {
             }
             times.rotate_right(first);
         }
-        Self(
-            times
-                .into_iter()
-                .map(|(way, _, samples)| (way, samples))
-                .collect(),
-        )
+        times
+            .into_iter()
+            .map(|(way, _, samples)| (way, samples))
+            .collect()
     }
 
     /// The times of a way, none if it is not measured.
     pub fn way(&self, way: Way) -> &[f64] {
         let found = self.0.iter().find(|(of, _)| *of == way);
         found.map_or(&[], |(_, times)| times)
+    }
+}
+
+impl FromIterator<(Way, Vec<f64>)> for Times {
+    fn from_iter<I: IntoIterator<Item = (Way, Vec<f64>)>>(times: I) -> Self {
+        Self(times.into_iter().collect())
     }
 }
 

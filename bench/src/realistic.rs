@@ -122,7 +122,7 @@ impl Junction {
         let individuals = (axioms / 15).max(2);
         let roles = (axioms * 2 / 45).max(3);
         let mut rng = Random::new(seed);
-        let plain = rng.between(20, 160);
+        let plain = rng.between(10, 1200);
         Self {
             rng,
             draft: Draft::new(classes, individuals, roles),

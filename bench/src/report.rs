@@ -1,12 +1,14 @@
 //! The results as a page of Markdown.
 
+use std::borrow::Borrow;
 use std::fmt::Write;
 
 use crate::count::Counter;
+use crate::decks::REALISTIC;
 use crate::measure::Spread;
 use crate::ours::{self, SCRATCH_BYTES, table_bytes};
 use crate::plot::{Curve, Plot};
-use crate::results::{Range, Row};
+use crate::results::{Measured, Range, Row};
 use crate::ways::Way;
 
 pub struct Report {
@@ -37,6 +39,10 @@ impl Report {
         self.method(page)?;
         writeln!(page, "\n## Times\n")?;
         self.times(page)?;
+        for row in self.rows.iter().filter(|row| row.name == REALISTIC) {
+            writeln!(page, "\n## Each realistic deck\n")?;
+            each_deck(page, row)?;
+        }
         if ours::MEASURED {
             writeln!(page, "\n## Memory and clearing\n")?;
             self.clearing(page)?;
@@ -79,7 +85,7 @@ impl Report {
              folded products in place of that crate's.",
             self.rounds,
             if ours::MEASURED {
-                "; ratios are the Rust's time by Gorvask's in the same round, their median and in brackets the middle half: above 1 \
+                "; ratios are Gorvask's time by the Rust's in the same round, their median and in brackets the middle half: below 1 \
                  Gorvask is faster"
             } else {
                 ""
@@ -94,22 +100,22 @@ impl Report {
         }
         head.extend(["Rust, ms", "Rust alone, ms", "reading and conversion, ms"]);
         if ours::MEASURED {
-            head.extend(["Rust by Gorvask", "Rust alone by Gorvask"]);
+            head.extend(["Gorvask by Rust", "Gorvask by Rust alone"]);
         }
         table_head(page, &head)?;
         for row in &self.rows {
             let mut cells = vec![
                 row.name.clone(),
-                range(row.bytes),
-                range(row.axioms),
-                range(row.clauses),
-                range(row.visits),
+                range(row.range(|deck| deck.bytes)),
+                range(row.range(|deck| deck.axioms)),
+                range(row.range(|deck| deck.clauses)),
+                range(row.range(|deck| deck.visits)),
             ];
             let ways = Way::shown().into_iter().chain([Way::RustReading]);
             cells.extend(ways.map(|way| figure(row.time(way).median)));
             if ours::MEASURED {
                 let ratios = [Way::Rust, Way::RustAlone];
-                cells.extend(ratios.map(|way| ratio(row.ratio(way, Way::Gorvask))));
+                cells.extend(ratios.map(|by| ratio(row.ratio(Way::Gorvask, by))));
             }
             table_row(page, &cells)?;
         }
@@ -121,7 +127,9 @@ impl Report {
             page,
             "Scratch has {} bytes. The tables are those at which the wrapper's growth ends for the deck; where decks differ, the \
              largest. Clearing is the time of one plain `memset` over as many bytes, and its share that of Gorvask's time: what \
-             a call cannot go below while it leaves scratch and the tables' rest as zeros.\n",
+             a call cannot go below while it leaves scratch and the tables' rest as zeros. However small the deck, all of scratch \
+             is cleared; so the last column shows what is left for the deck itself: Gorvask's time less both clearings, by their \
+             medians, and not below 0.\n",
             number(SCRATCH_BYTES)
         )?;
         table_head(
@@ -135,25 +143,11 @@ impl Report {
                 "clearing tables, ms",
                 "clearing scratch, ms",
                 "share",
+                "Gorvask without clearing, ms",
             ],
         )?;
         for row in &self.rows {
-            let [clauses, atoms, deferrals] = row.lent;
-            let share = row.ratio(Way::ClearTables, Way::Gorvask).median
-                + row.ratio(Way::ClearScratch, Way::Gorvask).median;
-            table_row(
-                page,
-                &[
-                    row.name.clone(),
-                    number(clauses),
-                    number(atoms),
-                    number(deferrals),
-                    number(table_bytes(row.lent)),
-                    figure(row.time(Way::ClearTables).median),
-                    figure(row.time(Way::ClearScratch).median),
-                    format!("{:.0} %", 100.0 * share),
-                ],
-            )?;
+            table_row(page, &clearing_cells(row))?;
         }
         Ok(())
     }
@@ -187,27 +181,25 @@ impl Report {
     fn growth(&self, page: &mut String) -> std::fmt::Result {
         writeln!(
             page,
-            "Realistic decks with more and more axioms, names and concepts; three of each size.\n\n\
-             ![Time against the size of the deck](performance.svg)\n"
+            "Realistic decks with more and more axioms, names and concepts; three of each size. Time per KB (1,000 bytes) is the \
+             median of the three decks{}. Where it stays level from row to row, time is linear in the deck.\n\n\
+             ![Time against the size of the deck](performance.svg)\n",
+            if ours::MEASURED {
+                "; Gorvask's is without clearing, as above"
+            } else {
+                ""
+            }
         )?;
-        let names = Way::shown()
-            .into_iter()
-            .map(|way| format!("{}, ms", way.name()));
-        let head: Vec<String> = ["axioms", "bytes"]
-            .map(str::to_owned)
-            .into_iter()
-            .chain(names)
-            .collect();
-        table_head(page, &head.iter().map(String::as_str).collect::<Vec<_>>())?;
+        let mut head = vec!["axioms".to_owned(), "bytes".to_owned()];
+        let names = Way::shown().into_iter().map(Way::name);
+        head.extend(names.map(|name| format!("{name}, ms")));
+        if ours::MEASURED {
+            head.push("Gorvask without clearing, µs per KB".to_owned());
+        }
+        head.push("Rust, µs per KB".to_owned());
+        table_head(page, &head)?;
         for row in &self.series {
-            let times = Way::shown()
-                .into_iter()
-                .map(|way| figure(row.time(way).median));
-            let cells: Vec<String> = [range(row.axioms), range(row.bytes)]
-                .into_iter()
-                .chain(times)
-                .collect();
-            table_row(page, &cells)?;
+            table_row(page, &growth_cells(row))?;
         }
         Ok(())
     }
@@ -224,7 +216,10 @@ impl Report {
             points: self
                 .series
                 .iter()
-                .map(|row| (middle(row.bytes) / 1_000.0, row.time(way).median))
+                .map(|row| {
+                    let bytes = middle(row.range(|deck| deck.bytes));
+                    (bytes / 1_000.0, row.time(way).median)
+                })
                 .collect(),
         };
         Plot {
@@ -237,7 +232,73 @@ impl Report {
     }
 }
 
-fn table_head(page: &mut String, names: &[&str]) -> std::fmt::Result {
+/// The decks of a kind one by one.
+fn each_deck(page: &mut String, row: &Row) -> std::fmt::Result {
+    let ways = [Way::Gorvask, Way::Rust];
+    let ways = &ways[usize::from(!ours::MEASURED)..];
+    let mut head = ["bytes", "clauses", "visits"].map(str::to_owned).to_vec();
+    head.extend(ways.iter().map(|way| format!("{}, ms", way.name())));
+    if ours::MEASURED {
+        head.push("Gorvask by Rust".to_owned());
+    }
+    table_head(page, &head)?;
+    for deck in &row.decks {
+        let mut cells = [deck.bytes, deck.clauses, deck.visits].map(number).to_vec();
+        cells.extend(ways.iter().map(|&way| figure(deck.time(way).median)));
+        if ours::MEASURED {
+            cells.push(ratio(deck.ratio(Way::Gorvask, Way::Rust)));
+        }
+        table_row(page, &cells)?;
+    }
+    if ours::MEASURED {
+        let median = |deck: &Measured| deck.ratio(Way::Gorvask, Way::Rust).median;
+        writeln!(
+            page,
+            "\nOf the {} decks' medians of Gorvask by Rust the median is {}, and the greatest is {}.",
+            row.decks.len(),
+            figure(row.median(median)),
+            figure(row.greatest(median))
+        )?;
+    }
+    Ok(())
+}
+
+/// A kind's cells under "Memory and clearing".
+fn clearing_cells(row: &Row) -> [String; 9] {
+    let [clauses, atoms, deferrals] = row.lent();
+    let share = row.ratio(Way::ClearTables, Way::Gorvask).median
+        + row.ratio(Way::ClearScratch, Way::Gorvask).median;
+    [
+        row.name.clone(),
+        number(clauses),
+        number(atoms),
+        number(deferrals),
+        number(table_bytes(row.lent())),
+        figure(row.time(Way::ClearTables).median),
+        figure(row.time(Way::ClearScratch).median),
+        format!("{:.0} %", 100.0 * share),
+        figure(row.without_clearing()),
+    ]
+}
+
+/// A size's cells under "How time grows".
+fn growth_cells(row: &Row) -> Vec<String> {
+    let mut cells = vec![
+        range(row.range(|deck| deck.axioms)),
+        range(row.range(|deck| deck.bytes)),
+    ];
+    let times = Way::shown().into_iter().map(|way| row.time(way).median);
+    cells.extend(times.map(figure));
+    if ours::MEASURED {
+        let median = row.median(|deck| deck.by_kilobyte(deck.without_clearing()));
+        cells.push(figure(median));
+    }
+    let median = row.median(|deck| deck.by_kilobyte(deck.time(Way::Rust).median));
+    cells.push(figure(median));
+    cells
+}
+
+fn table_head(page: &mut String, names: &[impl Borrow<str>]) -> std::fmt::Result {
     writeln!(page, "| {} |", names.join(" | "))?;
     writeln!(page, "|---|{}", "--:|".repeat(names.len() - 1))
 }
