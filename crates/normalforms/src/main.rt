@@ -17,10 +17,10 @@ fn deck_space() -> [u8; 65537] {
 }
 
 // Scratch up to the regions of the passes that come later.
-fn scratch_space() -> [u8; 307200]
-    ensures { λ r. ⌜ 307200 ≡ length r ⌝ }
+fn scratch_space() -> [u8; 324000]
+    ensures { λ r. ⌜ 324000 ≡ length r ⌝ }
 {
-    [0; 307200]
+    [0; 324000]
 }
 
 // The longest text.
