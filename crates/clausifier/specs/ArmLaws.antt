@@ -27,7 +27,7 @@ use Rattle.pool.specs.Tabs.{tab-each}
 use Rattle.hands.specs.Hands.{Four, Did}
 use Rattle.inverse.specs.AxiomLaws.{code-small}
 use Rattle.axioms.specs.RoleAxioms.{handAt, domainOrRange}
-use Rattle.axioms.specs.Pairs.{unencoded}
+use Rattle.disjointness.specs.Pairs.{unencoded}
 use Rattle.axioms.specs.Wholes.{Clausified}
 use Rattle.axioms.specs.WholeLaws.{did-clausified}
 use Rattle.axioms.specs.OnwardLaws.{clausified-is}

@@ -17,7 +17,7 @@ use Rattle.rules.specs.Axioms.{Clausifier, C, clausifyGci, disjointPair, unionM
 use Rattle.pool.specs.Layout.{poolOf}
 use Rattle.hands.specs.Hands.{four, Did}
 use Rattle.axioms.specs.RoleAxioms.{handAt, notBoth}
-use Rattle.axioms.specs.Pairs.{unencoded, pairRule}
+use Rattle.disjointness.specs.Pairs.{unencoded, pairRule}
 use Rattle.axioms.specs.Bodies.{memberRule}
 use Rattle.axioms.specs.Wholes.{Clausifying}
 use Rattle.lists.specs.Listed.{pairDisjoint}

@@ -11,7 +11,7 @@ use Rattle.rules.specs.Axioms.{paired, laterPairs, numbered, withOthers, ordere
 use Rattle.pool.specs.Layout.{run}
 use Rattle.pool.specs.Tabs.{tab-same, tab-next, tab-end}
 use Rattle.axioms.specs.Wholes.{Untouched, Onward}
-use Rattle.axioms.specs.Covers.{Members}
+use Rattle.disjointness.specs.Covers.{Members}
 use Rattle.lists.specs.Listed.{Listed, RolesListed}
 use Rattle.lists.specs.PairLaws.{paired-next, later-next, others-next, others-skip, ordered-next}
 

@@ -1,5 +1,5 @@
 // DisjointClasses: all pairs of a member and a later one.
-use axioms::pairs;
+use disjointness::pairs;
 use ir::answer::Answer;
 use ir::counters::Counters;
 ghost use mathlib.Core.List.{[]};
@@ -12,7 +12,7 @@ ghost use Rattle.pool.specs.Layout.{run};
 ghost use Rattle.tables.specs.Drawn.{Sized};
 ghost use Rattle.hands.specs.Hands.{four};
 ghost use Rattle.axioms.specs.Wholes.{Clausifying, ClausifyingAfter, Clausified};
-ghost use Rattle.axioms.specs.Pairs.{unencoded};
+ghost use Rattle.disjointness.specs.Pairs.{unencoded};
 ghost use Rattle.lists.specs.Listed.{Listed};
 
 // Member i of the list with each later one.

@@ -1,7 +1,7 @@
 // DisjointUnion: pairs, members, covering.
 use crate::disjoints;
-use axioms::cover;
-use axioms::member;
+use disjointness::cover;
+use disjointness::member;
 use ir::answer::Answer;
 use ir::counters::Counters;
 ghost use Prim.Native.Nat.{_+_, _<_, _^_};

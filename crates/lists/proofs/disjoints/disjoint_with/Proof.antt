@@ -19,7 +19,7 @@ use Rattle.lists.proofs.disjoints.disjoint_with.Statement.{statement}
 use Rattle.lists.proofs.disjoints.disjoint_with.Tie as tie
 use Rattle.lists.proofs.disjoints.disjoint_with.Reads as reads
 use Rattle.lists.proofs.disjoints.disjoint_with.Lts as lts
-use Rattle.axioms.proofs.pairs.disjoint_pair.Reads as disjoint-pair-reads
+use Rattle.disjointness.proofs.pairs.disjoint_pair.Reads as disjoint-pair-reads
 use Rattle.words.proofs.get_word.Reads as get-word-reads
 
 abbrev Inv-loop : tie.InvT-loop

@@ -14,7 +14,7 @@ use Rattle.lists.proofs.unions.union.Statement.{statement}
 use Rattle.lists.proofs.unions.union.Tie as tie
 use Rattle.lists.proofs.unions.union.Reads as reads
 use Rattle.lists.proofs.unions.union.Lts as lts
-use Rattle.axioms.proofs.cover.cover.Reads as cover-reads
+use Rattle.disjointness.proofs.cover.cover.Reads as cover-reads
 use Rattle.lists.proofs.disjoints.disjoint.Reads as disjoint-reads
 use Rattle.lists.proofs.unions.union_members.Reads as union-members-reads
 use Rattle.ir.proofs.counters.Counters.restart_vars.Reads as restart-vars-reads

@@ -16,7 +16,7 @@ use Rattle.lists.proofs.unions.union_members.Statement.{statement}
 use Rattle.lists.proofs.unions.union_members.Tie as tie
 use Rattle.lists.proofs.unions.union_members.Reads as reads
 use Rattle.lists.proofs.unions.union_members.Lts as lts
-use Rattle.axioms.proofs.member.union_member.Reads as union-member-reads
+use Rattle.disjointness.proofs.member.union_member.Reads as union-member-reads
 use Rattle.words.proofs.get_word.Reads as get-word-reads
 
 abbrev Inv-loop : tie.InvT-loop

@@ -1,0 +1,10 @@
+pub mod Covers
+pub mod CoverLaws
+pub mod EncodeLaws
+pub mod Pairs
+pub mod Turns
+pub mod TurnLaws
+pub mod PairTurns
+pub mod PairLaws
+pub mod EncodedLaws
+pub mod SecondLaws
