@@ -21,7 +21,7 @@ use Rattle.pool.specs.Held.{Held}
 use Rattle.pool.specs.HeldLaws.{pool-length}
 use Rattle.pool.specs.Answers.{sized}
 use Rattle.pool.specs.Answers.{after as afterPool}
-use Rattle.normalize.specs.States.{counted, told}
+use Rattle.rebuilding.specs.States.{counted, told}
 use Rattle.tables.specs.Drawn.{Tables, tables, show, shown, after}
 use Rattle.tables.specs.Good.{GoodAnswer, KeptAnswer}
 use Rattle.hands.specs.Hands.{InHand, Four, Did}

@@ -31,7 +31,7 @@ use Rattle.pool.specs.Held.{Held, Ready}
 use Rattle.pool.specs.HeldLaws.{Same, pool-same, held-same, word-above}
 use Rattle.ontology.specs.Layout.{axiomsOf, AxiomsHeld, KeysHeld}
 use Rattle.ontology.specs.Loads.{begin}
-use Rattle.normalize.specs.States.{stateOf, counted, Kept}
+use Rattle.rebuilding.specs.States.{stateOf, counted, Kept}
 use Rattle.normalize.specs.Axioms.{afterAxioms, toldLined, HeldLined, NormalizingAxioms}
 use Rattle.normalize.specs.Loaded.{begun, normalized, holds-ready, holds-line, holds-rule}
 use Rattle.inverse.specs.Layout.{RolesHeld, Beside, Building}

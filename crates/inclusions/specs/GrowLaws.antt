@@ -18,7 +18,7 @@ use Rattle.pool.specs.Layout.{poolWords, poolOf}
 use Rattle.pool.specs.Answers.{after}
 use Rattle.pool.specs.Held.{Ready}
 use Rattle.pool.specs.HeldLaws.{pool-kept, held-kept, word-above}
-use Rattle.normalize.specs.States.{stateOf, counted, told}
+use Rattle.rebuilding.specs.States.{stateOf, counted, told}
 use Rattle.normalize.specs.StateLaws.{grown-count}
 use Rattle.tables.specs.Good.{Good, Alike}
 use Rattle.leaves.specs.Reading.{Reading}

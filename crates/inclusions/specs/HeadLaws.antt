@@ -27,8 +27,8 @@ use Rattle.pool.specs.HeldLaws.{pool-length, members-rise}
 use Rattle.pool.specs.Answers as Pools
 use Rattle.pool.specs.Answers.{after, HeldAfter}
 use Rattle.pool.specs.Marks.{Beside, Operands}
-use Rattle.normalize.specs.Steps.{nnfBy}
-use Rattle.normalize.specs.States.{stateOf, told, afterRun, HeldRun, Kept, Normalizing, NormalizingRun}
+use Rattle.rebuilding.specs.Steps.{nnfBy}
+use Rattle.rebuilding.specs.States.{stateOf, told, afterRun, HeldRun, Kept, Normalizing, NormalizingRun}
 use Rattle.normalize.specs.StateLaws.{counted-same, Stated, stated, stated-post, shown-told, each-by-done}
 use Rattle.normalize.specs.KeptLaws.{Under, under-set, run-next}
 use Rattle.tables.specs.Good.{Good}

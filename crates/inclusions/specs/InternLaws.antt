@@ -26,7 +26,7 @@ use Rattle.pool.specs.HeldLaws.{word-above}
 use Rattle.pool.specs.Answers as Pools
 use Rattle.pool.specs.Answers.{after, HeldAfter}
 use Rattle.pool.specs.Marks.{Beside}
-use Rattle.normalize.specs.States.{stateOf, told, Kept}
+use Rattle.rebuilding.specs.States.{stateOf, told, Kept}
 use Rattle.normalize.specs.StateLaws.{Stated, stated, stated-post, told-on, shown-told, told-refused, each-by-done}
 use Rattle.tables.specs.Good.{Good}
 use Rattle.leaves.specs.Reading.{Reading}

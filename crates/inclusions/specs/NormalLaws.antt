@@ -13,7 +13,7 @@ use Rattle.rules.specs.Normalize.{St, N, backIn, inPool}
 use Rattle.rules.specs.State.{Env, Out}
 use Rattle.rules.specs.Axioms.{Clausifier, C, backNnf, inNnf, visitedTo}
 use Rattle.pool.specs.Layout.{poolOf}
-use Rattle.normalize.specs.States.{stateOf}
+use Rattle.rebuilding.specs.States.{stateOf}
 use Rattle.tables.specs.Drawn.{tables, show}
 use Rattle.hands.specs.Hands.{Four, four}
 use Rattle.leaves.specs.StepLaws.{visits-are, limit-is}

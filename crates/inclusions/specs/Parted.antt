@@ -17,7 +17,7 @@ use Rattle.rules.specs.Axioms as Rules
 use Rattle.rules.specs.Invariants.{Each, Grown}
 use Rattle.pool.specs.Layout.{poolOf, run}
 use Rattle.pool.specs.Answers.{after}
-use Rattle.normalize.specs.States.{stateOf, told}
+use Rattle.rebuilding.specs.States.{stateOf, told}
 use Rattle.tables.specs.Good.{Good, Alike}
 use Rattle.leaves.specs.Reading.{Reading}
 use Rattle.antecedents.specs.States.{varied}

@@ -17,7 +17,7 @@ use Rattle.pool.specs.Layout.{poolOf}
 use Rattle.pool.specs.Held.{Held}
 use Rattle.pool.specs.Answers.{Drawn, drawn}
 use Rattle.ontology.specs.Layout.{axiomsOf, AxiomsHeld}
-use Rattle.normalize.specs.States.{stateOf}
+use Rattle.rebuilding.specs.States.{stateOf}
 use Rattle.normalize.specs.Axioms.{afterAxioms, toldLined, HeldLined, NormalizingAxioms}
 use Rattle.normalize.specs.Loaded.{Fine, holds-ready, holds-line, holds-rule}
 use Rattle.normalforms.specs.Forms.{normalText, refusalText, linedText, formsText, mostVisits}

@@ -12,7 +12,7 @@ ghost use Rattle.ir.specs.Scratch.{handsAt};
 ghost use Rattle.rules.specs.Deck.{readDeck};
 ghost use Rattle.rules.specs.Run.{nnfAxioms};
 ghost use Rattle.ontology.specs.Layout.{axiomsOf};
-ghost use Rattle.normalize.specs.States.{stateOf};
+ghost use Rattle.rebuilding.specs.States.{stateOf};
 ghost use Rattle.normalize.specs.Axioms.{NormalizingAxioms};
 ghost use Rattle.rows.specs.Rows.{Put};
 ghost use Rattle.normalforms.specs.Forms.{linedText, formsText, mostText};

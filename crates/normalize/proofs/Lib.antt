@@ -1,4 +1,2 @@
-pub mod PartLaws
-pub mod RebuildLaws
 pub mod Turns
 pub mod Visits

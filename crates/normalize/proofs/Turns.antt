@@ -24,8 +24,8 @@ use Rattle.pool.specs.Held.{Held}
 use Rattle.pool.specs.Answers.{after, HeldAfter}
 use Rattle.pool.specs.Tabs.{tab-next, tab-end}
 use Rattle.pool.specs.HeldLaws.{pool-length, members-rise}
-use Rattle.normalize.specs.Steps.{nnfBy}
-use Rattle.normalize.specs.States.{stateOf, told, afterRun, Kept, Normalizing, NormalizingRun}
+use Rattle.rebuilding.specs.Steps.{nnfBy}
+use Rattle.rebuilding.specs.States.{stateOf, told, afterRun, Kept, Normalizing, NormalizingRun}
 use Rattle.normalize.specs.StateLaws.{counted-same, Stated, stated, stated-post, told-on, told-refused, grown-count, same-pool, by-done}
 use Rattle.normalize.specs.Known.{KnownIf, KnownAfter}
 use Rattle.normalize.specs.KnownLaws.{known-if-on}

@@ -34,8 +34,8 @@ use Rattle.pool.specs.Answers.{after, shown, HeldAfter}
 use Rattle.pool.specs.HeldLaws.{pool-length, pool-at, members-next, word-above}
 use Rattle.words.specs.Runs.{getD-sets-after}
 use Rattle.pool.specs.Shapes.{by-test}
-use Rattle.normalize.specs.Steps.{nnfBy, visitedParts, partNegated, rebuilt}
-use Rattle.normalize.specs.States.{stateOf, told, afterRun, HeldRun, Kept, Normalizing, NormalizingRun, RebuildingAfter, RebuiltAfter}
+use Rattle.rebuilding.specs.Steps.{nnfBy, visitedParts, partNegated, rebuilt}
+use Rattle.rebuilding.specs.States.{stateOf, told, afterRun, HeldRun, Kept, Normalizing, NormalizingRun, RebuildingAfter, RebuiltAfter}
 use Rattle.normalize.specs.StepLaws.{stepBy, nnf-by}
 use Rattle.normalize.specs.StateLaws.{Stated, stated, stated-post, told-on, told-refused, shown-told, grown-count, same-concept, same-pool, each-by-done}
 use Rattle.normalize.specs.Known.{KnownIf, KnownAfter}

@@ -23,8 +23,8 @@ use Rattle.pool.specs.Layout.{tab, run}
 use Rattle.pool.specs.Tabs.{tab-same, length-tab, tab-each}
 use Rattle.deck.proofs.KindLaws.{axiom-kinds}
 use Rattle.ontology.specs.Layout.{axiomStart, axiomCount, axiomNumber, axiomRow, axiomAt, AxiomsHeld}
+use Rattle.rebuilding.specs.States.{stateOf, told, afterRun, HeldRun, Kept, NormalizingRun}
 use Rattle.normalize.specs.Known.{KnownAfter}
-use Rattle.normalize.specs.States.{stateOf, told, afterRun, HeldRun, Kept, NormalizingRun}
 use Rattle.normalize.specs.Axioms.{firstConcept, conceptCount, baseIn, conceptsAt, conceptsIn, afterAxiom, NormalizingAxioms}
 use Rattle.normalize.specs.AxiomRows.{Row, nnf-row, row-named}
 

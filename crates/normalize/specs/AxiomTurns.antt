@@ -29,8 +29,8 @@ use Rattle.pool.specs.HeldLaws.{pool-length}
 use Rattle.pool.specs.Tabs.{tab-same, tab-snoc, tab-each, each-tab}
 use Rattle.ontology.specs.Layout.{axiomCount, axiomNumber, axiomAt, axiomsOf, AxiomsHeld}
 use mathlib.Core.Bool.{true}
+use Rattle.rebuilding.specs.States.{stateOf, counted, told, HeldRun, Kept}
 use Rattle.normalize.specs.Known.{Known, KnownAfter}
-use Rattle.normalize.specs.States.{stateOf, counted, told, HeldRun, Kept}
 use Rattle.normalize.specs.Axioms.{conceptsAt, conceptsIn, afterAxiom, afterAxioms, toldLined, HeldLined, NormalizingAxioms}
 use Rattle.normalize.specs.AxiomLaws.{concepts-inside, axiom-kept, held-after}
 

@@ -20,7 +20,7 @@ use Rattle.pool.specs.Layout.{poolOf}
 use Rattle.pool.specs.Held.{Held, Ready}
 use Rattle.pool.specs.Answers.{Drawn, drawn}
 use Rattle.ontology.specs.Layout.{axiomStart, axiomCount, axiomNumber, axiomsOf, AxiomsHeld}
-use Rattle.normalize.specs.States.{counted}
+use Rattle.rebuilding.specs.States.{counted}
 
 -- where the concepts of an axiom begin among its numbers, and how many they are where it has n numbers
 abbrev pub firstConcept : ℕ → ℕ

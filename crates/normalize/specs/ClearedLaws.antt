@@ -14,7 +14,7 @@ use Rattle.ir.specs.declared.answer.Lined.{Lined as CodeLined}
 use Rattle.rules.specs.Run.{nnfAxioms}
 use Rattle.pool.specs.Layout.{poolOf}
 use Rattle.ontology.specs.Layout.{axiomsOf}
-use Rattle.normalize.specs.States.{stateOf, Kept}
+use Rattle.rebuilding.specs.States.{stateOf, Kept}
 use Rattle.normalize.specs.Axioms.{afterAxioms, toldLined, HeldLined, NormalizingAxioms}
 use Rattle.normalize.specs.Known.{Known}
 use Rattle.normalize.specs.KnownLaws.{known-nothing}

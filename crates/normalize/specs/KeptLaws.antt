@@ -11,7 +11,7 @@ use Rattle.pool.specs.Layout.{poolWords, run, poolOf}
 use Rattle.pool.specs.Held.{Held}
 use Rattle.pool.specs.Tabs.{tab-same, tab-snoc, run-is}
 use Rattle.pool.specs.HeldLaws.{pool-kept, held-kept, word-above}
-use Rattle.normalize.specs.States.{Kept}
+use Rattle.rebuilding.specs.States.{Kept}
 
 -- the pool under such a write
 pub record Under (w w' : List ℕ) (n m : ℕ) : Type 0 where

@@ -25,8 +25,8 @@ use Rattle.pool.specs.Held.{Held}
 use Rattle.pool.specs.Answers.{drawn, after, HeldAfter}
 use Rattle.pool.specs.HeldLaws.{pool-length}
 use Rattle.pool.specs.Shapes.{by-test}
-use Rattle.normalize.specs.Steps.{nnfBy}
-use Rattle.normalize.specs.States.{stateOf, told, Kept}
+use Rattle.rebuilding.specs.Steps.{nnfBy}
+use Rattle.rebuilding.specs.States.{stateOf, told, Kept}
 use Rattle.normalize.specs.StateLaws.{Stated, stated, by-done}
 use Rattle.normalize.specs.Settled.{later, paid, paidIf, Settled}
 use Rattle.normalize.specs.SettledLaws.{again, settled-grown}
@@ -47,9 +47,11 @@ form-same true false c e h = absurd (omega arith)
 -- ---- a pool that grows, over words that stay
 module _ (w w' : List ℕ) (n n' : ℕ) (G : Grown (poolOf w n) (poolOf w' n')) (same : (j : ℕ) → normalFormsAt ≤ j → j < handsAt → getD w' j 0 ≡ getD w j 0) where
   pub known-on : Known w n → Known w' n'
-  known-on K = record { says = λ b c h l.
-    let e : getD w' (formAt b c) 0 ≡ getD w (formAt b c) 0 = same (formAt b c) (form-in b c h .0) (form-in b c h .1) in
-    rw e (settled-grown G b c _ _ (K .says b c h (rw e at l))) }
+  known-on K = record {
+    says = λ b c h l.
+        let e : getD w' (formAt b c) 0 ≡ getD w (formAt b c) 0 = same (formAt b c) (form-in b c h .0) (form-in b c h .1) in
+        rw e (settled-grown G b c _ _ (K .says b c h (rw e at l)));
+  }
 
   pub known-if-on : (m : Bool) → KnownIf m w n → KnownIf m w' n'
   known-if-on true K = known-on K
@@ -75,10 +77,12 @@ module _ (w : List ℕ) (n m : ℕ) (H : Held w n m) (long : handsAt ≤ length 
   put : Known (set w (formAt b c) form) n
   put =
       let u = under-set w n m H (formAt b c) (omega (arith, form-in b c h .0)) form in
-      record { says = λ d e g l. by-test (eqb (formAt d e) (formAt b c))
-        (λ t. here d e (eqb-true (formAt d e) (formAt b c) t) (u .pool))
-        (λ t. let o = getD-set-other w (formAt b c) (formAt d e) form 0 (eqb-false (formAt d e) (formAt b c) t) in
-          rw (u .pool, o) (K .says d e g (rw o at l))) }
+      record {
+        says = λ d e g l. by-test (eqb (formAt d e) (formAt b c))
+            (λ t. here d e (eqb-true (formAt d e) (formAt b c) t) (u .pool))
+            (λ t. let o = getD-set-other w (formAt b c) (formAt d e) form 0 (eqb-false (formAt d e) (formAt b c) t) in
+            rw (u .pool, o) (K .says d e g (rw o at l)));
+      }
     where
       here : (d : Bool) (e : ℕ) → formAt d e ≡ formAt b c → poolOf (set w (formAt b c) form) n ≡ poolOf w n
           → Settled (poolOf (set w (formAt b c) form) n) d e (getD (set w (formAt b c) form) (formAt d e) 0 % mostConcepts) (getD (set w (formAt b c) form) (formAt d e) 0 / mostConcepts)

@@ -19,7 +19,7 @@ use Rattle.rules.specs.Post.{Post, refuses, give, post-map}
 use Rattle.rules.specs.Invariants.{Each, Grown}
 use Rattle.rules.specs.EachLaws.{each-map}
 use Rattle.rules.specs.PoolLaws.{grown-refl, grown-trans, grown-at, grown-snoc}
-use Rattle.normalize.specs.Steps.{first, rebuilt}
+use Rattle.rebuilding.specs.Steps.{first, rebuilt}
 
 -- what m makes in p it finds in all that grows of it
 abbrev pub Finds : M Pool ℕ → Pool → ℕ → Pool → Type 0
@@ -93,10 +93,12 @@ module _ (f g : ℕ → Operand) where
 joint-lasts : (op : Concept → Operand) (of : List ℕ → Bool → M Pool ℕ) → ((l : List ℕ) (t : Bool) (p : Pool) → Lasts (of l t) p)
     → (l : List ℕ) (p : Pool) → Each (λ a. a < length p) l
     → Lasts (λ q. of (flattened (λ a. op (at q a)) l) (anyAnnihilates (λ a. op (at q a)) l) q) p
-joint-lasts op of last l p h = post-map (last (flattened (over p) l) (anyAnnihilates (over p) l) p) (λ i q L.
-    (L .0, λ r g.
-    let s = same r (grown-trans (L .0) g) in
-    ap₂ (λ k t. of k t r) (flattened-same (over r) (over p) l s) (annihilates-same (over r) (over p) l s) ∙ L .1 r g))
+joint-lasts op of last l p h = post-map (last (flattened (over p) l) (anyAnnihilates (over p) l) p) (λ i q L. (
+  L .0,
+  λ r g.
+      let s = same r (grown-trans (L .0) g) in
+      ap₂ (λ k t. of k t r) (flattened-same (over r) (over p) l s) (annihilates-same (over r) (over p) l s) ∙ L .1 r g,
+))
   where
     over : Pool → ℕ → Operand
     over q a = op (at q a)

@@ -1,6 +1,4 @@
-pub mod Steps
 pub mod Settled
-pub mod States
 pub mod Known
 pub mod Axioms
 pub mod StepLaws

@@ -17,7 +17,7 @@ use Rattle.ontology.specs.declared.load.Loaded.{Loaded}
 use Rattle.ontology.specs.declared.load.Loaded.the-variants.{Accepted, Refused}
 use Rattle.ontology.specs.Layout.{axiomsOf}
 use Rattle.ontology.specs.Loads.{Holds, LoadedAs, loaded, stopped}
-use Rattle.normalize.specs.States.{stateOf}
+use Rattle.rebuilding.specs.States.{stateOf}
 use Rattle.normalize.specs.Axioms.{NormalizingAxioms}
 
 -- the rules' state before the first visit, and their normal form

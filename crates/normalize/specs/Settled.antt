@@ -8,7 +8,7 @@ use Rattle.rules.specs.Base.{Res, ok, refused}
 use Rattle.rules.specs.Pool.{Pool}
 use Rattle.rules.specs.Normalize.{St, N}
 use Rattle.rules.specs.Invariants.{Grown}
-use Rattle.normalize.specs.Steps.{nnfBy}
+use Rattle.rebuilding.specs.Steps.{nnfBy}
 
 -- a state after v visits more
 abbrev pub later : St → ℕ → St

@@ -20,7 +20,7 @@ use Rattle.rules.specs.Post.{Post, gives, refuses, give, post-then}
 use Rattle.rules.specs.Invariants.{Each, Bounds, Wf, Grown}
 use Rattle.rules.specs.PoolLaws.{post-both, grown-trans, grown-length, grown-at, below-more}
 use Rattle.rules.specs.DepthLaws.{parts-below}
-use Rattle.normalize.specs.Steps.{nnfBy, visitedParts, partNegated, rebuilt}
+use Rattle.rebuilding.specs.Steps.{nnfBy, visitedParts, partNegated, rebuilt}
 use Rattle.normalize.specs.Settled.{later, paidIf, paid, Settled}
 use Rattle.normalize.specs.StepLaws.{stepBy, nnf-by}
 use Rattle.normalize.specs.StateLaws.{by-done, each-by-done}
@@ -173,8 +173,7 @@ again-next B f one b c s w h l =
         (each-again B f one (partNegated b e) parts (below-more (omega arith) parts below) (later s 1) w inside)) (λ k x D.
         back-post x (rebuilt-lasts b c e k (x .pool) (D .0 .held)) (λ i q F.
         let v : ℕ = x .visits - (s .visits + 1) in
-        let z : 1 + v ≡ x .visits - s .visits = omega (arith, D .0 .ran .visits) in
-        (
+        let z : 1 + v ≡ x .visits - s .visits = omega (arith, D .0 .ran .visits) in (
           λ u g n o. step-again b c e below k v (x .pool) (D .1) i q F u g (grown-at (grown-trans (D .0 .ran .grows) (grown-trans (F .0) g)) c h) n o ∙ ap (λ v. paid i v u) z,
           omega (arith, D .0 .ran .visits),
         )))

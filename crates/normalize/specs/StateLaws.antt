@@ -21,8 +21,8 @@ use Rattle.pool.specs.Held.{Held}
 use Rattle.pool.specs.Answers.{drawn, shown}
 use Rattle.pool.specs.Tabs.{tab-same}
 use Rattle.pool.specs.HeldLaws.{pool-length, pool-at}
-use Rattle.normalize.specs.Steps.{nnfBy}
-use Rattle.normalize.specs.States.{stateOf, counted, told}
+use Rattle.rebuilding.specs.Steps.{nnfBy}
+use Rattle.rebuilding.specs.States.{stateOf, counted, told}
 
 -- the counters of a held pool are the ones of its state
 pub counted-same : (w : List ℕ) (k : Counters) → Held w (k .concepts) (k .members) → counted k (stateOf k w) ≡ k

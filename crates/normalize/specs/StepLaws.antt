@@ -9,7 +9,7 @@ use Rattle.rules.specs.Concept.{Concept}
 use Rattle.rules.specs.Concept.{Top, Bot, Atomic, Nominal, SelfRestriction, Not, And, Or, Some, All, Min, Max}
 use Rattle.rules.specs.Pool.{at}
 use Rattle.rules.specs.Normalize.{St, N, visit, inPool, nnfStep, negationStep, toNnf, pushNegationIn}
-use Rattle.normalize.specs.Steps.{nnfBy, visitedParts, partNegated, rebuilt}
+use Rattle.rebuilding.specs.Steps.{nnfBy, visitedParts, partNegated, rebuilt}
 
 -- the same rest after the same answer
 then-same : {A C : Type 0} (r : Res St A) (f g : A → N C) → ((a : A) (t : St) → f a t ≡ g a t) → then r f ≡ then r g

@@ -15,8 +15,8 @@ ghost use Rattle.rules.specs.Normalize.{nnfAxiom};
 ghost use Rattle.rules.specs.Run.{nnfAxioms};
 ghost use Rattle.ontology.specs.Layout.{axiomAt, axiomsOf};
 ghost use mathlib.Core.Bool.{true};
+ghost use Rattle.rebuilding.specs.States.{stateOf, told, HeldRun, Kept};
 ghost use Rattle.normalize.specs.Known.{Known, KnownAfter};
-ghost use Rattle.normalize.specs.States.{stateOf, told, HeldRun, Kept};
 ghost use Rattle.normalize.specs.Axioms.{firstConcept, conceptCount, conceptsAt, conceptsIn, afterAxiom, afterAxioms, toldLined, HeldLined, NormalizingAxioms};
 
 // Where the concepts of an axiom begin among its numbers.

@@ -2,5 +2,3 @@
 pub mod forms;
 mod known;
 pub mod nnf;
-mod parts;
-mod rebuild;

@@ -1,11 +1,11 @@
 // to_nnf and push_negation_in: one function, which is negated for the second, and its loop over a concept's parts.
 use crate::known;
-use crate::parts;
-use crate::rebuild;
 use ir::answer::Answer;
 use ir::counters::Counters;
 use ir::counters::Visit;
 use ir::scratch::STACK;
+use rebuilding::parts;
+use rebuilding::rebuild;
 ghost use mathlib.Core.Path.{_≡_};
 ghost use mathlib.Core.Bool.{true, false};
 ghost use Prim.Native.Nat.{ℕ, _<_};
@@ -15,9 +15,9 @@ ghost use Rattle.rules.specs.Base.{each};
 ghost use Rattle.rules.specs.Normalize.{toNnf, pushNegationIn};
 ghost use Rattle.pool.specs.Layout.{run};
 ghost use Rattle.pool.specs.Answers.{after, HeldAfter};
+ghost use Rattle.rebuilding.specs.Steps.{nnfBy};
+ghost use Rattle.rebuilding.specs.States.{stateOf, told, afterRun, HeldRun, Kept, Normalizing, NormalizingRun};
 ghost use Rattle.normalize.specs.Known.{KnownIf, KnownAfter};
-ghost use Rattle.normalize.specs.Steps.{nnfBy};
-ghost use Rattle.normalize.specs.States.{stateOf, told, afterRun, HeldRun, Kept, Normalizing, NormalizingRun};
 
 // The normal form of concept c, or of its negation; where `memo` says so, by what is known already.
 fn normal(scratch: &mut [u8], k: Counters, top: usize, c: u32, negated: bool, memo: bool) -> Answer

@@ -5,7 +5,7 @@ use native.Mathlib.Omega.{arith}
 use Rattle.words.specs.Words.{words}
 use Rattle.rules.specs.Run.{nnfAxioms}
 use Rattle.ontology.specs.Layout.{axiomsOf}
-use Rattle.normalize.specs.States.{stateOf}
+use Rattle.rebuilding.specs.States.{stateOf}
 use Rattle.rows.specs.Rows.{Put}
 use Rattle.normalforms.proofs.FormLaws.{finished-text, stopped-text, finished-held}
 use borrow.Author.Needs.{needs}

@@ -51,9 +51,11 @@ add-at-2 c = search needs
 normal-each-requires : tie.Need-normal-each-requires
 normal-each-requires c κs =
     let a = c .before .before .before .before .before .before .before .before .before .before in
-    let k = c .before .before .before .before .before .before .before .number .ensures in
-    (run-asks (a .args .scratch .now) (a .args .k) (a .args .n) (a .args .i) (a .pre .0) (a .pre .1) _ _
-    (concepts-at (words (a .args .scratch .now)) (a .args .i) _ _ _ k (c .before .before .before .before .before .before .first-concept .ensures) (c .before .start .ensures)) (concepts-count (words (a .args .scratch .now)) (a .args .i) _ _ _ k (c .before .before .before .before .count .ensures) (c .before .before .before .concept-count .ensures)), a .pre .2)
+    let k = c .before .before .before .before .before .before .before .number .ensures in (
+      run-asks (a .args .scratch .now) (a .args .k) (a .args .n) (a .args .i) (a .pre .0) (a .pre .1) _ _
+          (concepts-at (words (a .args .scratch .now)) (a .args .i) _ _ _ k (c .before .before .before .before .before .before .first-concept .ensures) (c .before .start .ensures)) (concepts-count (words (a .args .scratch .now)) (a .args .i) _ _ _ k (c .before .before .before .before .count .ensures) (c .before .before .before .concept-count .ensures)),
+      a .pre .2,
+    )
 
 same-length : tie.Need-same-length
 same-length c = search needs

@@ -34,9 +34,9 @@ use Rattle.ir.proofs.counters.Counters.visit.Reads as visit-reads
 use Rattle.normalize.proofs.known.form_of.Reads as form-of-reads
 use Rattle.normalize.proofs.known.keep.Reads as keep-reads
 use Rattle.normalize.proofs.known.revisit.Reads as revisit-reads
-use Rattle.normalize.proofs.parts.part_negated.Reads as part-negated-reads
-use Rattle.normalize.proofs.parts.put_parts.Reads as put-parts-reads
-use Rattle.normalize.proofs.rebuild.rebuild_after.Reads as rebuild-after-reads
+use Rattle.rebuilding.proofs.parts.part_negated.Reads as part-negated-reads
+use Rattle.rebuilding.proofs.parts.put_parts.Reads as put-parts-reads
+use Rattle.rebuilding.proofs.rebuild.rebuild_after.Reads as rebuild-after-reads
 use Rattle.words.proofs.get_word.Reads as get-word-reads
 use Rattle.words.proofs.put_word.Reads as put-word-reads
 use Rattle.normalize.proofs.nnf.+normal+normal_anew+normal_each.{statement}
