@@ -1,5 +1,6 @@
 pub mod AbsorbLaws
 pub mod Absorbs
+pub mod ClassLaws
 pub mod Conjuncts
 pub mod EncodeLaws
 pub mod GciLaws

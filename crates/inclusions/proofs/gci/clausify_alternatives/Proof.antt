@@ -9,10 +9,10 @@ use Rattle.words.specs.Words.{words}
 use native.Mathlib.Omega.{arith}
 use mathlib.Core.Path.{subst}
 use Prim.{tt}
-use Rattle.inclusions.proofs.gci.clausify_gci.Statement.{statement}
-use Rattle.inclusions.proofs.gci.clausify_gci.Tie as tie
-use Rattle.inclusions.proofs.gci.clausify_gci.Reads as reads
-use Rattle.inclusions.proofs.gci.clausify_gci.Lts as lts
+use Rattle.inclusions.proofs.gci.clausify_alternatives.Statement.{statement}
+use Rattle.inclusions.proofs.gci.clausify_alternatives.Tie as tie
+use Rattle.inclusions.proofs.gci.clausify_alternatives.Reads as reads
+use Rattle.inclusions.proofs.gci.clausify_alternatives.Lts as lts
 use Rattle.antecedents.proofs.encode_antecedent.Reads as encode-antecedent-reads
 use Rattle.inclusions.proofs.absorb.absorb_hard_antecedent.Reads as absorb-hard-antecedent-reads
 use Rattle.axioms.proofs.bodies.emit_bodies.Reads as emit-bodies-reads
@@ -141,8 +141,8 @@ returns-3 c =
     let e = c .before .e .given in
     (gci-refused k (l .result) sub sup (words s0) (words (s .args .clauses .now)) (words (s .args .atoms .now)) (words (s .args .deferrals .now)) (r .result) (l .ensures) g1 (r .ensures .0) (e .0 .0) (e .1), tt)
 
-pub clausify-gci-spec : {M : Type 1} → statement M
-clausify-gci-spec =
+pub clausify-alternatives-spec : {M : Type 1} → statement M
+clausify-alternatives-spec =
     tie.close
     (tie.spec
     restart-vars-requires
