@@ -51,11 +51,11 @@ use Rattle.heads.specs.Emits.{Emitting}
 use Rattle.heads.specs.FrameLaws.{frame-less, reading-alike, pool-alike}
 
 -- ---- the visit
-begun-by : (x : Bool) (k l : Counters) → pick x (Begun (tick k)) Full ≡ Begun l → (x ≡ true) × (l ≡ tick k)
+pub begun-by : (x : Bool) (k l : Counters) → pick x (Begun (tick k)) Full ≡ Begun l → (x ≡ true) × (l ≡ tick k)
 begun-by true k l e = (refl, cc)
 begun-by false k l e = absurd (let z : _≡_ {A = ℕ} 0 1 = cc in omega arith)
 
-full-by : (x : Bool) (k : Counters) → pick x (Begun (tick k)) Full ≡ Full → x ≡ false
+pub full-by : (x : Bool) (k : Counters) → pick x (Begun (tick k)) Full ≡ Full → x ≡ false
 full-by true k e = absurd (let z : _≡_ {A = ℕ} 0 1 = cc in omega arith)
 full-by false k e = refl
 
@@ -97,7 +97,7 @@ visiting s k l base n c ev M =
       here = pool-at (words s) (l .concepts) c h;
     }
 
-visit-is : (k : Counters) (rooms : Rooms) (s : Out) (c a d : List ℕ) → tables k c a d ≡ show k rooms s → (x : Bool) → ltb (k .visits) (k .limit) ≡ x → ltb (s .visits) (s .limit) ≡ x
+pub visit-is : (k : Counters) (rooms : Rooms) (s : Out) (c a d : List ℕ) → tables k c a d ≡ show k rooms s → (x : Bool) → ltb (k .visits) (k .limit) ≡ x → ltb (s .visits) (s .limit) ≡ x
 visit-is k rooms s c a d e x h = rw (← visits-are k rooms s c a d e, ← limit-is k rooms s c a d e) h
 
 pub did-low : {A : Type 0} (value : A → ℕ) (low low' : ℕ) (rule : Env → ℕ → List Atom → Out → Res Out A) (k : Counters) (base n : ℕ) (x y : Four) (r : Answer) → low ≤ low' → Did value low rule k base n x y r → Did value low' rule k base n x y r

@@ -11,7 +11,6 @@ use lib.ListN.{length, take}
 use lib.Seq.{sets}
 use Rattle.words.specs.Words.{words}
 use Rattle.words.specs.Laws.{length-words}
-use Rattle.ir.specs.Pick.{pick}
 use Rattle.ir.specs.Counts.{tick, visited, varsRestarted}
 use Rattle.ir.specs.Records.{six}
 use Rattle.ir.specs.Scratch.{handsAt}
@@ -33,9 +32,9 @@ use Rattle.tables.specs.Drawn.{tables, show}
 use Rattle.tables.specs.Good.{Alike}
 use Rattle.hands.specs.Hands.{Four, four, Did}
 use Rattle.leaves.specs.ReadLaws.{concept-3}
-use Rattle.leaves.specs.StepLaws.{alike-then, alike-tick, ticked, visits-are, limit-is, drawn-ticked}
+use Rattle.leaves.specs.StepLaws.{alike-then, alike-tick, ticked, drawn-ticked}
 use Rattle.heads.specs.Emits.{Emitting}
-use Rattle.heads.specs.StepLaws.{visiting}
+use Rattle.heads.specs.StepLaws.{begun-by, full-by, visit-is, visiting}
 use Rattle.axioms.specs.RoleAxioms.{handAt}
 use Rattle.axioms.specs.RoleLaws.{alike-restart, drawn-restarted, good-restart, frame-one, hand-one, hand-did}
 use Rattle.axioms.specs.HeadLaws.{emitting, emitted}
@@ -61,17 +60,9 @@ class-is env sub sup a z e = rw e (go (ltb (z .out .visits) (z .out .limit)))
     go false = refl
 
 -- ---- the visit
-begun-by : (b : Bool) (k l : Counters) → pick b (Begun (tick k)) Full ≡ Begun l → (b ≡ true) × (l ≡ tick k)
-begun-by true k l e = (refl, cc)
-begun-by false k l e = absurd (let z : _≡_ {A = ℕ} 0 1 = cc in omega arith)
-
-full-by : (b : Bool) (k : Counters) → pick b (Begun (tick k)) Full ≡ Full → b ≡ false
-full-by true k e = absurd (let z : _≡_ {A = ℕ} 0 1 = cc in omega arith)
-full-by false k e = refl
-
-visit-is : (k : Counters) (rooms : Rooms) (s : Out) (c a d : List ℕ) (b : Bool) → ltb (k .visits) (k .limit) ≡ b → tables k c a d ≡ show k rooms s → visit s ≡ begun s b
+begins : (k : Counters) (rooms : Rooms) (s : Out) (c a d : List ℕ) (b : Bool) → ltb (k .visits) (k .limit) ≡ b → tables k c a d ≡ show k rooms s → visit s ≡ begun s b
 unfolding visit
-visit-is k rooms s c a d b h t = rw (← visits-are k rooms s c a d t, ← limit-is k rooms s c a d t, h) refl
+begins k rooms s c a d b h t = rw (visit-is k rooms s c a d t b h) refl
 
 -- ---- the code
 module _ (s : List ℕ) (k k1 : Counters) (sub sup : ℕ) (K : Clausifying s k) (held : sub < k .concepts) (kind : field (words s) sub 0 ≡ 3) (q1 : k1 ≡ varsRestarted k) where
@@ -95,7 +86,7 @@ module _ (s : List ℕ) (k k1 : Counters) (sub sup : ℕ) (K : Clausifying s k) 
   class-full c a d ev =
       class-clausified c a d (four (words s) c a d) (Refused 10)
       (record {
-        equal = λ env f b u lo E i t. rw (visit-is k1 (env .rooms) (restarted u) c a d false (full-by (ltb (k1 .visits) (k1 .limit)) k1 ev) (drawn-restarted k k1 (env .rooms) u c a d q1 t)) refl;
+        equal = λ env f b u lo E i t. rw (begins k1 (env .rooms) (restarted u) c a d false (full-by (ltb (k1 .visits) (k1 .limit)) k1 ev) (drawn-restarted k k1 (env .rooms) u c a d q1 t)) refl;
         frame = refl;
         good = tt;
         kept = tt;
@@ -128,7 +119,7 @@ module _ (s : List ℕ) (k k1 : Counters) (sub sup : ℕ) (K : Clausifying s k) 
         alike (λ rooms u t. drawn-ticked k1 k2 rooms (restarted u) c a d (ticks .1) (drawn-restarted k k1 rooms u c a d q1 t)) (λ env E. rw is refl) frame (hand-one 13500 (words s) (words s') (Class x 0) e room)
         (emitted (words s) k k2 13500 1 sup 0 (four (words s') c a d) y r (K .encoding .reading .ready .held) frame alike D) in
         record {
-          equal = λ env f b u lo E i t. rw (visit-is k1 (env .rooms) (restarted u) c a d true (ticks .0) (drawn-restarted k k1 (env .rooms) u c a d q1 t)) (H .equal env f b u lo E i t);
+          equal = λ env f b u lo E i t. rw (begins k1 (env .rooms) (restarted u) c a d true (ticks .0) (drawn-restarted k k1 (env .rooms) u c a d q1 t)) (H .equal env f b u lo E i t);
           frame = H .frame;
           good = H .good;
           kept = H .kept;
