@@ -9,16 +9,6 @@ use Rattle.words.specs.Runs.{getD-sets-before, getD-sets-after, getD-sets-in}
 use Rattle.deck.specs.Records.{conceptAt, axiomAt, rowIn, depthIn, axiomFields, axiomRowIn, conceptsIn, depthsIn, axiomsIn, sum}
 use Rattle.deck.specs.TabLaws.{tab-same, sum-same}
 
--- stores one behind the other
-pub two-stores : (w x y : List ℕ) (i j a b : ℕ) → j ≡ i + 1 → x ≡ set w i a → y ≡ set x j b → y ≡ sets w i (a ∷ b ∷ [])
-two-stores w x y i j a b e f g = let q : j ≡ suc i = omega arith in g ∙ rw (f, q) refl
-
-pub three-stores : (w x y z : List ℕ) (i a b c : ℕ) → x ≡ set w i a → y ≡ set x (i + 1) b → z ≡ set y (i + 2) c → z ≡ sets w i (a ∷ b ∷ c ∷ [])
-three-stores w x y z i a b c f g h =
-    let q : i + 1 ≡ suc i = omega arith in
-    let r : i + 2 ≡ suc (suc i) = omega arith in
-    h ∙ rw (g, f, q, r) refl
-
 -- ---- the words from a on and below b are the same
 abbrev pub Agree : List ℕ → List ℕ → ℕ → ℕ → Type 0
 Agree w v a b = (i : ℕ) → a ≤ i → i < b → getD v i 0 ≡ getD w i 0

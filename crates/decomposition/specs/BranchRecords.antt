@@ -19,7 +19,7 @@ use Rattle.branches.specs.Found.{Searching}
 use Rattle.branches.specs.FoundLaws.{BranchAt, branch-at}
 use Rattle.branches.specs.declared.memo.Naming.{Naming}
 use Rattle.decomposition.specs.Placing.{branchesAt, branchAtomsAt}
-use Rattle.decomposition.specs.PlaceLaws.{sets-append}
+use Rattle.words.specs.Runs.{sets-append}
 
 -- the clauses' words k and the atoms' t, and k₀ and t₀ before the first: branch i is next, from word p and atom a on, and the rest gives what all give
 pub record BranchesLeft (w : List ℕ) (s : Naming) (c to : ℕ) (k₀ t₀ k t : List ℕ) (p a i : ℕ) : Type 0 where

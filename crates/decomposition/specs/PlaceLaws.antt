@@ -1,24 +1,13 @@
 -- Words written at their new places in the tables. Assumes nothing.
-use mathlib.Core.Path.{_≡_, refl, ap, _∙_}
+use mathlib.Core.Path.{_≡_, ap, _∙_}
 use mathlib.Core.List.{List, [], _∷_, _++_}
-use Prim.Native.Nat.{ℕ, suc, _+_, _*_, _-_}
-use native.Mathlib.Numerals.{add-one}
+use Prim.Native.Nat.{ℕ, _+_, _*_, _-_}
 use native.Mathlib.Omega.{arith}
-use lib.ListN.{length, take, drop, set}
+use lib.ListN.{take, drop}
 use lib.Seq.{sets}
 use Rattle.words.specs.Words.{words}
 use Rattle.words.specs.Laws.{words-take, words-drop}
 use Rattle.decomposition.specs.Placing.{moved}
-
--- ---- stores one after the other
-pub three-stores : (w w₁ w₂ w₃ : List ℕ) (i a b c : ℕ) → w₁ ≡ set w i a → w₂ ≡ set w₁ (i + 1) b → w₃ ≡ set w₂ (i + 2) c → w₃ ≡ sets w i (a ∷ b ∷ c ∷ [])
-three-stores w w₁ w₂ w₃ i a b c e f g =
-    let x : i + 2 ≡ suc (suc i) = omega arith in
-    g ∙ rw (f, e, add-one i, x) refl
-
-pub sets-append : (xs ys l : List ℕ) (i : ℕ) → sets (sets l i xs) (i + length xs) ys ≡ sets l i (xs ++ ys)
-sets-append [] ys l i = let e : i + 0 ≡ i = omega arith in rw e refl
-sets-append (x ∷ xs) ys l i = let e : i + suc (length xs) ≡ suc i + length xs = omega arith in rw e (sets-append xs ys (set l i x) (suc i))
 
 -- ---- n records of the bytes s from record `base` on, behind which others come down
 part-words : (s : List ℕ) (base n : ℕ) → words (take (24 * (base + n) - 24 * base) (drop (24 * base) s)) ≡ take (6 * n) (drop (6 * base) (words s))

@@ -2,7 +2,6 @@
 use ir::answer::Answer;
 use ir::atom::Atom;
 use ir::counters::Counters;
-use ir::record;
 ghost use mathlib.Core.Path.{_≡_};
 ghost use mathlib.Core.List.{List, [], _∷_, _++_};
 ghost use Prim.Native.Nat.{ℕ, _+_, _*_, _≤_};
@@ -49,7 +48,7 @@ pub fn push_none(
     push_run(scratch, clauses, atoms, k, base, n, 0)
 }
 
-// The body in hand, and one atom as the head, which is put above it.
+// The body in hand, and one atom as the head.
 pub fn push_one(
     scratch: &mut [u8],
     clauses: &mut [u8],
@@ -62,7 +61,7 @@ pub fn push_one(
     requires { ⌜ (n ≤ 256) × (24 * (base + n + 1) ≤ length (now scratch)) × Sized (length (now clauses)) (length (now atoms)) 0 × Good k × Fits head ⌝ }
     ensures { λ r. ⌜ ((d : List ℕ) → Did (λ _. 0) 0 (λ env f b s. push env b (head ∷ []) s) k base n (four (words (now (scratch .entry))) (words (now (clauses .entry))) (words (now (atoms .entry))) d) (four (words (now (scratch .exit))) (words (now (clauses .exit))) (words (now (atoms .exit))) d) r) ⌝ }
 {
-    let top = base + n as usize;
-    record::put_atom(scratch, top, head);
-    push_run(scratch, clauses, atoms, k, base, n, 1)
+    let from = 24 * base;
+    let to = 24 * (base + n as usize);
+    tables::push_headed(&scratch[from..to], head, clauses, atoms, k)
 }

@@ -4,21 +4,21 @@ ghost use Prim.Native.Nat.{_+_, _<_, _^_};
 ghost use Rattle.ir.specs.Counts.{visited, freshVar, freshClass, deferredOnce, pushed, interned, atLine, varsRestarted};
 
 pub struct Counters {
-    // visits begun, and how many may begin
+    // what a clause changes stands together: visits begun, the next fresh variable, records in the clause and atom tables
     pub visits: u32,
+    pub next_var: u32,
+    pub clauses: u32,
+    pub atoms: u32,
+    // the next fresh class, records in the deferral table
+    pub next_class: u32,
+    pub deferrals: u32,
+    // the axiom's line; 0 after the last axiom
+    pub line: u32,
+    // how many visits may begin
     pub limit: u32,
     // concepts and list members of the pool
     pub concepts: u32,
     pub members: u32,
-    // the next fresh variable and class
-    pub next_var: u32,
-    pub next_class: u32,
-    // records in the clause, atom and deferral tables
-    pub clauses: u32,
-    pub atoms: u32,
-    pub deferrals: u32,
-    // the axiom's line; 0 after the last axiom
-    pub line: u32,
     // the class of individual 0, and the header's options: these two never change
     pub nominal_base: u32,
     pub options: u32,

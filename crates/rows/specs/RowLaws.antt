@@ -9,7 +9,7 @@ use lib.ListN.{length, getD, set, take, drop, replicate, length-append, length-d
 use lib.Seq.{sets, length-sets, take-suc, length-take-le, getD-drop}
 use lib.Dec.{ltb}
 use borrow.Author.Tests.{lt-ltb, le-ltb}
-use Rattle.words.specs.Runs.{sets-cons, sets-snoc}
+use Rattle.words.specs.Runs.{sets-append, sets-cons, sets-snoc}
 use Rattle.rules.specs.Lister.{decimalWith, decimalBy, decimal, fieldText, fieldsText}
 use Rattle.rows.specs.Rows.{columnsText, Put, textsOf, textsLeft}
 
@@ -25,10 +25,6 @@ columns-append (n ∷ l) m = ap (λ (t : List ℕ). fieldText n ++ t) (columns-a
 
 -- ---- a text behind another
 module _ {A : Type 0} where
-  pub sets-append : (xs ys l : List A) (i : ℕ) → sets (sets l i xs) (i + length xs) ys ≡ sets l i (xs ++ ys)
-  sets-append [] ys l i = let e : i + 0 ≡ i = omega arith in rw e refl
-  sets-append (x ∷ xs) ys l i = let e : i + suc (length xs) ≡ suc i + length xs = omega arith in rw e (sets-append xs ys (set l i x) (suc i))
-
   set-twice : (l : List A) (i : ℕ) (x y : A) → set (set l i x) i y ≡ set l i y
   set-twice [] i x y = refl
   set-twice (z ∷ l) zero x y = refl

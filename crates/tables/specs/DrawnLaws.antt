@@ -6,7 +6,9 @@ use native.Mathlib.Omega.{arith}
 use borrow.Author.Tests.{lt-ltb, le-ltb, le-leb, lt-leb}
 use lib.ListN.{length, drop, replicate, length-append, length-replicate}
 use lib.Seq.{sets, sets-eq, take-append-seam, drop-append-add}
+use Rattle.words.specs.Runs.{sets-append}
 use Rattle.ir.specs.Counts.{pushed, deferredOnce}
+use Rattle.ir.specs.Records.{six}
 use Rattle.ir.specs.Deferrals.{deferralKind}
 use Rattle.ir.specs.declared.counters.Counters.{Counters}
 use Rattle.ir.specs.declared.atom.Atom.{Atom}
@@ -14,7 +16,7 @@ use Rattle.ir.specs.declared.deferral.Deferral.{Deferral}
 use Rattle.rules.specs.Base.{ok, refused}
 use Rattle.rules.specs.State.{Clause, clause, Deferred, Env, Out, total, push, defer}
 use Rattle.rules.specs.Run.{flat, atomRecords, clauseRecords, deferralRecords}
-use Rattle.rules.specs.DecodeLaws.{flat-long, atom-records-long, clause-records-long, deferral-records-long}
+use Rattle.rules.specs.DecodeLaws.{flat-long, flat-append, atom-records-long, clause-records-long, deferral-records-long}
 use Rattle.tables.specs.Drawn.{padded, Tables, tables, countersOf, show, shown}
 
 -- ---- the records of one more
@@ -41,6 +43,15 @@ deferrals-snoc : (l : List Deferred) (d : Deferred) → deferralRecords (l ++ (d
 unfolding deferralRecords
 deferrals-snoc [] d = refl
 deferrals-snoc (x ∷ l) d = ap (λ (t : List ℕ). x .line ∷ deferralKind (x .kind) ∷ t) (deferrals-snoc l d)
+
+-- ---- the atoms of a clause with one head atom: its body, and the head behind it
+pub headed-stores : (w w₁ w₂ r : List ℕ) (i m : ℕ) (b : List Atom) (x : Atom) → r ≡ flat b → m ≡ length b → w₁ ≡ sets w (6 * i) r → w₂ ≡ sets w₁ (6 * (i + m)) (six x)
+    → w₂ ≡ sets w (6 * i) (flat (b ++ (x ∷ [])))
+unfolding flat
+headed-stores w w₁ w₂ r i m b x er em e f =
+    let p : 6 * (i + m) ≡ 6 * i + length (flat b) = omega (arith, flat-long b) in
+    let g : flat (b ++ (x ∷ [])) ≡ flat b ++ six x = flat-append b (x ∷ []) ∙ ap (λ (z : List ℕ). flat b ++ z) (append-nil (six x)) in
+    f ∙ rw (e, er, p, g) (sets-append (flat b) (six x) w (6 * i))
 
 -- ---- a write at the end
 drop-zeros : (n m : ℕ) → drop m (replicate {A = ℕ} n 0) ≡ replicate {A = ℕ} (n - m) 0

@@ -1,13 +1,16 @@
 // The lent tables: one clause more, its atoms as one run in the atom table; one deferral more.
 use ir::answer::Answer;
+use ir::atom::Atom;
 use ir::counters::Counters;
 use ir::deferral::Deferral;
+use ir::record;
 ghost use mathlib.Core.Path.{_≡_};
 ghost use mathlib.Core.List.{List, [], _∷_, _++_};
 ghost use Prim.Native.Nat.{ℕ, _+_, _*_, _%_, _≤_, _<_};
 ghost use lib.ListN.{length};
 ghost use lib.Seq.{sets};
 ghost use Rattle.words.specs.Words.{words};
+ghost use Rattle.ir.specs.Records.{Fits};
 ghost use Rattle.ir.specs.declared.atom.Atom.{Atom};
 ghost use Rattle.rules.specs.State.{Env, Out, push, defer};
 ghost use Rattle.rules.specs.Run.{flat};
@@ -59,6 +62,35 @@ pub fn push_clause(
     words::copy_words(atoms, 6 * (first as usize), run);
     put_clause(clauses, i, first, body, count - body);
     Answer::Done(k.push(count), 0)
+}
+
+// The clause whose body is `run`, and whose head is one atom, which goes straight into the table.
+pub fn push_headed(
+    run: &[u8],
+    head: Atom,
+    clauses: &mut [u8],
+    atoms: &mut [u8],
+    k: Counters,
+) -> Answer
+    requires { ⌜ (length (now run) ≤ 24 * 256) × (length (now run) % 24 ≡ 0) × Sized (length (now clauses)) (length (now atoms)) 0 × Fits head ⌝ }
+    ensures { λ r. ⌜ ((env : Env) (b : List Atom) (s : Out) (d : List ℕ) → Lent (env .rooms) (words (now (clauses .entry))) (words (now (atoms .entry))) d → length (now (run .entry)) ≡ 24 * length b → words (now (run .entry)) ≡ flat b → tables k (words (now (clauses .entry))) (words (now (atoms .entry))) d ≡ show k (env .rooms) s → after r (words (now (clauses .exit))) (words (now (atoms .exit))) d ≡ shown (λ _. 0) k (env .rooms) (push env b (head ∷ []) s)) ⌝ }
+    ensures { λ r. ⌜ (Good k → GoodAnswer r) ⌝ }
+    ensures { λ r. ⌜ KeptAnswer k r ⌝ }
+{
+    let first = k.atoms;
+    let i = k.clauses as usize;
+    let m = run.len() / 24;
+    if clauses.len() / 12 <= i {
+        return Answer::Refused(12);
+    }
+    if atoms.len() / 24 <= first as usize + m {
+        return Answer::Refused(12);
+    }
+    let body = m as u32;
+    words::copy_words(atoms, 6 * (first as usize), run);
+    record::put_atom(atoms, first as usize + m, head);
+    put_clause(clauses, i, first, body, 1);
+    Answer::Done(k.push(body + 1), 0)
 }
 
 pub fn defer(deferrals: &mut [u8], k: Counters, kind: Deferral) -> Answer

@@ -1,7 +1,7 @@
 use borrow.Author.Needs.{needs}
 use Prim.Native.Nat.{_*_}
 use Rattle.words.specs.Words.{words}
-use Rattle.tables.proofs.Stores.{three-stores}
+use Rattle.words.specs.Runs.{three-stores}
 use Rattle.tables.proofs.put_clause.Statement.{statement}
 use Rattle.tables.proofs.put_clause.Tie as tie
 use Rattle.tables.proofs.put_clause.Reads as reads

@@ -1,7 +1,7 @@
 use borrow.Author.Needs.{needs}
 use Prim.Native.Nat.{_*_}
 use Rattle.words.specs.Words.{words}
-use Rattle.tables.proofs.Stores.{two-stores}
+use Rattle.words.specs.Runs.{two-stores}
 use Rattle.tables.proofs.put_deferral.Statement.{statement}
 use Rattle.tables.proofs.put_deferral.Tie as tie
 use Rattle.tables.proofs.put_deferral.Reads as reads

@@ -2,7 +2,7 @@ use borrow.Author.Needs.{needs}
 use native.Mathlib.Omega.{arith}
 use Prim.Native.Nat.{_+_, _*_}
 use Rattle.words.specs.Words.{words}
-use Rattle.deck.proofs.TableLaws.{two-stores}
+use Rattle.words.specs.Runs.{two-stores}
 use Rattle.deck.proofs.table.put_axiom.Statement.{statement}
 use Rattle.deck.proofs.table.put_axiom.Tie as tie
 
@@ -37,7 +37,7 @@ same-length : tie.Need-same-length
 same-length c = search needs
 
 returns : tie.Need-returns
-returns c = two-stores (words (c .before .before .before .before .before .before .before .before .before .args .t .now)) _ _ (3072 + 2 * c .before .before .before .before .before .before .before .before .before .args .i) (3072 + 2 * c .before .before .before .before .before .before .before .before .before .args .i + 1) (c .before .before .before .before .before .before .before .before .before .args .p) (c .before .before .before .before .before .before .before .before .before .args .n) (omega arith) (c .before .before .before .before .before .before .put-word .ensures) (c .before .before .put-word2 .ensures)
+returns c = two-stores (words (c .before .before .before .before .before .before .before .before .before .args .t .now)) _ _ (3072 + 2 * c .before .before .before .before .before .before .before .before .before .args .i) (c .before .before .before .before .before .before .before .before .before .args .p) (c .before .before .before .before .before .before .before .before .before .args .n) (c .before .before .before .before .before .before .put-word .ensures) (c .before .before .put-word2 .ensures)
 
 pub put-axiom-spec : {M : Type 1} → statement M
 put-axiom-spec =

@@ -1,7 +1,7 @@
 use borrow.Author.Needs.{needs}
 use Prim.Native.Nat.{_*_}
 use Rattle.words.specs.Words.{words}
-use Rattle.deck.proofs.TableLaws.{three-stores}
+use Rattle.words.specs.Runs.{three-stores}
 use Rattle.deck.proofs.table.put_concept.Statement.{statement}
 use Rattle.deck.proofs.table.put_concept.Tie as tie
 

@@ -1,7 +1,7 @@
 use borrow.Author.Needs.{needs}
 use Prim.Native.Nat.{_*_}
 use Rattle.words.specs.Words.{words}
-use Rattle.decomposition.specs.PlaceLaws.{three-stores}
+use Rattle.words.specs.Runs.{three-stores}
 use Rattle.decomposition.proofs.place.put_row.Statement.{statement}
 use Rattle.decomposition.proofs.place.put_row.Tie as tie
 
