@@ -23,13 +23,11 @@ use Rattle.rules.specs.PoolLaws.{grown-refl, grown-trans, grown-length, below-m
 use Rattle.rules.specs.Semantics.{Interpretation, withClasses, conceptMeans, means, implies}
 use Rattle.rules.specs.EachLaws.{each-append}
 use Rattle.meaning.specs.Truth.{or-none, and-unit, all-append, any-append}
-use Rattle.meaning.specs.Meanings.{means-grown, means-at}
 use Rattle.meaning.specs.Valuations.{Valuation}
 use Rattle.meaning.specs.Adds.{Setting}
 use Rattle.meaning.specs.Antecedents.{Quiet, quiet-trans, Coded, coded-reads, encode-means}
 use Rattle.meaning.specs.Added.{adds-added, added-map, quiet-added, Does}
-use Rattle.meaning.specs.PoolMeans.{MadeAs, and-means, or-means}
-use Rattle.meaning.specs.NormalForm.{negation-means}
+use Rattle.meaning.specs.Finite.{MadeAs, means-grown, means-at, and-means, or-means, negation-means}
 use Rattle.meaning.specs.Heads.{emit-means}
 use Rattle.meaning.specs.Inclusions.{Included, restart-quiet, antecedent-coded, bodies-mean, soft-means}
 

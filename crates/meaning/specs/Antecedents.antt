@@ -26,7 +26,7 @@ use Rattle.rules.specs.PoolLaws.{bounded-more}
 use Rattle.rules.specs.Semantics.{Interpretation, withClasses, elements, related, qualifies, count, conceptMeans, means, atomHolds, chosen}
 use Rattle.rules.specs.EachLaws.{each-append}
 use Rattle.meaning.specs.Truth.{or-none, or-unit, and-unit, and-left, and-right, and-both, all-append, any-append, any-at, any-find}
-use Rattle.meaning.specs.Meanings.{means-at}
+use Rattle.meaning.specs.Finite.{means-at}
 use Rattle.meaning.specs.Choices.{Choice}
 use Rattle.meaning.specs.Valuations.{Valuation, AtomUnder, each-of}
 use Rattle.meaning.specs.Adds.{VarsUnder, Setting, Alone}

@@ -27,11 +27,11 @@ use Rattle.rules.specs.EachLaws.{each-both}
 use Rattle.rules.specs.Semantics.{Interpretation, withClasses, means, implies, sameTruth, satisfied}
 use Rattle.rules.specs.Statements.{isClausified}
 use Rattle.meaning.specs.Truth.{and-left, and-right, and-both, all-elements, elements-all, all-each, each-all}
-use Rattle.meaning.specs.Meanings.{means-grown}
 use Rattle.meaning.specs.Valuations.{Valuation}
 use Rattle.meaning.specs.Adds.{Setting, Nothing}
 use Rattle.meaning.specs.Added.{Stable, each-stable, Added, added-none, added-map, added-then, quiet-added, each-does}
-use Rattle.meaning.specs.AxiomMeans.{satisfied-grown, satisfied-agree}
+use Rattle.meaning.specs.Finite.{means-grown, satisfied-grown}
+use Rattle.meaning.specs.AxiomAgree.{satisfied-agree}
 use Rattle.meaning.specs.Inclusions.{Included, included-stable}
 use Rattle.meaning.specs.Absorb.{out-then, out-last, Moved, moved-trans, moved-still, Works, inclusion-means}
 use Rattle.meaning.specs.Pairs.{every-each, each-every, later-each, ordered-of-later, later-of-ordered}

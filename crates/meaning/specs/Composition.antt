@@ -29,7 +29,7 @@ use Rattle.meaning.specs.Choices.{Follows}
 use Rattle.meaning.specs.Valuations.{Valuation, Agree, agree-trans, ClauseUnder, each-of}
 use Rattle.meaning.specs.Adds.{FineAtom, Fine, Setting, Alone, Nothing}
 use Rattle.meaning.specs.Added.{Added}
-use Rattle.meaning.specs.NormalForm.{nnf-axioms-mean}
+use Rattle.meaning.specs.Finite.{nnf-axioms-mean}
 use Rattle.meaning.specs.InverseMap.{env-keeps}
 use Rattle.meaning.specs.Axioms.{Clausified, axioms-mean}
 use Rattle.meaning.specs.Passes.{PassMeans}

@@ -27,7 +27,7 @@ use Rattle.rules.specs.ShapeLaws.{lengthsOf, shape, shape-of}
 use Rattle.rules.specs.PoolLaws.{post-both}
 use Rattle.rules.specs.Semantics.{Interpretation, withClasses, conceptMeans, means, implies, sameTruth, atomHolds, disjointAt, satisfied}
 use Rattle.meaning.specs.Truth.{and-left, and-right, and-both, or-none, not-intro, not-elim, implies-elim, implies-intro, all-elements, elements-all, any-append, all-each, each-all}
-use Rattle.meaning.specs.Meanings.{means-at}
+use Rattle.meaning.specs.Finite.{means-at}
 use Rattle.meaning.specs.Choices.{Choice, Follows}
 use Rattle.meaning.specs.Valuations.{Valuation, AtomUnder}
 use Rattle.meaning.specs.Adds.{Setting, Alone, means-agree, Nothing}

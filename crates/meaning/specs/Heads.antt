@@ -27,7 +27,7 @@ use Rattle.rules.specs.Invariants.{Each, Bounds, Bounded, Wf, QualifierIn}
 use Rattle.rules.specs.Semantics.{Interpretation, withClasses, elements, count, implies, related, conceptMeans, means, qualifies, atomHolds, chosen}
 use Rattle.rules.specs.EachLaws.{each-append, each-left, each-right}
 use Rattle.meaning.specs.Truth.{or-none, and-left, and-right, and-both, not-intro, implies-elim, implies-intro, all-append, any-append, all-elements, elements-all, any-elements, any-same, count-same, count-more}
-use Rattle.meaning.specs.Meanings.{means-at}
+use Rattle.meaning.specs.Finite.{means-at}
 use Rattle.meaning.specs.Choices.{Choice}
 use Rattle.meaning.specs.Valuations.{Valuation, Agree, AtomUnder, each-of, atom-under-more, holds-agree, all-agree}
 use Rattle.meaning.specs.Adds.{VarsUnder, FineAtom, Setting, Alone, means-agree, Adds, stay, adds-map, seq, Pre, Gives, EmitMeans}

@@ -9,6 +9,10 @@ pub mod Joints
 pub mod PoolMeans
 pub mod AxiomMeans
 pub mod NormalForm
+pub mod Finite
+pub mod Readings
+pub mod Classical
+pub mod AxiomAgree
 pub mod InverseMap
 pub mod Antecedents
 pub mod Added

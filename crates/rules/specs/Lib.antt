@@ -41,6 +41,7 @@ pub mod Lister
 pub mod Ascii
 pub mod Compute
 pub mod Semantics
+pub mod Worlds
 pub mod Decode
 pub mod DecodeLaws
 pub mod Statements

@@ -57,7 +57,7 @@ abbrev pub sameTruth : Bool → Bool → Bool
 sameTruth a b = implies a b && implies b a
 
 -- an inverse turns the pairs
-abbrev pub pairsOf : (ℕ → ℕ → ℕ → Bool) → Role → ℕ → ℕ → Bool
+abbrev pub pairsOf : {D : Type 0} → (ℕ → D → D → Bool) → Role → D → D → Bool
 pairsOf role (Named r) x y = role r x y
 pairsOf role (Inverse r) x y = role r y x
 
