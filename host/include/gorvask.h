@@ -15,9 +15,9 @@ extern "C" {
 /* ---- What is lent
  *
  * A table is bytes that hold words of four bytes, low byte first; a record is some words. Any content may be lent. A
- * table is whole records, as few as none and at most so many; `numbers` has exactly its size, `scratch` at least its. No
- * pointer is NULL, also where a table has no record. THE DECK AND THE FIVE TABLES MUST BE DISJOINT: no byte of one may be
- * a byte of another. */
+ * table is whole records, as few as none and at most so many; `numbers` has exactly its size, `scratch` at least its. A
+ * pointer may be NULL where its length is 0, and nowhere else. THE DECK AND THE FIVE TABLES MUST BE DISJOINT: no byte of
+ * one may be a byte of another. */
 #define GORVASK_CLAUSE_BYTES 12u
 #define GORVASK_ATOM_BYTES 24u
 #define GORVASK_DEFERRAL_BYTES 8u
@@ -74,7 +74,7 @@ enum gorvask_atom_kind {
 };
 
 /* Deferral: the axiom's line and a kind. The axiom, or a part of it, gave no clause. There are numbers[GORVASK_DEFERRED]
- * of them, in an order that is left open. */
+ * of them, in the order in which they arose. */
 enum gorvask_deferral_word { GORVASK_DEFERRAL_LINE = 0, GORVASK_DEFERRAL_KIND = 1 };
 
 enum gorvask_deferral_kind {

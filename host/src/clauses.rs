@@ -72,7 +72,7 @@ impl<'a> Clauses<'a> {
         }
     }
 
-    /// What gave no clause; the order means nothing.
+    /// What gave no clause, in the order in which it arose.
     ///
     /// # Panics
     /// Only with a library that is not the one that this wrapper is for.

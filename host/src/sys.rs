@@ -15,8 +15,9 @@ unsafe extern "C" {
     /// Clausifies a deck into lent tables. The reply is 0, or a refusal's number × 2^32 + line.
     ///
     /// # Safety
-    /// Each pointer is not null and is followed by so many bytes, which may be read, and but for the deck's written;
-    /// the six do not overlap, and nothing else uses the tables during the call. The bytes may hold anything.
+    /// Each pointer is followed by so many bytes, which may be read, and but for the deck's written; it may be null where
+    /// these are none. The six do not overlap, and nothing else uses the tables during the call. The bytes may hold
+    /// anything.
     pub fn gorvask_clausify_with_stats(
         deck: *const u8,
         deck_len: usize,

@@ -34,8 +34,7 @@ returns c =
     let t = lent (a .clauses .now) (a .atoms .now) (a .deferrals .now) (a .scratch .now) in
     let q = c .before .before .before .before .before .before .before .before .before .before .before .before .answer in
     let A = q .ensures in
-    let zeros = c .before .before .clear .ensures ∙ ap (λ (n : ℕ). replicate n 0) (q .kept .1 .1 .1 .1 .1 .0) in
-    (A .reply, (A .clauses, (A .atoms, (A .deferrals, (zeros, meant (a .deck .now) t (q .last .1 .1 .0) (q .last .1 .1 .1 .0) (q .last .1 .1 .1 .1 .0) (q .result) A)))))
+    (A .reply, (A .clauses, (A .atoms, (A .deferrals, (c .before .before .clear .ensures ∙ ap (λ (n : ℕ). replicate n 0) (q .kept .1 .1 .1 .1 .1 .0), meant (a .deck .now) t (q .last .1 .1 .0) (q .last .1 .1 .1 .0) (q .last .1 .1 .1 .1 .0) (q .result) A)))))
 
 pub clausify-with-stats-spec : {M : Type 1} → statement M
 clausify-with-stats-spec =
