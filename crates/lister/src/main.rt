@@ -3,15 +3,20 @@
 // - for each clause 41, its number, the numbers of body and head atoms, then for each atom 42 and its six words;
 // - 43, the statistics, fresh ids, visits.
 // A refusal prints only 49, number, line.
+mod input;
 mod lines;
 
 ghost use mathlib.Core.Path.{_≡_};
+ghost use Prim.Native.Nat.{_+_};
 ghost use lib.ListN.{length};
+ghost use Rattle.rules.specs.Deck.{mostBytes};
 ghost use Rattle.rules.specs.Run.{scratchBytes};
 ghost use Rattle.lister.specs.Text.{mostText};
 
 // Standard input, up to one byte more than a deck may have.
-fn deck_space() -> [u8; 65537] {
+fn deck_space() -> [u8; 65537]
+    ensures { λ r. ⌜ mostBytes + 1 ≡ length r ⌝ }
+{
     [0; 65537]
 }
 
@@ -55,8 +60,9 @@ fn main() {
     let mut deferrals = deferral_space();
     let mut scratch = scratch_space();
     let mut out = text_space();
-    let m = lines::put_listing(
-        &deck[..n],
+    let m = input::list_input(
+        &deck,
+        n,
         &mut clauses,
         &mut atoms,
         &mut deferrals,

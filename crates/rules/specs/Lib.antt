@@ -49,4 +49,5 @@ pub mod RunLaws
 pub mod Decided
 pub mod Cases
 pub mod Tried
+pub mod SemanticsTried
 pub mod PoolEnds
