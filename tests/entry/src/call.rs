@@ -1,10 +1,9 @@
 //! The call: dirty tables of any size, anywhere, and what must stand there afterwards.
 
 use deck::random::Random;
-use lent::{Lent, bytes, first_not_zero};
+use lent::{ATOM, CLAUSE, DEFERRAL, Lent, SCRATCH, bytes, first_not_zero, words};
 
-use crate::case::Expected;
-use crate::sizes::Sizes;
+use crate::outcome::Outcome;
 
 /// `clausify_with_stats` of the proved library: the deck, then clauses, atoms, deferrals, numbers and scratch, each a place
 /// and its bytes. It answers 0, or a refusal's number × 2^32 + line.
@@ -50,6 +49,27 @@ const NAMES: [&str; 5] = [
 ];
 const DEFERRALS: usize = 2;
 
+/// Bytes of the five tables, in the order of [`NAMES`].
+#[derive(Clone, Copy, Debug, PartialEq, Eq)]
+pub struct Sizes(pub [usize; 5]);
+
+/// Bytes of the table of numbers.
+pub const NUMBERS: usize = 40;
+
+impl Sizes {
+    /// Good sizes, with so many records of clauses, atoms and deferrals.
+    #[must_use]
+    pub fn of_rooms([clauses, atoms, deferrals]: [usize; 3]) -> Self {
+        Self([
+            clauses * CLAUSE,
+            atoms * ATOM,
+            deferrals * DEFERRAL,
+            NUMBERS,
+            SCRATCH,
+        ])
+    }
+}
+
 /// What is lent, call after call.
 #[derive(Default)]
 pub struct Call {
@@ -87,7 +107,7 @@ impl Call {
 
     /// How the reply, or what the call left, is not as expected.
     #[must_use]
-    pub fn difference(&self, reply: u64, deck: &[u8], expected: &Expected) -> Option<String> {
+    pub fn difference(&self, reply: u64, deck: &[u8], expected: &Outcome) -> Option<String> {
         if reply != expected.reply {
             let told = [reply, expected.reply].map(|reply| (reply >> 32, reply & 0xffff_ffff));
             return Some(format!("the reply is {:?}, not {:?}", told[0], told[1]));
@@ -96,8 +116,45 @@ impl Call {
         places.next().or_else(|| self.written_beside(deck))
     }
 
+    /// What the call left in tables of good sizes.
+    ///
+    /// # Errors
+    /// If something stands where it may not.
+    pub fn left(&self, reply: u64, deck: &[u8]) -> Result<Outcome, String> {
+        let mut left = Outcome {
+            reply,
+            ..Outcome::default()
+        };
+        if reply == 0 {
+            left.words = self.records()?;
+        }
+        match self.difference(reply, deck, &left) {
+            Some(difference) => Err(difference),
+            None => Ok(left),
+        }
+    }
+
+    /// The records that the numbers and the clauses tell of.
+    fn records(&self) -> Result<[Vec<u32>; 5], String> {
+        let [clauses, atoms, deferrals, numbers, _] =
+            self.tables.each_ref().map(|table| words(table.bytes()));
+        let front = |place: usize, mut words: Vec<u32>, count: usize| {
+            let has_room = count <= words.len();
+            words.truncate(count);
+            has_room
+                .then_some(words)
+                .ok_or(format!("{} has no room for so many", NAMES[place]))
+        };
+        let clauses = front(0, clauses, 3 * numbers[0] as usize)?;
+        let runs = clauses.chunks(3).map(|record| [record[1], record[2]]);
+        let count: usize = runs.flatten().map(|atoms| atoms as usize).sum();
+        let atoms = front(1, atoms, 6 * count)?;
+        let deferrals = front(2, deferrals, 2 * numbers[5] as usize)?;
+        Ok([clauses, atoms, deferrals, numbers, Vec::new()])
+    }
+
     /// The records, then zeros.
-    fn table_difference(&self, place: usize, expected: &Expected) -> Option<String> {
+    fn table_difference(&self, place: usize, expected: &Outcome) -> Option<String> {
         let name = NAMES[place];
         let records = bytes(&expected.words[place]);
         let Some((found, rest)) = self.tables[place].bytes().split_at_checked(records.len()) else {
@@ -130,7 +187,7 @@ impl Call {
 }
 
 /// Deferrals, whose order is free.
-fn sorted_records(bytes: &[u8]) -> Vec<[u8; lent::DEFERRAL]> {
+fn sorted_records(bytes: &[u8]) -> Vec<[u8; DEFERRAL]> {
     let (records, _) = bytes.as_chunks();
     let mut records = records.to_vec();
     records.sort_unstable();

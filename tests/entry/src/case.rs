@@ -3,19 +3,23 @@
 use deck::limits::DECK_BYTES;
 use deck::random::Random;
 use deck::{Deck, Refusal};
-use oracle::met::{ends, late_passes};
-use oracle::{Limits, Listing, Run, assert_agreed, has_min_zero, run};
+use oracle::met::{ends, is_wide, late_passes};
+use oracle::{Limits, Listing, Pass, Run, assert_agreed, has_min_zero, run, run_with_stages};
+use samples::sample::{self, Stored};
 
+use crate::call::Sizes;
 use crate::decks;
-use crate::sizes::Sizes;
+use crate::dwelling::{Dwelling, dwelling};
+use crate::outcome::Outcome;
+use crate::stored;
 
-/// What a call must leave.
-#[derive(Clone, Debug, PartialEq, Eq)]
-pub struct Expected {
-    /// 0, or a refusal's number × 2^32 + line.
-    pub reply: u64,
-    /// The words that stand in each table before the zeros.
-    pub words: [Vec<u32>; 5],
+/// Which decks the seeds have.
+#[derive(Clone, Copy, Debug, PartialEq, Eq)]
+pub enum Decks {
+    /// All, a share of them dwelling on the later passes.
+    Any,
+    /// Those alone that dwell there.
+    Dwelling,
 }
 
 pub struct Case {
@@ -23,23 +27,17 @@ pub struct Case {
     pub kind: String,
     pub deck: Vec<u8>,
     pub sizes: Sizes,
-    pub expected: Expected,
+    /// What a call must leave.
+    pub expected: Outcome,
     /// What is counted.
     pub met: Vec<String>,
+    /// The deck dwells on the later passes.
+    pub dwells: bool,
     /// Decides the rest: where the tables lie, and their dirt.
     pub rng: Random,
 }
 
-impl From<Refusal> for Expected {
-    fn from(refusal: Refusal) -> Self {
-        Self {
-            reply: (u64::from(refusal.number) << 32) + u64::from(refusal.line),
-            words: Default::default(),
-        }
-    }
-}
-
-impl From<&Listing> for Expected {
+impl From<&Listing> for Outcome {
     fn from(listing: &Listing) -> Self {
         Self {
             reply: 0,
@@ -56,10 +54,19 @@ impl From<&Listing> for Expected {
 
 /// The case of a seed.
 #[must_use]
-pub fn case(seed: u64) -> Case {
-    let mut rng = Random::new(seed);
+pub fn case(seed: u64, decks: Decks) -> Case {
+    let rng = Random::new(seed);
+    if decks == Decks::Dwelling || decks::dwells(seed) {
+        of_dwelling(rng, seed)
+    } else {
+        of_any(rng, seed)
+    }
+}
+
+fn of_any(mut rng: Random, seed: u64) -> Case {
     let drawn = decks::deck(&mut rng, seed);
     let read = deck::read(&drawn.bytes);
+    let run = if drawn.dwells { run_with_stages } else { run };
     let generous = read.as_ref().ok().map(|deck| run(deck, &Limits::LARGEST));
     let needed = generous.as_ref().map_or([0; 3], |run| run.most.rooms());
     let (sizes, wrong) = Sizes::draw(&mut rng, needed, drawn.generous);
@@ -71,13 +78,13 @@ pub fn case(seed: u64) -> Case {
         (None, _, _) => {
             met.push("refused 1".into());
             met.extend(wrong.map(str::to_owned));
-            Expected::from(Refusal { number: 1, line: 0 })
+            Outcome::from(Refusal { number: 1, line: 0 })
         }
         (Some(rooms), Ok(deck), Some(generous)) => in_rooms(&deck, &generous, rooms, &mut met),
         (Some(_), read, _) => {
             let refusal = read.expect_err("a deck that is read is run");
             met.push(format!("refused {}", refusal.number));
-            Expected::from(refusal)
+            Outcome::from(refusal)
         }
     };
     Case {
@@ -87,10 +94,50 @@ pub fn case(seed: u64) -> Case {
         sizes,
         expected,
         met,
+        dwells: drawn.dwells,
         rng,
     }
 }
 
+fn of_dwelling(mut rng: Random, seed: u64) -> Case {
+    let Dwelling {
+        kind,
+        deck,
+        generous,
+        rooms,
+    } = dwelling(&mut rng, seed);
+    let mut sizes = Sizes::of_rooms(rooms);
+    sizes.lengthen_scratch(&mut rng);
+    let mut met = vec![kind.clone()];
+    let expected = in_rooms(&deck, &generous, rooms, &mut met);
+    Case {
+        seed,
+        kind,
+        deck: deck::write(&deck),
+        sizes,
+        expected,
+        met,
+        dwells: true,
+        rng,
+    }
+}
+
+/// A dwelling deck with the original's answer, to be stored.
+///
+/// # Panics
+/// If its tables have a wrong size.
+#[must_use]
+pub fn sampled(case: &Case) -> sample::Case {
+    let rooms = case.sizes.rooms().expect("good sizes");
+    sample::Case {
+        name: format!("{} {}", case.seed, case.kind),
+        deck: stored::input(rooms, &case.deck),
+        answer: Stored::of(&case.expected.write()),
+    }
+}
+
+/// Of dwelling decks alone.
+pub const WIDE: &str = "wide bodies";
 pub const LONG: &str = "a deck of more than 65,536 bytes";
 pub const MIN_ZERO: &str = "Min 0 lines";
 pub const LAST_VISIT: &str = "one million visits";
@@ -101,20 +148,27 @@ pub const BY_CONCEPTS: &str = "refused 11 by the concepts";
 pub const BY_MEMBERS: &str = "refused 11 by the list members";
 
 /// The original's answer in tables of so many records.
-fn in_rooms(deck: &Deck, generous: &Run, rooms: [usize; 3], met: &mut Vec<String>) -> Expected {
+fn in_rooms(deck: &Deck, generous: &Run, rooms: [usize; 3], met: &mut Vec<String>) -> Outcome {
     let run = generous.in_rooms(deck, rooms);
+    note(&[(WIDE, has_wide_bodies(generous))], met);
     met.extend(ends(generous, &run, rooms).into_iter().map(str::to_owned));
     match &run.answer {
         Ok(listing) => {
             assert_agreed(deck, listing);
             note_accepted(deck, &run, listing, rooms, met);
-            Expected::from(listing)
+            Outcome::from(listing)
         }
         Err(refusal) => {
             note_refused(&run, *refusal, met);
-            Expected::from(*refusal)
+            Outcome::from(*refusal)
         }
     }
+}
+
+/// Whether there were wide bodies after the last axiom, in a run with its stages.
+fn has_wide_bodies(generous: &Run) -> bool {
+    let passed = generous.stages.passes.get(&Pass::Axioms);
+    passed.is_some_and(|passed| passed.clauses.iter().any(is_wide))
 }
 
 fn note_accepted(

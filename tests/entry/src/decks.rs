@@ -1,4 +1,5 @@
-//! The decks: every shape, mostly small ones, many of them damaged, and at fixed seeds those that take long.
+//! The decks: every shape, mostly small ones, many of them damaged, and at fixed seeds those that take long and those that
+//! dwell on the later passes.
 
 use deck::Deck;
 use deck::damage::{damage, over_limit};
@@ -8,14 +9,25 @@ use deck::generate::{
 use deck::random::Random;
 use oracle::{Limits, run};
 
-/// After so many seeds the decks that take long come again.
+/// After so many seeds the decks that take long come again, and how many seeds have them.
 const ROUND: u64 = 4_000;
+const LONG: u64 = 10;
+
+/// One seed in so many has a deck of [`crate::dwelling`].
+const SHARE: u64 = 5;
+
+/// Whether a seed has such a deck.
+pub fn dwells(seed: u64) -> bool {
+    seed % ROUND >= LONG && seed % SHARE == 1
+}
 
 /// A deck's bytes and what it is; `generous` where the tables must be enough for it.
 pub struct Drawn {
     pub kind: String,
     pub bytes: Vec<u8>,
     pub generous: bool,
+    /// It dwells on the later passes.
+    pub dwells: bool,
 }
 
 /// The deck of a seed.
@@ -40,6 +52,7 @@ pub fn deck(rng: &mut Random, seed: u64) -> Drawn {
         kind: kind.into(),
         bytes: deck::write(&deck),
         generous,
+        dwells: matches!(kind, "Cap" | "CountedBodyLong"),
     }
 }
 
@@ -80,6 +93,7 @@ fn by_chance(rng: &mut Random) -> Drawn {
         kind,
         bytes,
         generous: false,
+        dwells: false,
     }
 }
 

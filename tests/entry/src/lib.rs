@@ -1,15 +1,28 @@
-//! The whole port through its C interface beside the original, on generated decks.
+//! The whole port through its C interface beside the original, on generated and on stored decks.
 
 mod call;
+#[cfg(feature = "live")]
 mod case;
+#[cfg(feature = "live")]
 mod compare;
+#[cfg(feature = "live")]
 mod decks;
+#[cfg(feature = "live")]
+mod dwelling;
+#[cfg(feature = "live")]
 pub mod mock;
+mod outcome;
+#[cfg(feature = "live")]
 mod sizes;
+pub mod stored;
 
 #[cfg(feature = "linked")]
 pub use call::gorvask_clausify_with_stats;
-pub use call::{Call, Clausify};
-pub use case::{Case, case};
-pub use compare::{Until, compare, must};
-pub use sizes::{Sizes, WRONG};
+pub use call::{Call, Clausify, Sizes};
+#[cfg(feature = "live")]
+pub use case::{Case, Decks, case, sampled};
+#[cfg(feature = "live")]
+pub use compare::{Until, compare, must, must_dwelling};
+pub use outcome::Outcome;
+#[cfg(feature = "live")]
+pub use sizes::WRONG;

@@ -3,17 +3,23 @@
 use std::error::Error;
 use std::process::ExitCode;
 
-use entry::{Until, compare, gorvask_clausify_with_stats};
+use entry::{Decks, Until, compare, gorvask_clausify_with_stats};
+
+const USAGE: &str = "entry [--dwell] SEED COUNT, or entry [--dwell] SEED --seconds N";
 
 fn main() -> Result<ExitCode, Box<dyn Error>> {
     let arguments: Vec<String> = std::env::args().skip(1).collect();
     let words: Vec<&str> = arguments.iter().map(String::as_str).collect();
-    let (seed, until) = match *words.as_slice() {
+    let (decks, rest) = match words.as_slice() {
+        ["--dwell", rest @ ..] => (Decks::Dwelling, rest),
+        all => (Decks::Any, all),
+    };
+    let (seed, until) = match *rest {
         [seed, "--seconds", seconds] => (seed.parse()?, Until::Seconds(seconds.parse()?)),
         [seed, count] => (seed.parse()?, Until::Count(count.parse()?)),
-        _ => return Err("entry SEED COUNT, or entry SEED --seconds N".into()),
+        _ => return Err(USAGE.into()),
     };
-    let good = compare(gorvask_clausify_with_stats, seed, &until);
+    let good = compare(gorvask_clausify_with_stats, decks, seed, &until);
     Ok(if good {
         ExitCode::SUCCESS
     } else {

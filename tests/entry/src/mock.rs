@@ -5,9 +5,9 @@ use std::cell::Cell;
 use lent::bytes;
 use oracle::{Answer, Limits, answer_min_zero};
 
-use crate::call::Clausify;
-use crate::case::Expected;
-use crate::sizes::{Sizes, WRONG};
+use crate::call::{Clausify, Sizes};
+use crate::outcome::Outcome;
+use crate::sizes::WRONG;
 
 /// Where the stand-in errs. A place is one of the five tables: clauses, atoms, deferrals, numbers, scratch.
 #[derive(Clone, Copy, Debug, PartialEq, Eq)]
@@ -177,11 +177,11 @@ fn rooms(sizes: Sizes, fault: Fault) -> Option<[usize; 3]> {
     mended.rooms()
 }
 
-fn refused(number: u32, line: u32) -> Expected {
-    Expected::from(deck::Refusal { number, line })
+fn refused(number: u32, line: u32) -> Outcome {
+    Outcome::from(deck::Refusal { number, line })
 }
 
-fn original(deck: &[u8], rooms: [usize; 3], fault: Fault) -> Expected {
+fn original(deck: &[u8], rooms: [usize; 3], fault: Fault) -> Outcome {
     let mut limits = Limits::tables(rooms);
     let mut deck = deck.to_vec();
     match fault {
@@ -195,14 +195,14 @@ fn original(deck: &[u8], rooms: [usize; 3], fault: Fault) -> Expected {
         _ => {}
     }
     match answer_min_zero(&deck, &limits) {
-        Answer::Accepted(listing) => Expected::from(&listing),
-        Answer::Refused(refusal) => Expected::from(refusal),
+        Answer::Accepted(listing) => Outcome::from(&listing),
+        Answer::Refused(refusal) => Outcome::from(refusal),
         Answer::CannotHold => unreachable!("Min 0 lines are held"),
     }
 }
 
 /// Makes the answer a wrong one.
-fn err(expected: &mut Expected, fault: Fault) {
+fn err(expected: &mut Outcome, fault: Fault) {
     let is_refusal = expected.reply != 0;
     let [clauses, _, deferrals, ..] = &mut expected.words;
     match fault {

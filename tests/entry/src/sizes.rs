@@ -1,15 +1,10 @@
 //! Sizes of the lent tables: enough, just enough, short, or wrong.
 
 use deck::random::Random;
-use lent::{ATOM, CLAUSE, DEFERRAL, RECORDS, SCRATCH};
+use lent::{RECORDS, SCRATCH};
 use oracle::Limits;
 
-/// Bytes of the table of numbers.
-const NUMBERS: usize = 40;
-
-/// Bytes of the clause, the atom and the deferral table, of the numbers, and of scratch.
-#[derive(Clone, Copy, Debug, PartialEq, Eq)]
-pub struct Sizes(pub [usize; 5]);
+use crate::call::{NUMBERS, Sizes};
 
 /// What is wrong with sizes that are refused.
 pub const WRONG: [&str; 13] = [
@@ -29,17 +24,6 @@ pub const WRONG: [&str; 13] = [
 ];
 
 impl Sizes {
-    fn of_rooms(rooms: [usize; 3]) -> Self {
-        let [clauses, atoms, deferrals] = rooms;
-        Self([
-            clauses * CLAUSE,
-            atoms * ATOM,
-            deferrals * DEFERRAL,
-            NUMBERS,
-            SCRATCH,
-        ])
-    }
-
     /// Records of the three tables; `None` where the sizes are refused.
     #[must_use]
     pub fn rooms(&self) -> Option<[usize; 3]> {
@@ -65,12 +49,17 @@ impl Sizes {
             any(rng, needed)
         };
         let mut sizes = Self::of_rooms(rooms);
-        if rng.chance(1, 8) {
-            sizes.0[4] += *rng.pick(&[1, 2, 3, 4, 40, 4_096, 5_001]);
-        }
+        sizes.lengthen_scratch(rng);
         let is_wrong = !generous && rng.chance(1, 12);
         let wrong = is_wrong.then(|| sizes.spoil(rng));
         (sizes, wrong)
+    }
+
+    /// Makes scratch longer than it must be, at times.
+    pub fn lengthen_scratch(&mut self, rng: &mut Random) {
+        if rng.chance(1, 8) {
+            self.0[4] += *rng.pick(&[1, 2, 3, 4, 40, 4_096, 5_001]);
+        }
     }
 
     /// Makes one of the sizes wrong.

@@ -4,14 +4,14 @@
 use std::collections::HashSet;
 
 use entry::mock::{Fault, erring};
-use entry::{Call, Until, WRONG, case, compare, must};
+use entry::{Call, Decks, Until, WRONG, case, compare, must, must_dwelling};
 
 /// The first seed with a difference, and the difference.
 fn difference(fault: Fault, seeds: impl IntoIterator<Item = u64>) -> Option<(u64, String)> {
     let library = erring(fault);
     let mut call = Call::default();
     seeds.into_iter().find_map(|seed| {
-        let mut case = case(seed);
+        let mut case = case(seed, Decks::Any);
         let reply = call.make(&mut case.rng, library, &case.deck, &case.sizes);
         let difference = call.difference(reply, &case.deck, &case.expected)?;
         Some((seed, difference))
@@ -145,15 +145,18 @@ fn options() {
 
 #[test]
 fn a_short_comparison_misses_something() {
-    assert!(!compare(erring(Fault::None), 1, &Until::Count(3)));
-    assert!(!compare(erring(Fault::OtherNumber), 1, &Until::Count(100)));
+    for decks in [Decks::Any, Decks::Dwelling] {
+        let missed = compare(erring(Fault::None), decks, 20, &Until::Count(3));
+        let differs = compare(erring(Fault::OtherNumber), decks, 20, &Until::Count(100));
+        assert!(!missed && !differs);
+    }
 }
 
 /// What a seed gives depends on nothing else.
 #[test]
 fn same_seed_same_case() {
-    for seed in [0, 5, 700, 701] {
-        let (first, second) = (case(seed), case(seed));
+    for seed in [0, 5, 700, 701, u64::MAX] {
+        let (first, second) = (case(seed, Decks::Any), case(seed, Decks::Any));
         assert_eq!(
             (first.deck, first.sizes, first.expected, first.met),
             (second.deck, second.sizes, second.expected, second.met)
@@ -163,14 +166,17 @@ fn same_seed_same_case() {
 
 #[test]
 fn no_name_stands_for_two_things() {
-    let must = must();
-    let names: HashSet<&String> = must.iter().collect();
-    assert_eq!(names.len(), must.len());
+    for must in [must(), must_dwelling()] {
+        let names: HashSet<&String> = must.iter().collect();
+        assert_eq!(names.len(), must.len());
+    }
 }
 
 /// A round of seeds meets all that must be met. It takes a minute: `cargo test --release -- --ignored`.
 #[test]
 #[ignore = "takes long"]
 fn a_round_meets_everything() {
-    assert!(compare(erring(Fault::None), 1, &Until::Count(8_000)));
+    let [any, dwelling] = [(Decks::Any, 8_000), (Decks::Dwelling, 20_000)]
+        .map(|(decks, count)| compare(erring(Fault::None), decks, 1, &Until::Count(count)));
+    assert!(any && dwelling);
 }
