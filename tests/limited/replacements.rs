@@ -53,7 +53,7 @@ const NORMALIZE: [Replacement; 3] = [
     ),
 ];
 
-const CLAUSE: [Replacement; 25] = [
+const CLAUSE: [Replacement; 24] = [
     // The options.
     once(
         r#"std::env::var_os("RUSTDL_WEDGE_BODY_DECOMPOSE").is_none_or(|v| v != "0")"#,
@@ -163,13 +163,6 @@ const CLAUSE: [Replacement; 25] = [
         "    crate::limits::finished(&out);
     c.clauses = out;",
     ),
-    // The inverse map, of a run and of the census.
-    Replacement {
-        find: "let inverse_canon = build_inverse_canon(&normalized);",
-        times: 2,
-        put: "let inverse_canon = build_inverse_canon(&normalized);
-    crate::limits::mapped(&inverse_canon);",
-    },
     // The axiom under way, and the stages.
     once(
         "        dkey_classes,
@@ -183,7 +176,7 @@ const CLAUSE: [Replacement; 25] = [
         crate::limits::axiom(index);
         c.clausify_axiom(ax);
     }
-    crate::limits::passed(crate::limits::Pass::Axioms, &c.clauses, c.next_var);",
+    crate::limits::passed(crate::limits::Pass::Axioms, &c.clauses);",
     ),
     once(
         "        apply_reflexive_roles(&mut c, &reflexive);
@@ -192,16 +185,16 @@ const CLAUSE: [Replacement; 25] = [
     // Last,",
         "        apply_reflexive_roles(&mut c, &reflexive);
     }
-    crate::limits::passed(crate::limits::Pass::Reflexive, &c.clauses, c.next_var);
+    crate::limits::passed(crate::limits::Pass::Reflexive, &c.clauses);
     if !reflexive.is_empty() {
         add_counted_self_loops(&mut c, &reflexive);
     }
-    crate::limits::passed(crate::limits::Pass::Loops, &c.clauses, c.next_var);
+    crate::limits::passed(crate::limits::Pass::Loops, &c.clauses);
     // Last,",
     ),
     once(
         "    stats.decomposed = decomposed;",
         "    stats.decomposed = decomposed;
-    crate::limits::passed(crate::limits::Pass::Last, &c.clauses, c.next_var);",
+    crate::limits::passed(crate::limits::Pass::Last, &c.clauses);",
     ),
 ];

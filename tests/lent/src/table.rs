@@ -48,12 +48,6 @@ impl Lent {
         &mut self.bytes[self.start..self.start + self.len]
     }
 
-    /// Puts words into the table, from word `at` on.
-    pub fn put_words(&mut self, at: usize, words: &[u32]) {
-        let bytes = crate::bytes(words);
-        self.bytes_mut()[4 * at..4 * at + bytes.len()].copy_from_slice(&bytes);
-    }
-
     #[must_use]
     pub fn len(&self) -> usize {
         self.len

@@ -2,11 +2,11 @@
 //! none, the calls below do nothing.
 
 use std::cell::RefCell;
-use std::collections::{BTreeMap, HashMap};
+use std::collections::BTreeMap;
 use std::panic::{AssertUnwindSafe, catch_unwind, resume_unwind};
 
 use crate::clause::DlClause;
-use crate::ir::{ConceptExpr, ConceptPool, Role, RoleId};
+use crate::ir::{ConceptExpr, ConceptPool};
 use crate::ontology::Axiom;
 
 /// The most that a run may use, or the most that it has used.
@@ -114,8 +114,6 @@ pub enum Pass {
 pub struct Stages {
     /// The pool's records and the axioms after `nnf_axioms`.
     pub normalised: Option<(Vec<ConceptExpr>, Vec<Axiom>)>,
-    /// What `build_inverse_canon` maps.
-    pub inverse_canon: HashMap<RoleId, Role>,
     pub passes: BTreeMap<Pass, Passed>,
 }
 
@@ -131,8 +129,6 @@ pub struct Passed {
     /// Records of the concept pool, and members of its And and Or records.
     pub concepts: usize,
     pub members: usize,
-    /// The next fresh variable.
-    pub next_var: u32,
 }
 
 #[derive(Clone, Debug, Default)]
@@ -343,18 +339,8 @@ pub fn normalised(pool: &ConceptPool, axioms: &[Axiom]) {
     });
 }
 
-/// The inverse map is built.
-pub fn mapped(inverse_canon: &HashMap<RoleId, Role>) {
-    event(|run| {
-        if run.settings.keep_stages {
-            run.report.stages.inverse_canon.clone_from(inverse_canon);
-        }
-        Ok(())
-    });
-}
-
 /// A pass has made these clauses; no axiom is under way from here on.
-pub fn passed(pass: Pass, clauses: &[DlClause], next_var: u32) {
+pub fn passed(pass: Pass, clauses: &[DlClause]) {
     event(|run| {
         run.line = 0;
         let report = &mut run.report;
@@ -367,7 +353,6 @@ pub fn passed(pass: Pass, clauses: &[DlClause], next_var: u32) {
                 visits: report.most.visits,
                 concepts: run.concepts,
                 members: run.members,
-                next_var,
             };
             report.stages.passes.insert(pass, passed);
         }

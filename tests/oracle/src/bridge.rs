@@ -126,7 +126,7 @@ fn role(code: u32) -> Role {
     }
 }
 
-pub fn code(role: Role) -> u32 {
+fn code(role: Role) -> u32 {
     2 * role.role_id().index() + u32::from(role.is_inverse())
 }
 

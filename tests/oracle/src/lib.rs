@@ -5,7 +5,6 @@ mod clauses;
 pub mod decided;
 mod forms;
 mod listing;
-pub mod lists;
 pub mod met;
 pub mod replay;
 pub mod sampling;
@@ -32,7 +31,7 @@ use deck::{Axiom, Concept, Deck, Refusal};
 pub use forms::{Forms, forms};
 pub use limited::limits::{Limits, Pass};
 use limited::limits::{Options, Settings};
-pub use listing::{Answer, Clause, Listing, atom_table, clause_table, deferral_table};
+pub use listing::{Answer, Clause, Listing};
 pub use stages::{Passed, Stages};
 
 /// The answer to a deck's bytes: the reading's refusal, or [`answer_deck`].

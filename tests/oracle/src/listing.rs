@@ -54,51 +54,32 @@ impl Listing {
     /// The records of the clause table.
     #[must_use]
     pub fn clause_table(&self) -> Vec<u32> {
-        clause_table(&self.clauses)
+        let mut first = 0;
+        let mut words = Vec::with_capacity(3 * self.clauses.len());
+        for clause in &self.clauses {
+            let (body, head) = (length(&clause.body), length(&clause.head));
+            words.extend([first, body, head]);
+            first += body + head;
+        }
+        words
     }
 
     /// The records of the atom table.
     #[must_use]
     pub fn atom_table(&self) -> Vec<u32> {
-        atom_table(&self.clauses)
+        let clauses = self.clauses.iter();
+        let atoms = clauses.flat_map(|clause| clause.body.iter().chain(&clause.head));
+        atoms.flatten().copied().collect()
     }
 
     /// The records of the deferral table, in the order of the run.
     #[must_use]
     pub fn deferral_table(&self) -> Vec<u32> {
-        deferral_table(&self.deferrals)
+        self.deferrals
+            .iter()
+            .flat_map(|&(line, kind)| [line, kind])
+            .collect()
     }
-}
-
-/// The clauses' records, three words each.
-#[must_use]
-pub fn clause_table(clauses: &[Clause]) -> Vec<u32> {
-    let mut first = 0;
-    let mut words = Vec::with_capacity(3 * clauses.len());
-    for clause in clauses {
-        let (body, head) = (length(&clause.body), length(&clause.head));
-        words.extend([first, body, head]);
-        first += body + head;
-    }
-    words
-}
-
-/// The clauses' atoms, six words each.
-#[must_use]
-pub fn atom_table(clauses: &[Clause]) -> Vec<u32> {
-    let atoms = clauses
-        .iter()
-        .flat_map(|clause| clause.body.iter().chain(&clause.head));
-    atoms.flatten().copied().collect()
-}
-
-/// The deferrals, two words each, in their order.
-#[must_use]
-pub fn deferral_table(deferrals: &[(u32, u32)]) -> Vec<u32> {
-    deferrals
-        .iter()
-        .flat_map(|&(line, kind)| [line, kind])
-        .collect()
 }
 
 fn length(atoms: &[[u32; 6]]) -> u32 {

@@ -142,11 +142,4 @@ impl Met {
             println!("{what}: {count}");
         }
     }
-
-    /// Which of `must` were not met.
-    #[must_use]
-    pub fn missing<'a>(&self, must: &[&'a str]) -> Vec<&'a str> {
-        let missing = must.iter().filter(|what| self.times(what) == 0);
-        missing.copied().collect()
-    }
 }

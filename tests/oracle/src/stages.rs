@@ -11,8 +11,6 @@ use crate::{Clause, Normalised, instrumented, number};
 pub struct Stages {
     /// The pool's records and the axioms once all axioms are normalised.
     pub normalised: Option<Normalised>,
-    /// The roles that the inverse map has, each with the code that it is mapped to.
-    pub inverse_canon: BTreeMap<u32, u32>,
     /// What there was after each pass.
     pub passes: BTreeMap<Pass, Passed>,
 }
@@ -29,8 +27,6 @@ pub struct Passed {
     /// Records of the concept pool, and members of its And and Or records.
     pub concepts: u32,
     pub members: u32,
-    /// The next fresh variable.
-    pub next_var: u32,
 }
 
 impl From<&limited::limits::Stages> for Stages {
@@ -41,17 +37,12 @@ impl From<&limited::limits::Stages> for Stages {
                 axioms.iter().map(instrumented::line).collect(),
             )
         });
-        let inverse_canon = stages
-            .inverse_canon
-            .iter()
-            .map(|(id, &role)| (id.index(), instrumented::code(role)));
         let passes = stages
             .passes
             .iter()
             .map(|(&pass, passed)| (pass, Passed::from(passed)));
         Self {
             normalised,
-            inverse_canon: inverse_canon.collect(),
             passes: passes.collect(),
         }
     }
@@ -66,7 +57,6 @@ impl From<&limited::limits::Passed> for Passed {
             visits: number(passed.visits),
             concepts: number(passed.concepts),
             members: number(passed.members),
-            next_var: passed.next_var,
         }
     }
 }

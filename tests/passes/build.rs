@@ -1,3 +1,0 @@
-fn main() {
-    lent::link("passes");
-}
