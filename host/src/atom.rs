@@ -1,5 +1,9 @@
 //! Roles and atoms.
 
+use std::fmt;
+
+use crate::notation::{self, Naming};
+
 /// A class id: a declared class, an individual's class or a fresh one; [`Clauses::class_name`](crate::Clauses::class_name)
 /// tells which.
 pub type ClassId = u32;
@@ -31,6 +35,16 @@ impl Role {
         }
     }
 
+    /// The role's code.
+    ///
+    /// # Panics
+    /// With an id of 2^31 or more, which no code has.
+    #[must_use]
+    pub fn code(self) -> u32 {
+        let twice = self.role_id().checked_mul(2).expect("an id below 2^31");
+        twice + u32::from(self.is_inverse())
+    }
+
     /// The declared role.
     #[must_use]
     pub fn role_id(self) -> RoleId {
@@ -43,6 +57,13 @@ impl Role {
     #[must_use]
     pub fn is_inverse(self) -> bool {
         matches!(self, Self::Inverse(_))
+    }
+}
+
+/// `r3`, or `r3⁻` for the inverse.
+impl fmt::Display for Role {
+    fn fmt(&self, f: &mut fmt::Formatter<'_>) -> fmt::Result {
+        notation::role(f, *self, Naming::IDS)
     }
 }
 
@@ -79,6 +100,42 @@ impl Atom {
             _ => return None,
         })
     }
+
+    /// The atom's six words.
+    ///
+    /// # Panics
+    /// With the class id 2^32 - 1 or a role id of 2^31 or more, which no six words have.
+    #[must_use]
+    pub fn words(self) -> [u32; 6] {
+        let class = |id: ClassId| id.checked_add(1).expect("a class id that words have");
+        let filler = |id: Option<ClassId>| id.map_or(0, class);
+        match self {
+            Self::Class(id, v) => [1, 0, class(id), 0, v, 0],
+            Self::Role(role, u, v) => [2, role.code(), 0, 0, u, v],
+            Self::Exists(role, id, v) => [3, role.code(), class(id), 0, v, 0],
+            Self::AtMost(role, id, n, v) => [4, role.code(), filler(id), n, v, 0],
+            Self::AtLeast(role, id, n, v) => [5, role.code(), filler(id), n, v, 0],
+            Self::Equal(u, v) => [6, 0, 0, 0, u, v],
+        }
+    }
+
+    /// The class that the atom names, if it names one.
+    #[must_use]
+    pub fn class(self) -> Option<ClassId> {
+        match self {
+            Self::Class(class, _) | Self::Exists(_, class, _) => Some(class),
+            Self::AtMost(_, class, _, _) | Self::AtLeast(_, class, _, _) => class,
+            Self::Role(..) | Self::Equal(..) => None,
+        }
+    }
+}
+
+/// In logical notation, as `∃r0⁻.C4(x)`. An atom does not know its deck's counts, so a class is `C` and its id, whatever it
+/// stands for; a [`Clause`](crate::Clause) tells classes, individuals' classes and fresh ones apart.
+impl fmt::Display for Atom {
+    fn fmt(&self, f: &mut fmt::Formatter<'_>) -> fmt::Result {
+        notation::atom(f, *self, Naming::IDS)
+    }
 }
 
 #[cfg(test)]
@@ -107,6 +164,7 @@ mod tests {
             ([6, 0, 0, 0, 1, 2], Atom::Equal(1, 2)),
         ] {
             assert_eq!(Atom::of_words(words), Some(atom));
+            assert_eq!(atom.words(), words);
         }
     }
 
@@ -135,5 +193,33 @@ mod tests {
         assert_eq!(Role::of_code(9), Role::Inverse(4));
         assert_eq!(Role::of_code(9).role_id(), 4);
         assert!(Role::of_code(9).is_inverse() && !Role::of_code(8).is_inverse());
+        assert_eq!(
+            [0, 1, 8, 9, u32::MAX].map(|code| Role::of_code(code).code()),
+            [0, 1, 8, 9, u32::MAX]
+        );
+    }
+
+    #[test]
+    fn in_notation() {
+        let (r, turned) = (Role::Named(3), Role::Inverse(3));
+        assert_eq!(
+            (r.to_string(), turned.to_string()),
+            ("r3".to_owned(), "r3⁻".to_owned())
+        );
+        for (atom, text, class) in [
+            (Atom::Class(4, 2), "C4(y2)", Some(4)),
+            (Atom::Role(turned, 0, 1), "r3⁻(x,y1)", None),
+            (Atom::Exists(r, 0, 0), "∃r3.C0(x)", Some(0)),
+            (Atom::AtMost(r, None, 2, 0), "≤2 r3.⊤(x)", None),
+            (
+                Atom::AtLeast(turned, Some(7), 1, 1),
+                "≥1 r3⁻.C7(y1)",
+                Some(7),
+            ),
+            (Atom::Equal(0, 2), "x ≈ y2", None),
+        ] {
+            assert_eq!(atom.to_string(), text);
+            assert_eq!(atom.class(), class);
+        }
     }
 }

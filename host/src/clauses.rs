@@ -1,14 +1,18 @@
 //! The answer to an accepted deck, read from the clausifier's tables.
 
 use std::fmt;
+use std::iter::FusedIterator;
 use std::slice::ChunksExact;
 
 use crate::atom::{Atom, ClassId};
+use crate::clause::Clause;
 use crate::deferral::Deferral;
-use crate::header::Header;
+use crate::header::{ClassName, Header};
+use crate::provisos::Provisos;
+use crate::sizes::Sizes;
 use crate::statistics::Statistics;
-use crate::sys::{ATOM_BYTES, CLAUSE_BYTES, DEFERRAL_BYTES, NUMBERS_BYTES};
-use crate::text::Text;
+use crate::sys::{CLAUSE_BYTES, DEFERRAL_BYTES};
+use crate::tables::Tables;
 use crate::words;
 
 /// The clauses of a deck with its deferrals and numbers. Records are read when they are asked for; nothing is copied.
@@ -18,6 +22,8 @@ pub struct Clauses<'a> {
     records: &'a [u8],
     atoms: &'a [u8],
     deferrals: &'a [u8],
+    /// The classes that the deck marks as data keys.
+    keys: &'a [ClassId],
     statistics: Statistics,
     fresh_ids: u32,
     visits: u32,
@@ -26,21 +32,19 @@ pub struct Clauses<'a> {
 
 impl<'a> Clauses<'a> {
     /// What an accepted call left in the tables.
-    pub(crate) fn new(
-        deck: &[u8],
-        [clauses, atoms, deferrals]: [&'a [u8]; 3],
-        numbers: &[u8; NUMBERS_BYTES],
-    ) -> Self {
-        let [statistics @ .., fresh_ids, visits] = words::of::<10>(numbers);
+    pub(crate) fn new(header: Header, keys: &'a [ClassId], tables: &'a Tables) -> Self {
+        let [statistics @ .., fresh_ids, visits] = words::of::<10>(tables.numbers());
         let statistics = Statistics::of_words(statistics);
+        let [clauses, atoms, deferrals] = tables.records();
         Self {
             records: &clauses[..CLAUSE_BYTES * words::index(statistics.total)],
             atoms,
             deferrals: &deferrals[..DEFERRAL_BYTES * words::index(statistics.deferred)],
+            keys,
             statistics,
             fresh_ids,
             visits,
-            header: Header::of(deck).expect("an accepted deck has a header"),
+            header,
         }
     }
 
@@ -60,7 +64,7 @@ impl<'a> Clauses<'a> {
     #[must_use]
     pub fn get(&self, index: usize) -> Option<Clause<'a>> {
         let record = self.records.chunks_exact(CLAUSE_BYTES).nth(index)?;
-        Some(Clause::of(record, self.atoms))
+        Some(Clause::of(record, self.atoms, self.header))
     }
 
     /// The clauses, in the table's order.
@@ -69,6 +73,7 @@ impl<'a> Clauses<'a> {
         Iter {
             records: self.records.chunks_exact(CLAUSE_BYTES),
             atoms: self.atoms,
+            header: self.header,
         }
     }
 
@@ -81,6 +86,23 @@ impl<'a> Clauses<'a> {
         self.deferrals
             .chunks_exact(DEFERRAL_BYTES)
             .map(|record| Deferral::of_words(words::of(record)).expect("a record of a deferral"))
+    }
+
+    /// Whether it is promised that no rule of this deck is lost or weakened, and if not, why.
+    #[must_use]
+    pub fn provisos(&self) -> Provisos {
+        Provisos {
+            deferrals: self.deferrals().collect(),
+            data_keys: self.keys.to_vec(),
+            fresh_at_most: self.iter().position(|clause| self.counts_fresh(clause)),
+        }
+    }
+
+    /// Whether an at-most atom of the clause names a fresh class.
+    fn counts_fresh(&self, clause: Clause<'_>) -> bool {
+        let is_fresh = |class| matches!(self.class_name(class), ClassName::Fresh(_));
+        let mut atoms = clause.body().chain(clause.head());
+        atoms.any(|atom| matches!(atom, Atom::AtMost(..)) && atom.class().is_some_and(is_fresh))
     }
 
     /// The statistics.
@@ -113,10 +135,24 @@ impl<'a> Clauses<'a> {
         self.header.class_name(class)
     }
 
-    /// The clause in logical notation, as `A3(x), r1(x,y1) → A2(y1) ∨ ∃r0.A5(x)`.
+    /// The records that the answer takes. On its way a run may have taken more.
     #[must_use]
-    pub fn text(&self, clause: Clause<'a>) -> Text<'a> {
-        Text::new(clause, self.header)
+    pub fn sizes(&self) -> Sizes {
+        let atoms = |clause: Clause<'_>| clause.body().len() + clause.head().len();
+        Sizes {
+            clauses: self.len(),
+            atoms: self.iter().map(atoms).sum(),
+            deferrals: self.deferrals().len(),
+        }
+    }
+}
+
+impl<'a> IntoIterator for Clauses<'a> {
+    type Item = Clause<'a>;
+    type IntoIter = Iter<'a>;
+
+    fn into_iter(self) -> Iter<'a> {
+        self.iter()
     }
 }
 
@@ -135,67 +171,12 @@ impl fmt::Debug for Clauses<'_> {
     }
 }
 
-/// What a class id stands for.
-#[derive(Clone, Copy, Debug, PartialEq, Eq, Hash)]
-pub enum ClassName {
-    /// The deck's class of this number.
-    Declared(u32),
-    /// The class that holds the deck's individual of this number alone.
-    Individual(u32),
-    /// A name that the run gave to a part of an axiom, the first being 0.
-    Fresh(u32),
-}
-
-/// Where all of the body holds, one of the head holds.
-#[derive(Clone, Copy)]
-pub struct Clause<'a> {
-    body: &'a [u8],
-    head: &'a [u8],
-}
-
-impl<'a> Clause<'a> {
-    fn of(record: &[u8], atoms: &'a [u8]) -> Self {
-        let [first, body, head] = words::of(record).map(|word| ATOM_BYTES * words::index(word));
-        let (body, head) = atoms[first..first + body + head].split_at(body);
-        Self { body, head }
-    }
-
-    /// The conditions; with none, the clause holds of everything.
-    #[must_use]
-    pub fn body(&self) -> Atoms<'a> {
-        Atoms(self.body.chunks_exact(ATOM_BYTES))
-    }
-
-    /// The outcomes; with none, the conditions cannot all hold.
-    #[must_use]
-    pub fn head(&self) -> Atoms<'a> {
-        Atoms(self.head.chunks_exact(ATOM_BYTES))
-    }
-}
-
-impl PartialEq for Clause<'_> {
-    fn eq(&self, other: &Clause<'_>) -> bool {
-        (self.body, self.head) == (other.body, other.head)
-    }
-}
-
-impl Eq for Clause<'_> {}
-
-impl fmt::Debug for Clause<'_> {
-    fn fmt(&self, f: &mut fmt::Formatter<'_>) -> fmt::Result {
-        let (body, head): (Vec<Atom>, Vec<Atom>) = (self.body().collect(), self.head().collect());
-        f.debug_struct("Clause")
-            .field("body", &body)
-            .field("head", &head)
-            .finish()
-    }
-}
-
 /// The clauses of a deck, one after the other.
 #[derive(Clone, Debug)]
 pub struct Iter<'a> {
     records: ChunksExact<'a, u8>,
     atoms: &'a [u8],
+    header: Header,
 }
 
 impl<'a> Iterator for Iter<'a> {
@@ -203,7 +184,7 @@ impl<'a> Iterator for Iter<'a> {
 
     fn next(&mut self) -> Option<Clause<'a>> {
         let record = self.records.next()?;
-        Some(Clause::of(record, self.atoms))
+        Some(Clause::of(record, self.atoms, self.header))
     }
 
     fn size_hint(&self) -> (usize, Option<usize>) {
@@ -213,23 +194,4 @@ impl<'a> Iterator for Iter<'a> {
 
 impl ExactSizeIterator for Iter<'_> {}
 
-/// The atoms of a body or head, one after the other.
-///
-/// It panics on a record that is no atom, which only a library that is not the one that this wrapper is for would leave.
-#[derive(Clone, Debug)]
-pub struct Atoms<'a>(ChunksExact<'a, u8>);
-
-impl Iterator for Atoms<'_> {
-    type Item = Atom;
-
-    fn next(&mut self) -> Option<Atom> {
-        let record = self.0.next()?;
-        Some(Atom::of_words(words::of(record)).expect("a record of an atom"))
-    }
-
-    fn size_hint(&self) -> (usize, Option<usize>) {
-        self.0.size_hint()
-    }
-}
-
-impl ExactSizeIterator for Atoms<'_> {}
+impl FusedIterator for Iter<'_> {}

@@ -22,6 +22,7 @@ impl Deferral {
     }
 }
 
+/// The line, what was left out, and the kind's name.
 impl fmt::Display for Deferral {
     fn fmt(&self, f: &mut fmt::Formatter<'_>) -> fmt::Result {
         if let Some(line) = self.line {
@@ -34,6 +35,7 @@ impl fmt::Display for Deferral {
 /// The kinds of deferral, each with its number in the table.
 #[derive(Clone, Copy, Debug, PartialEq, Eq, PartialOrd, Ord, Hash)]
 #[repr(u8)]
+#[non_exhaustive]
 pub enum DeferralKind {
     /// A pair of disjoint concepts.
     DisjointAntecedent = 1,
@@ -97,22 +99,28 @@ impl DeferralKind {
         }
     }
 
-    /// What has no clause.
+    /// What was left out.
     #[must_use]
     pub fn words(self) -> &'static str {
         match self {
-            Self::DisjointAntecedent => "two of the disjoint concepts gave no rule",
-            Self::DisjointUnionMember => "a member of the union gave no rule that it is part of it",
+            Self::DisjointAntecedent => {
+                "no rule says of two of the disjoint concepts that nothing is both"
+            }
+            Self::DisjointUnionMember => {
+                "no rule says that a member of the union is part of it, nor that it shares nothing with the others"
+            }
             Self::DisjointUnionCovering => {
                 "no rule says that the union has no more than its members"
             }
             Self::RoleChainLenNe2 => "the chain has not two parts and gave no rule",
-            Self::Antecedent => "the inclusion's left side gave no rule",
+            Self::Antecedent => {
+                "the inclusion gave no rule, since its left side has over 64 alternatives"
+            }
             Self::HeadOrDisjunct => "an alternative of the right side gave no rule",
             Self::HeadExistsInner => "the filler of the right side's Some gave no rule",
             Self::HeadNotNonatomic => "a negated compound concept on the right side gave no rule",
             Self::ReflexiveDerivedCap => {
-                "reflexive roles would give more than 4,096 further rules; those beyond are left out"
+                "reflexive roles would give more than 4,096 further rules, and those beyond are left out"
             }
         }
     }
@@ -130,6 +138,15 @@ mod tests {
         }
         assert_eq!(DeferralKind::of_number(0), None);
         assert_eq!(DeferralKind::of_number(10), None);
+    }
+
+    #[test]
+    fn each_kind_has_words_and_a_name_of_its_own() {
+        for (place, kind) in DeferralKind::ALL.into_iter().enumerate() {
+            for other in &DeferralKind::ALL[..place] {
+                assert!(kind.words() != other.words() && kind.name() != other.name());
+            }
+        }
     }
 
     #[test]

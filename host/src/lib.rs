@@ -1,7 +1,7 @@
 //! A safe wrapper of Gorvask, the proved clausifier: from a deck of axioms to DL-clauses.
 //!
 //! ```
-//! use gorvask::{Atom, Clausifier, Role};
+//! use gorvask::{Atom, Clausifier, OwnedClause, Role};
 //!
 //! // A0 below Some r0 A1
 //! let deck = concat!(
@@ -13,30 +13,49 @@
 //! );
 //! let mut clausifier = Clausifier::new();
 //! let clauses = clausifier.clausify(deck.as_bytes())?;
-//! for clause in &clauses {
+//! for clause in clauses {
 //!     assert_eq!(clause.body().collect::<Vec<_>>(), [Atom::Class(0, 0)]);
 //!     assert_eq!(clause.head().collect::<Vec<_>>(), [Atom::Exists(Role::Named(0), 1, 0)]);
-//!     assert_eq!(clauses.text(clause).to_string(), "A0(x) → ∃r0.A1(x)");
+//!     assert_eq!(clause.to_string(), "A0(x) → ∃r0.A1(x)");
 //! }
+//! assert!(clauses.provisos().are_met());
+//! let kept: Vec<OwnedClause> = clauses.into_iter().map(OwnedClause::from).collect();
+//! # assert_eq!(kept.len(), 1);
 //! # Ok::<(), gorvask::Refusal>(())
 //! ```
+//!
+//! Checking and documenting this package needs no static library, and neither do the tests of this library target
+//! (`cargo test --lib`). What is linked needs it: `rt staticlib clausify` in the repository writes it.
 
 mod atom;
+mod clause;
 mod clauses;
 mod clausifier;
 mod deferral;
+pub mod diagnosis;
+mod fields;
 mod header;
+mod keys;
+mod names;
+mod notation;
+mod owned;
+mod provisos;
 mod refusal;
+mod sizes;
 mod statistics;
 pub mod sys;
-mod text;
+mod tables;
 mod words;
 
 pub use atom::{Atom, ClassId, Role, RoleId, Var, X};
-pub use clauses::{Atoms, ClassName, Clause, Clauses, Iter};
-pub use clausifier::{Clausifier, Sizes};
+pub use clause::{Atoms, Clause};
+pub use clauses::{Clauses, Iter};
+pub use clausifier::Clausifier;
 pub use deferral::{Deferral, DeferralKind};
-pub use header::Header;
-pub use refusal::Refusal;
+pub use header::{ClassName, Header};
+pub use names::{Names, NamesError};
+pub use owned::OwnedClause;
+pub use provisos::Provisos;
+pub use refusal::{Refusal, RefusalKind};
+pub use sizes::Sizes;
 pub use statistics::Statistics;
-pub use text::Text;

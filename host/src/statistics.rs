@@ -46,4 +46,32 @@ impl Statistics {
             refused,
         }
     }
+
+    /// The eight numbers in their order.
+    #[must_use]
+    pub fn words(self) -> [u32; 8] {
+        [
+            self.total,
+            self.horn,
+            self.disjunctive,
+            self.bottom_headed,
+            self.with_exists_head,
+            self.deferred,
+            self.decomposed,
+            self.refused,
+        ]
+    }
+}
+
+#[cfg(test)]
+mod tests {
+    use super::Statistics;
+
+    #[test]
+    fn words_in_their_order() {
+        let words = [1, 2, 3, 4, 5, 6, 7, 8];
+        let statistics = Statistics::of_words(words);
+        assert_eq!((statistics.total, statistics.refused), (1, 8));
+        assert_eq!(statistics.words(), words);
+    }
 }

@@ -11,6 +11,7 @@ pub const NUMBERS_BYTES: usize = 40;
 /// The least that scratch has.
 pub const SCRATCH_BYTES: usize = 1_572_864;
 
+#[cfg(any(gorvask_linked, not(test)))]
 unsafe extern "C" {
     /// Clausifies a deck into lent tables. The reply is 0, or a refusal's number × 2^32 + line.
     ///
@@ -18,6 +19,11 @@ unsafe extern "C" {
     /// Each pointer is followed by so many bytes, which may be read, and but for the deck's written; it may be null where
     /// these are none. The six do not overlap, and nothing else uses the tables during the call. The bytes may hold
     /// anything.
+    // Where there is no library to link, the linker misses a name that says so.
+    #[cfg_attr(
+        not(gorvask_linked),
+        link_name = "libclausify.a_is_missing__run__rt_staticlib_clausify__or_set_GORVASK_STATICLIB"
+    )]
     pub fn gorvask_clausify_with_stats(
         deck: *const u8,
         deck_len: usize,
@@ -32,4 +38,30 @@ unsafe extern "C" {
         scratch: *mut u8,
         scratch_len: usize,
     ) -> u64;
+}
+
+#[cfg(all(test, not(gorvask_linked)))]
+pub use tests::gorvask_clausify_with_stats;
+
+#[cfg(test)]
+mod tests {
+    /// In place of the library, so that the tests which do not call it can be linked without it.
+    #[cfg(not(gorvask_linked))]
+    #[expect(clippy::too_many_arguments, reason = "the interface has so many")]
+    pub unsafe extern "C" fn gorvask_clausify_with_stats(
+        _: *const u8,
+        _: usize,
+        _: *mut u8,
+        _: usize,
+        _: *mut u8,
+        _: usize,
+        _: *mut u8,
+        _: usize,
+        _: *mut u8,
+        _: usize,
+        _: *mut u8,
+        _: usize,
+    ) -> u64 {
+        unreachable!("a test of the library target calls no library")
+    }
 }

@@ -6,22 +6,37 @@ use common::{deck, equivalent, refused, texts, worked};
 use gorvask::{Clausifier, Sizes};
 
 #[test]
-fn tables_double_until_the_deck_has_room() {
+fn tables_grow_to_what_the_deck_needs() {
     let mut clausifier = Clausifier::new();
     assert_eq!(clausifier.sizes(), Sizes::FIRST);
     let clauses = clausifier.clausify(&equivalent(128, 1)).expect("accepted");
     assert_eq!(clauses.len(), 128 * 127);
+    let needed = Sizes {
+        clauses: 128 * 127,
+        atoms: 2 * 128 * 127,
+        deferrals: 0,
+    };
+    assert_eq!(clauses.sizes(), needed);
     let last = clauses.get(128 * 127 - 1).expect("the last clause");
-    assert_eq!(clauses.text(last).to_string(), "A127(x) → A126(x)");
+    assert_eq!(last.to_string(), "A127(x) → A126(x)");
     let grown = Sizes {
-        clauses: 16 * Sizes::FIRST.clauses,
-        atoms: 16 * Sizes::FIRST.atoms,
-        deferrals: 16 * Sizes::FIRST.deferrals,
+        clauses: 16_384,
+        atoms: 32_768,
+        deferrals: Sizes::FIRST.deferrals,
     };
     assert_eq!(clausifier.sizes(), grown);
     // They stay so.
     clausifier.clausify(&worked()).expect("accepted");
     assert_eq!(clausifier.sizes(), grown);
+}
+
+#[test]
+fn the_answer_is_whole_after_growth() {
+    let enough = Clausifier::with_sizes(Sizes::LARGEST)
+        .clausify(&equivalent(128, 1))
+        .map(texts);
+    let grown = Clausifier::new().clausify(&equivalent(128, 1)).map(texts);
+    assert!(enough.is_ok_and(|texts| grown == Ok(texts)));
 }
 
 #[test]
@@ -31,29 +46,49 @@ fn just_enough_room_is_not_made_larger() {
         atoms: 60,
         deferrals: 0,
     };
-    let mut clausifier = Clausifier::with_sizes(enough);
+    let six = |sizes: Sizes| {
+        let mut clausifier = Clausifier::with_sizes(sizes);
+        let clauses = clausifier.clausify(&equivalent(6, 1)).map(|c| c.len());
+        assert_eq!(clauses, Ok(30));
+        clausifier.sizes()
+    };
+    assert_eq!(six(enough), enough);
+    let fewer_clauses = Sizes {
+        clauses: 29,
+        ..enough
+    };
     assert_eq!(
-        clausifier.clausify(&equivalent(6, 1)).map(|c| c.len()),
-        Ok(30)
+        six(fewer_clauses),
+        Sizes {
+            clauses: 32,
+            ..enough
+        }
     );
-    assert_eq!(clausifier.sizes(), enough);
-    for short in [
+    let fewer_atoms = Sizes {
+        atoms: 59,
+        ..enough
+    };
+    assert_eq!(
+        six(fewer_atoms),
         Sizes {
-            clauses: 29,
+            atoms: 64,
             ..enough
-        },
-        Sizes {
-            atoms: 59,
-            ..enough
-        },
-    ] {
-        let mut clausifier = Clausifier::with_sizes(short);
-        assert_eq!(
-            clausifier.clausify(&equivalent(6, 1)).map(|c| c.len()),
-            Ok(30)
-        );
-        assert_eq!(clausifier.sizes().clauses, 2 * short.clauses);
-    }
+        }
+    );
+}
+
+#[test]
+fn fixed_tables_do_not_grow() {
+    let mut clausifier = Clausifier::with_sizes(Sizes::LISTER);
+    let refusal = clausifier
+        .clausify_fixed(&equivalent(40, 1))
+        .expect_err("refused");
+    assert_eq!((refusal.number(), refusal.line()), (12, Some(42)));
+    assert_eq!(clausifier.sizes(), Sizes::LISTER);
+    let clauses = clausifier.clausify_fixed(&worked()).expect("accepted");
+    assert_eq!(texts(clauses), ["A0(x) → ∃r0.A1(x)"]);
+    let clauses = clausifier.clausify(&equivalent(40, 1)).expect("accepted");
+    assert_eq!(clauses.len(), 40 * 39);
 }
 
 #[test]
@@ -69,7 +104,13 @@ fn deferrals_have_room_made_too() {
     let mut lines: Vec<u32> = clauses.deferrals().filter_map(|d| d.line).collect();
     lines.sort_unstable();
     assert!(lines.into_iter().eq(2..42));
-    assert_eq!(clausifier.sizes().deferrals, 64);
+    assert_eq!(
+        clausifier.sizes(),
+        Sizes {
+            deferrals: 64,
+            ..Sizes::FIRST
+        }
+    );
 }
 
 #[test]
@@ -94,11 +135,17 @@ fn the_largest_tables_are_used_to_their_end() {
     let mut clausifier = Clausifier::new();
     let clauses = clausifier.clausify(&text).expect("accepted");
     assert_eq!(clauses.len(), 65_536);
-    assert_eq!(clausifier.sizes(), Sizes::LARGEST);
+    let grown = Sizes {
+        clauses: 65_536,
+        atoms: 131_072,
+        ..Sizes::FIRST
+    };
+    assert_eq!(clausifier.sizes(), grown);
     // One more has no room.
     text.extend(deck(&[vec![29, 0]]));
     let refusal = clausifier.clausify(&text).expect_err("refused");
     assert_eq!((refusal.number(), refusal.line()), (12, Some(646)));
+    assert_eq!(clausifier.sizes(), grown);
 }
 
 #[test]

@@ -98,6 +98,8 @@ fn long_body() -> (u32, Option<u32>, Vec<u8>) {
 
 /// The clauses in logical notation.
 pub fn texts(clauses: Clauses<'_>) -> Vec<String> {
-    let text = |clause| clauses.text(clause).to_string();
-    clauses.iter().map(text).collect()
+    clauses
+        .into_iter()
+        .map(|clause| clause.to_string())
+        .collect()
 }

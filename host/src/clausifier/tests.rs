@@ -1,0 +1,157 @@
+//! Growth, with a stand-in for the library that counts its calls.
+
+use super::Clausifier;
+use crate::refusal::Refusal;
+use crate::sizes::Sizes;
+use crate::tables::Tables;
+
+const NO_ROOM: u64 = (12 << 32) + 7;
+
+/// A deck with a header, of so many bytes.
+fn deck(bytes: usize) -> Vec<u8> {
+    let mut text = format!("{:11}{:11}{:11}{:11}{:11}\n", 0, 1, 0, 0, 0);
+    text.push_str(&" ".repeat(bytes.saturating_sub(text.len())));
+    text.into_bytes()
+}
+
+fn sizes(clauses: usize, atoms: usize, deferrals: usize) -> Sizes {
+    Sizes {
+        clauses,
+        atoms,
+        deferrals,
+    }
+}
+
+/// A library that asks for some room on its way, and whose answer has so many clauses, each of one atom, and deferrals.
+struct Library {
+    asks: Sizes,
+    clauses: u32,
+    deferrals: u32,
+    lent: Vec<Sizes>,
+}
+
+impl Library {
+    fn new(asks: Sizes, clauses: u32, deferrals: u32) -> Self {
+        Self {
+            asks,
+            clauses,
+            deferrals,
+            lent: Vec::new(),
+        }
+    }
+
+    fn call(&mut self, tables: &mut Tables) -> u64 {
+        self.lent.push(tables.sizes());
+        if tables.sizes().at_least(self.asks) != tables.sizes() {
+            return NO_ROOM;
+        }
+        let clause = |first: u32| [first, 0, 1];
+        tables.fill(
+            &(0..self.clauses).flat_map(clause).collect::<Vec<_>>(),
+            &[1, 0, 1, 0, 0, 0].repeat(self.clauses as usize),
+            &[9, 4].repeat(self.deferrals as usize),
+            [self.clauses, 0, 0, 0, 0, self.deferrals, 0, 0, 0, 0],
+        );
+        0
+    }
+
+    /// How many clauses the deck has, or its refusal.
+    fn ask(&mut self, clausifier: &mut Clausifier, bytes: usize) -> Result<usize, Refusal> {
+        self.lent.clear();
+        let answer = clausifier.clausify_by(&deck(bytes), |tables, _| self.call(tables))?;
+        assert_eq!(
+            answer
+                .iter()
+                .map(|clause| clause.head().len())
+                .sum::<usize>(),
+            answer.len()
+        );
+        assert_eq!(answer.deferrals().len(), self.deferrals as usize);
+        Ok(answer.len())
+    }
+}
+
+#[test]
+fn one_call_where_there_is_room() {
+    let mut clausifier = Clausifier::new();
+    let mut library = Library::new(Sizes::FIRST, 1_024, 3);
+    assert_eq!(library.ask(&mut clausifier, 100), Ok(1_024));
+    assert_eq!(library.lent, [Sizes::FIRST]);
+}
+
+#[test]
+fn a_long_deck_is_lent_more_at_once() {
+    let mut clausifier = Clausifier::new();
+    let mut library = Library::new(sizes(2_000, 7_000, 5), 1_500, 5);
+    assert_eq!(library.ask(&mut clausifier, 50_000), Ok(1_500));
+    assert_eq!(library.lent, [sizes(4_096, 16_384, 1_024)]);
+    // Whoever says sizes gets them.
+    let mut clausifier = Clausifier::with_sizes(sizes(2_000, 7_000, 5));
+    assert_eq!(library.ask(&mut clausifier, 50_000), Ok(1_500));
+    assert_eq!(library.lent, [sizes(2_000, 7_000, 5)]);
+}
+
+#[test]
+fn a_second_call_has_the_largest_and_what_is_needed_is_kept() {
+    let mut clausifier = Clausifier::new();
+    let mut library = Library::new(sizes(5_000, 5_000, 9), 5_000, 9);
+    assert_eq!(library.ask(&mut clausifier, 100), Ok(5_000));
+    assert_eq!(library.lent, [Sizes::FIRST, Sizes::LARGEST]);
+    assert_eq!(clausifier.sizes(), sizes(8_192, 8_192, 1_024));
+    assert_eq!(library.ask(&mut clausifier, 100), Ok(5_000));
+    assert_eq!(library.lent.len(), 1);
+}
+
+#[test]
+fn room_that_the_answer_does_not_show() {
+    // The answer fits, the way to it does not: the same deck asks for a second call once and never again.
+    let mut clausifier = Clausifier::new();
+    let mut library = Library::new(sizes(0, 100_000, 0), 10, 0);
+    assert_eq!(library.ask(&mut clausifier, 100), Ok(10));
+    assert_eq!(clausifier.sizes(), Sizes::LARGEST);
+    assert_eq!(library.ask(&mut clausifier, 100), Ok(10));
+    assert_eq!(library.lent, [Sizes::LARGEST]);
+}
+
+#[test]
+fn a_refusal_takes_two_calls_at_most_and_leaves_the_sizes() {
+    let never = sizes(usize::MAX, 0, 0);
+    for (bytes, first) in [(100, Sizes::FIRST), (60_000, sizes(4_096, 16_384, 1_024))] {
+        let mut clausifier = Clausifier::new();
+        let mut library = Library::new(never, 0, 0);
+        let refusal = library.ask(&mut clausifier, bytes).expect_err("refused");
+        assert_eq!((refusal.number(), refusal.line()), (12, Some(7)));
+        assert_eq!(library.lent, [first, Sizes::LARGEST]);
+        assert_eq!(clausifier.sizes(), Sizes::FIRST);
+    }
+    let mut clausifier = Clausifier::with_sizes(Sizes::LARGEST);
+    let mut library = Library::new(never, 0, 0);
+    assert!(library.ask(&mut clausifier, 100).is_err());
+    assert_eq!(library.lent, [Sizes::LARGEST]);
+}
+
+#[test]
+fn other_refusals_take_one_call() {
+    for number in (1..12).chain(13..15) {
+        let mut calls = 0;
+        let refused = Clausifier::new()
+            .clausify_by(&deck(60_000), |_, _| {
+                calls += 1;
+                (number << 32) + 3
+            })
+            .map(|clauses| clauses.len());
+        assert_eq!(
+            refused.map_err(|refusal| u64::from(refusal.number())),
+            Err(number)
+        );
+        assert_eq!(calls, 1);
+    }
+}
+
+#[test]
+fn reserved_room_is_lent() {
+    let mut clausifier = Clausifier::with_sizes(sizes(0, 0, 0));
+    clausifier.reserve(sizes(10, 0, 0));
+    clausifier.reserve(sizes(5, 20, usize::MAX));
+    assert_eq!(clausifier.sizes(), sizes(10, 20, 65_536));
+}

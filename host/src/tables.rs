@@ -1,0 +1,104 @@
+//! The tables that are lent, and one call.
+
+use crate::sizes::Sizes;
+use crate::sys::{self, ATOM_BYTES, CLAUSE_BYTES, DEFERRAL_BYTES, NUMBERS_BYTES, SCRATCH_BYTES};
+
+/// The five tables of a call.
+#[derive(Clone)]
+pub(crate) struct Tables {
+    clauses: Vec<u8>,
+    atoms: Vec<u8>,
+    deferrals: Vec<u8>,
+    numbers: [u8; NUMBERS_BYTES],
+    scratch: Vec<u8>,
+}
+
+impl Tables {
+    pub fn new(sizes: Sizes) -> Self {
+        Self {
+            clauses: vec![0; CLAUSE_BYTES * sizes.clauses],
+            atoms: vec![0; ATOM_BYTES * sizes.atoms],
+            deferrals: vec![0; DEFERRAL_BYTES * sizes.deferrals],
+            numbers: [0; NUMBERS_BYTES],
+            scratch: vec![0; SCRATCH_BYTES],
+        }
+    }
+
+    pub fn sizes(&self) -> Sizes {
+        Sizes {
+            clauses: self.clauses.len() / CLAUSE_BYTES,
+            atoms: self.atoms.len() / ATOM_BYTES,
+            deferrals: self.deferrals.len() / DEFERRAL_BYTES,
+        }
+    }
+
+    /// The tables of clauses, atoms and deferrals.
+    pub fn records(&self) -> [&[u8]; 3] {
+        [&self.clauses, &self.atoms, &self.deferrals]
+    }
+
+    pub fn numbers(&self) -> &[u8; NUMBERS_BYTES] {
+        &self.numbers
+    }
+
+    /// Makes each table as large as said. One that becomes smaller keeps the records for which it has room, one that becomes
+    /// larger keeps nothing.
+    pub fn resize(&mut self, sizes: Sizes) {
+        for (table, bytes) in [
+            (&mut self.clauses, CLAUSE_BYTES * sizes.clauses),
+            (&mut self.atoms, ATOM_BYTES * sizes.atoms),
+            (&mut self.deferrals, DEFERRAL_BYTES * sizes.deferrals),
+        ] {
+            if bytes > table.len() {
+                *table = vec![0; bytes];
+            } else if bytes < table.len() {
+                table.truncate(bytes);
+                table.shrink_to_fit();
+            }
+        }
+    }
+
+    /// What a call could leave, as words.
+    #[cfg(test)]
+    pub fn fill(&mut self, clauses: &[u32], atoms: &[u32], deferrals: &[u32], numbers: [u32; 10]) {
+        for (table, words) in [
+            (&mut self.clauses[..], clauses),
+            (&mut self.atoms, atoms),
+            (&mut self.deferrals, deferrals),
+            (&mut self.numbers, &numbers),
+        ] {
+            for (bytes, word) in table.chunks_exact_mut(4).zip(words) {
+                bytes.copy_from_slice(&word.to_le_bytes());
+            }
+        }
+    }
+
+    /// One call with the tables as they are.
+    pub fn call(&mut self, deck: &[u8]) -> u64 {
+        let Self {
+            clauses,
+            atoms,
+            deferrals,
+            numbers,
+            scratch,
+        } = self;
+        // SAFETY: each pointer comes with its slice's length; the tables are borrowed as mutable, so that they overlap
+        // neither one another nor the deck, and nothing else uses them.
+        unsafe {
+            sys::gorvask_clausify_with_stats(
+                deck.as_ptr(),
+                deck.len(),
+                clauses.as_mut_ptr(),
+                clauses.len(),
+                atoms.as_mut_ptr(),
+                atoms.len(),
+                deferrals.as_mut_ptr(),
+                deferrals.len(),
+                numbers.as_mut_ptr(),
+                numbers.len(),
+                scratch.as_mut_ptr(),
+                scratch.len(),
+            )
+        }
+    }
+}
