@@ -1,0 +1,17 @@
+//! What is said after an accepted run.
+
+use gorvask::Clauses;
+
+use crate::deck::Deck;
+use crate::ended::{Failure, Status, tell};
+
+/// One line on standard error: whether no rule of the deck is lost or weakened, and if not, why.
+pub fn promise(deck: &Deck, clauses: &Clauses<'_>) -> Result<Status, Failure> {
+    let provisos = clauses.provisos();
+    tell(&format!("{}: accepted, {provisos}", deck.name))?;
+    Ok(if provisos.are_met() {
+        Status::Whole
+    } else {
+        Status::NotWhole
+    })
+}

@@ -1,0 +1,79 @@
+//! `gorvask list`: the listing, rows of numbers.
+
+use std::io::{self, Write};
+
+use gorvask::{Clauses, Clausifier, Refusal, Sizes};
+
+use crate::accepted::promise;
+use crate::arguments::{Arguments, Form};
+use crate::deck::Deck;
+use crate::ended::{Failure, Status};
+use crate::output;
+use crate::refused::{Lent, explain};
+use crate::subcommand::Subcommand;
+
+const LISTER_TABLES: &str = "--lister-tables";
+
+pub const SUBCOMMAND: Subcommand = Subcommand {
+    name: "list",
+    options: &[Form {
+        name: LISTER_TABLES,
+        value: None,
+    }],
+    run,
+};
+
+fn run(arguments: &Arguments) -> Result<Status, Failure> {
+    let deck = Deck::read(arguments.deck())?;
+    if arguments.option(LISTER_TABLES).is_some() {
+        let mut clausifier = Clausifier::with_sizes(Sizes::LISTER);
+        answer(&deck, clausifier.clausify_fixed(&deck.bytes), Lent::Lister)
+    } else {
+        let mut clausifier = Clausifier::new();
+        answer(&deck, clausifier.clausify(&deck.bytes), Lent::Largest)
+    }
+}
+
+fn answer(
+    deck: &Deck,
+    answer: Result<Clauses<'_>, Refusal>,
+    lent: Lent,
+) -> Result<Status, Failure> {
+    match answer {
+        Ok(clauses) => {
+            output::write(|out| accepted(&clauses, out))?;
+            promise(deck, &clauses)
+        }
+        Err(refusal) => {
+            let numbers = [49, refusal.number(), refusal.line().unwrap_or(0)];
+            output::write(|out| row(out, numbers))?;
+            explain(deck, refusal, lent)
+        }
+    }
+}
+
+/// 41 for each clause, 42 for each atom, then 43.
+fn accepted(clauses: &Clauses<'_>, out: &mut dyn Write) -> io::Result<()> {
+    for (number, clause) in (0..).zip(clauses) {
+        let [body, head] = [clause.body().len(), clause.head().len()].map(count);
+        row(out, [41, number, body, head])?;
+        for atom in clause.body().chain(clause.head()) {
+            row(out, std::iter::once(42).chain(atom.words()))?;
+        }
+    }
+    let numbers = clauses.statistics().words();
+    let behind = [clauses.fresh_ids(), clauses.visits()];
+    row(out, std::iter::once(43).chain(numbers).chain(behind))
+}
+
+/// Numbers in 11 columns each.
+fn row(out: &mut dyn Write, numbers: impl IntoIterator<Item = u32>) -> io::Result<()> {
+    for number in numbers {
+        write!(out, "{number:11}")?;
+    }
+    out.write_all(b"\n")
+}
+
+fn count(atoms: usize) -> u32 {
+    u32::try_from(atoms).expect("a side has at most 256 atoms")
+}

@@ -1,0 +1,59 @@
+//! The command `gorvask`; `help.txt` says what it does.
+
+mod accepted;
+mod arguments;
+mod check;
+mod deck;
+mod ended;
+mod list;
+mod output;
+mod refused;
+mod subcommand;
+mod summary;
+mod text;
+mod version;
+
+use std::env;
+use std::ffi::{OsStr, OsString};
+use std::io::{self, Write};
+use std::panic;
+use std::process::ExitCode;
+
+use ended::{Failure, Status};
+
+const HELP: &str = include_str!("help.txt");
+
+fn main() -> ExitCode {
+    let words: Vec<OsString> = env::args_os().skip(1).collect();
+    let ended = panic::catch_unwind(|| start(&words).unwrap_or_else(Failure::tell));
+    ExitCode::from(ended.unwrap_or(Status::Failed) as u8)
+}
+
+fn start(words: &[OsString]) -> Result<Status, Failure> {
+    let Some((first, rest)) = words.split_first() else {
+        io::stderr().write_all(HELP.as_bytes())?;
+        return Ok(Status::BadInput);
+    };
+    if is_help(first)
+        || rest
+            .iter()
+            .take_while(|word| *word != "--")
+            .any(|word| is_help(word))
+    {
+        return print(HELP);
+    }
+    match first.to_str() {
+        Some("--version" | "-V") if rest.is_empty() => print(&version::text()),
+        Some("help") if rest.is_empty() => print(HELP),
+        _ => subcommand::run(first, rest),
+    }
+}
+
+fn is_help(word: &OsStr) -> bool {
+    word == "--help" || word == "-h"
+}
+
+fn print(text: &str) -> Result<Status, Failure> {
+    output::write(|out| out.write_all(text.as_bytes()))?;
+    Ok(Status::Whole)
+}

@@ -1,0 +1,114 @@
+//! What is said after a refusal.
+
+use gorvask::diagnosis::{Diagnosis, diagnose};
+use gorvask::{Refusal, RefusalKind};
+
+use crate::deck::Deck;
+use crate::ended::{Failure, Status, tell};
+
+/// The most bytes of a line that are shown.
+const SHOWN: usize = 220;
+
+/// The tables that were lent last.
+#[derive(Clone, Copy)]
+pub enum Lent {
+    Largest,
+    Lister,
+}
+
+impl Lent {
+    fn words(self) -> &'static str {
+        match self {
+            Self::Largest => {
+                "the largest tables were lent: 65,536 clauses, 262,144 atoms and 65,536 deferrals"
+            }
+            Self::Lister => "the lister's tables were lent: without --lister-tables they grow",
+        }
+    }
+}
+
+/// Lines on standard error: number, line, what is wrong, what to do, the line's text, and the cause where it is known.
+pub fn explain(deck: &Deck, refusal: Refusal, lent: Lent) -> Result<Status, Failure> {
+    let number = refusal.number();
+    let place = refusal
+        .line()
+        .map_or(String::new(), |line| format!(", line {line}"));
+    tell(&format!(
+        "{}: refused by number {number}{place}: {}",
+        deck.name,
+        refusal.wrong()
+    ))?;
+    tell(&format!("to do: {}", refusal.remedy()))?;
+    if refusal.kind() == RefusalKind::NoRoom {
+        tell(lent.words())?;
+    }
+    if let Some(line) = refusal.line() {
+        tell(&shown(line, deck.line(line)))?;
+    }
+    if let Some(diagnosis) = diagnose(&deck.bytes).filter(|found| agrees(found, refusal)) {
+        let column = diagnosis
+            .column
+            .map_or(String::new(), |column| format!("column {column}: "));
+        tell(&format!(
+            "cause, by a reading that is not proved: {column}{diagnosis}"
+        ))?;
+    }
+    Ok(Status::Refused)
+}
+
+/// Whether a reading that nothing proves found what the library found.
+fn agrees(diagnosis: &Diagnosis, refusal: Refusal) -> bool {
+    diagnosis.number == refusal.number() && diagnosis.line == refusal.line().unwrap_or(0)
+}
+
+/// The line's text, all signs but plain ones escaped.
+fn shown(number: u32, line: Option<&[u8]>) -> String {
+    match line {
+        None => "the deck is empty".to_owned(),
+        Some([]) => format!("line {number} is empty"),
+        Some(line) if line.len() <= SHOWN => format!("line {number} is: {}", line.escape_ascii()),
+        Some(line) => format!(
+            "line {number} has {} bytes and begins: {}",
+            line.len(),
+            line[..SHOWN].escape_ascii()
+        ),
+    }
+}
+
+#[cfg(test)]
+mod tests {
+    use super::{Diagnosis, Refusal, agrees, shown};
+
+    #[test]
+    fn a_line_as_it_is() {
+        assert_eq!(
+            shown(3, Some(b"         21          0")),
+            "line 3 is:          21          0"
+        );
+        assert_eq!(shown(3, Some(b"\t21\r")), "line 3 is: \\t21\\r");
+        assert_eq!(shown(3, Some(b"")), "line 3 is empty");
+        assert_eq!(shown(1, None), "the deck is empty");
+        let long = shown(7, Some(&[b'1'; 1_000]));
+        assert_eq!(
+            long,
+            format!("line 7 has 1000 bytes and begins: {}", "1".repeat(220))
+        );
+    }
+
+    #[test]
+    fn a_cause_is_told_only_where_both_agree() {
+        let diagnosis = |number, line| Diagnosis {
+            number,
+            line,
+            column: None,
+            cause: String::new(),
+        };
+        let refusal = Refusal::of_reply((5 << 32) + 9).expect("a refusal");
+        assert!(agrees(&diagnosis(5, 9), refusal));
+        assert!(!agrees(&diagnosis(5, 8), refusal));
+        assert!(!agrees(&diagnosis(4, 9), refusal));
+        let of_no_line = Refusal::of_reply(2 << 32).expect("a refusal");
+        assert!(agrees(&diagnosis(2, 0), of_no_line));
+        assert!(!agrees(&diagnosis(2, 1), of_no_line));
+    }
+}
