@@ -23,7 +23,7 @@ pub enum Status {
 pub enum Failure {
     /// The arguments are wrong.
     Usage(String),
-    /// A file cannot be read, or is no file of names.
+    /// A file cannot be read, or has no names.
     Input(String),
     /// An output cannot be written.
     Write(io::Error),

@@ -23,6 +23,12 @@ use ended::{Failure, Status};
 
 const HELP: &str = include_str!("help.txt");
 
+/// The part of the help that is enough to start.
+fn start_help() -> String {
+    let start = HELP.split("\nOptions:").next().unwrap_or(HELP);
+    format!("{start}\n'gorvask --help' says more.\n")
+}
+
 fn main() -> ExitCode {
     let words: Vec<OsString> = env::args_os().skip(1).collect();
     let ended = panic::catch_unwind(|| start(&words).unwrap_or_else(Failure::tell));
@@ -31,7 +37,7 @@ fn main() -> ExitCode {
 
 fn start(words: &[OsString]) -> Result<Status, Failure> {
     let Some((first, rest)) = words.split_first() else {
-        io::stderr().write_all(HELP.as_bytes())?;
+        io::stderr().write_all(start_help().as_bytes())?;
         return Ok(Status::BadInput);
     };
     if is_help(first)
@@ -43,8 +49,9 @@ fn start(words: &[OsString]) -> Result<Status, Failure> {
         return print(HELP);
     }
     match first.to_str() {
+        Some("help") => print(HELP),
         Some("--version" | "-V") if rest.is_empty() => print(&version::text()),
-        Some("help") if rest.is_empty() => print(HELP),
+        Some("--version" | "-V") => Err(Failure::Usage("--version stands alone".to_owned())),
         _ => subcommand::run(first, rest),
     }
 }

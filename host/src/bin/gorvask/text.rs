@@ -19,7 +19,7 @@ use company::Company;
 
 const NAMES: &str = "--names";
 
-/// The most bytes of a file of names.
+/// The most bytes of a names file.
 const MOST: usize = 1 << 20;
 
 pub const SUBCOMMAND: Subcommand = Subcommand {
@@ -47,7 +47,7 @@ fn run(arguments: &Arguments) -> Result<Status, Failure> {
 }
 
 fn read_names(file: &OsStr) -> Result<Names, Failure> {
-    let bytes = read_file(file, "file of names", MOST as u64 + 1)?;
+    let bytes = read_file(file, "names file", MOST as u64 + 1)?;
     if bytes.len() > MOST {
         return Err(bad_names(file, &format!("it has over {MOST} bytes")));
     }

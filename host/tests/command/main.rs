@@ -1,0 +1,13 @@
+//! The command as a process: arguments, statuses, standard output and error.
+
+#[path = "../common/mod.rs"]
+mod common;
+
+mod answers;
+mod input;
+mod names;
+mod process;
+mod promise;
+mod refusals;
+mod usage;
+mod writes;
