@@ -1,8 +1,9 @@
 //! `gorvask list`: the listing, rows of numbers.
 
 use std::io::{self, Write};
+use std::iter::once;
 
-use gorvask::{Clauses, Clausifier, Refusal, Sizes};
+use gorvask::{Clause, Clauses, Clausifier, Refusal, Sizes};
 
 use crate::accepted::promise;
 use crate::arguments::{Arguments, Form};
@@ -52,18 +53,22 @@ fn answer(
     }
 }
 
-/// 41 for each clause, 42 for each atom, then 43.
+/// The clauses, then 43 with the numbers.
 fn accepted(clauses: &Clauses<'_>, out: &mut dyn Write) -> io::Result<()> {
-    for (number, clause) in (0..).zip(clauses) {
-        let [body, head] = [clause.body().len(), clause.head().len()].map(count);
-        row(out, [41, number, body, head])?;
-        for atom in clause.body().chain(clause.head()) {
-            row(out, std::iter::once(42).chain(atom.words()))?;
-        }
+    for (number, listed) in (0..).zip(clauses) {
+        clause(out, number, listed)?;
     }
     let numbers = clauses.statistics().words();
     let behind = [clauses.fresh_ids(), clauses.visits()];
-    row(out, std::iter::once(43).chain(numbers).chain(behind))
+    row(out, once(43).chain(numbers).chain(behind))
+}
+
+/// 41 for the clause, 42 for each atom.
+fn clause(out: &mut dyn Write, number: u32, clause: Clause<'_>) -> io::Result<()> {
+    let [body, head] = [clause.body().len(), clause.head().len()].map(count);
+    row(out, [41, number, body, head])?;
+    let mut atoms = clause.body().chain(clause.head());
+    atoms.try_for_each(|atom| row(out, once(42).chain(atom.words())))
 }
 
 /// Numbers in 11 columns each.

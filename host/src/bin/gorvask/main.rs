@@ -14,7 +14,7 @@ mod text;
 mod version;
 
 use std::env;
-use std::ffi::{OsStr, OsString};
+use std::ffi::OsString;
 use std::io::{self, Write};
 use std::panic;
 use std::process::ExitCode;
@@ -22,12 +22,6 @@ use std::process::ExitCode;
 use ended::{Failure, Status};
 
 const HELP: &str = include_str!("help.txt");
-
-/// The part of the help that is enough to start.
-fn start_help() -> String {
-    let start = HELP.split("\nOptions:").next().unwrap_or(HELP);
-    format!("{start}\n'gorvask --help' says more.\n")
-}
 
 fn main() -> ExitCode {
     let words: Vec<OsString> = env::args_os().skip(1).collect();
@@ -40,12 +34,8 @@ fn start(words: &[OsString]) -> Result<Status, Failure> {
         io::stderr().write_all(start_help().as_bytes())?;
         return Ok(Status::BadInput);
     };
-    if is_help(first)
-        || rest
-            .iter()
-            .take_while(|word| *word != "--")
-            .any(|word| is_help(word))
-    {
+    let mut options = words.iter().take_while(|word| *word != "--");
+    if options.any(|word| word == "--help" || word == "-h") {
         return print(HELP);
     }
     match first.to_str() {
@@ -56,11 +46,13 @@ fn start(words: &[OsString]) -> Result<Status, Failure> {
     }
 }
 
-fn is_help(word: &OsStr) -> bool {
-    word == "--help" || word == "-h"
-}
-
 fn print(text: &str) -> Result<Status, Failure> {
     output::write(|out| out.write_all(text.as_bytes()))?;
     Ok(Status::Whole)
+}
+
+/// The part of the help that is enough to start.
+fn start_help() -> String {
+    let start = HELP.split("\nOptions:").next().unwrap_or(HELP);
+    format!("{start}\n'gorvask --help' says more.\n")
 }

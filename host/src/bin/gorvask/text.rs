@@ -67,18 +67,30 @@ fn bad_names(file: &OsStr, words: &str) -> Failure {
     Failure::Input(format!("{}: {words}", file.to_string_lossy()))
 }
 
-/// Each clause with its number, under it what says more of its fresh classes; then the deferrals and the numbers.
+/// The clauses, the deferrals and the numbers.
 fn print(clauses: &Clauses<'_>, names: &Names, out: &mut dyn Write) -> io::Result<()> {
     let company = Company::new(clauses);
-    for (number, clause) in clauses.iter().enumerate() {
-        writeln!(out, "{number:5}  {}", clause.with_names(names))?;
-        for other in company.of(number, clause) {
-            let clause = clauses.get(other).expect("a clause of that number");
-            writeln!(out, "       with {other}: {}", clause.with_names(names))?;
-        }
+    for number in 0..clauses.len() {
+        print_clause(clauses, number, &company, names, out)?;
     }
-    for deferral in clauses.deferrals() {
-        writeln!(out, "deferred: {deferral}")?;
-    }
+    let mut deferrals = clauses.deferrals();
+    deferrals.try_for_each(|deferral| writeln!(out, "deferred: {deferral}"))?;
     out.write_all(summary(clauses).as_bytes())
+}
+
+/// A clause with its number, and under it those that say more of its fresh classes.
+fn print_clause(
+    clauses: &Clauses<'_>,
+    number: usize,
+    company: &Company,
+    names: &Names,
+    out: &mut dyn Write,
+) -> io::Result<()> {
+    let clause = |number| clauses.get(number).expect("a clause of that number");
+    writeln!(out, "{number:5}  {}", clause(number).with_names(names))?;
+    for other in company.of(number, clause(number)) {
+        let text = clause(other).with_names(names);
+        writeln!(out, "       with {other}: {text}")?;
+    }
+    Ok(())
 }
