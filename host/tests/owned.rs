@@ -30,7 +30,11 @@ fn an_owned_clause_is_the_clause() {
         assert_eq!(ours.header(), clauses.header());
         assert_eq!(*ours, clause);
         assert_eq!(clause, *ours);
-        assert!(owned[..place].iter().all(|other| *other != clause));
+        assert_eq!(*ours, ours.clone());
+        for other in &owned[..place] {
+            assert_ne!(*other, clause);
+            assert_ne!(other, ours);
+        }
         assert_eq!(ours.to_string(), clause.to_string());
     }
     let set: HashSet<&OwnedClause> = owned.iter().chain(&owned).collect();
