@@ -12,6 +12,7 @@ use crate::case::{
     MIN_ZERO, NO_TABLES, WIDE, case,
 };
 use crate::decks;
+use crate::diagnosed;
 use crate::sizes::WRONG;
 
 /// How far a comparison goes.
@@ -138,7 +139,10 @@ pub fn compare(library: Clausify, decks: Decks, seed: u64, until: &Until) -> boo
         let _under_work = UnderWork(seed);
         let mut case = case(seed, decks);
         let reply = call.make(&mut case.rng, library, &case.deck, &case.sizes);
-        if let Some(difference) = call.difference(reply, &case.deck, &case.expected) {
+        let difference = call
+            .difference(reply, &case.deck, &case.expected)
+            .or_else(|| diagnosed::difference(reply, &case.deck));
+        if let Some(difference) = difference {
             figures.is_different = true;
             tell(&case, decks, &difference);
         }

@@ -8,6 +8,8 @@ mod compare;
 #[cfg(feature = "live")]
 mod decks;
 #[cfg(feature = "live")]
+mod diagnosed;
+#[cfg(feature = "live")]
 mod dwelling;
 #[cfg(feature = "live")]
 pub mod mock;
