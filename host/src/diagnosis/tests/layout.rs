@@ -111,10 +111,11 @@ fn a_number_that_ends_late() {
 
 #[test]
 fn a_number_without_a_space() {
-    let words = "line 1, column 1: the number 0 begins in column 1, with no space before it; it has to end in column 11";
-    assert_told(b"0 3 0 1 3\n", 2, words);
-    let words = "line 2, column 1: the number 42949672950 begins in column 1, with no space before it; it has to end in column 11";
-    assert_line("42949672950\n", words);
+    let words = "begins in column 1, with no space before it; it has to end in column 11";
+    let first = format!("line 1, column 1: the number 0 {words}");
+    assert_told(b"0 3 0 1 3\n", 2, &first);
+    let second = format!("line 2, column 1: the number 42949672950 {words}");
+    assert_line("42949672950\n", &second);
 }
 
 #[test]
