@@ -44,7 +44,7 @@ r⁻ = Inverse 0
 abbrev pub s⁻ : Role
 s⁻ = Inverse 1
 
--- with an element for each individual
+-- with individual i at the list's i-th element
 abbrev pub placed : List ℕ → Interpretation → Interpretation
 placed l I = record { size = I .size; class = I .class; role = I .role; individual = λ i. getD l i 0 }
 
@@ -148,8 +148,12 @@ pairsAlike = pairs ((0, 1) ∷ []) ((0, 1) ∷ []) ((0, 1) ∷ [])
 pub data Row : Type 0 where
   -- satisfied in the first, not in the second
   both : Axiom → (holds fails : Interpretation) → Row
-  -- satisfied in every interpretation: tried in two, and a longer list is not satisfied in one of them
+  -- satisfied in every interpretation: tried in two, one of which fails the same kind's list of two different entries
   always : Axiom → Interpretation → Interpretation → Row
+
+abbrev pub axiomOf : Row → Axiom
+axiomOf (both a I J) = a
+axiomOf (always a I J) = a
 
 abbrev pub computes : Row → Bool
 computes (both a I J) = satisfied I pool a && not (satisfied J pool a)
@@ -263,7 +267,7 @@ axioms =
     both (ClassAssertion A 0) (placed (2 ∷ 3 ∷ []) (sets (2 ∷ []) [] [])) (placed (2 ∷ 3 ∷ []) (sets (0 ∷ 1 ∷ 3 ∷ []) [] [])) ∷
     []
 
--- no row computes otherwise
-pub axioms-hold : filter (λ a. not (computes a)) axioms ≡ []
+-- the axioms of the rows that compute otherwise: none
+pub axioms-hold : map axiomOf (filter (λ a. not (computes a)) axioms) ≡ []
 unfolding filter elementsBelow meaningsFrom means chainRelated paired laterPairs
 axioms-hold = refl
