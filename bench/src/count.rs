@@ -16,11 +16,16 @@ pub enum Counter {
 }
 
 impl Counter {
+    const ALL: [Self; 2] = [Self::Callgrind, Self::Perf];
+
     /// The first that counts on this machine.
     pub fn find() -> Option<Self> {
-        [Self::Callgrind, Self::Perf]
-            .into_iter()
-            .find(|counter| counter.total(&["idle"]).is_some())
+        let mut all = Self::ALL.into_iter();
+        all.find(|counter| counter.total(&["idle"]).is_some())
+    }
+
+    pub fn named(name: &str) -> Option<Self> {
+        Self::ALL.into_iter().find(|counter| counter.name() == name)
     }
 
     pub fn name(self) -> &'static str {

@@ -1,4 +1,4 @@
-//! Decks that lean on one part of the clausifier, up to document 01's limits.
+//! Decks that lean on one part of the clausifier, up to the limits.
 
 use deck::Axiom;
 

@@ -5,12 +5,15 @@ mod count;
 mod decks;
 mod draft;
 mod extreme;
+mod figures;
 mod measure;
 mod ours;
 mod plot;
+mod quiet;
 mod realistic;
 mod report;
 mod results;
+mod store;
 mod ways;
 
 use std::error::Error;
@@ -21,13 +24,17 @@ use std::time::Duration;
 
 use count::Counter;
 use decks::{kinds, series};
+use quiet::Ticks;
 use report::Report;
-use results::Row;
+use results::{Build, Row};
+use store::Run;
 use ways::{Prepared, Way};
 
 const USAGE: &str = "\
-bench measure [--to FOLDER] [--date DATE] [--rounds N] [--no-counts]
-                             measures, and writes PERFORMANCE.md and performance.svg into the folder, or prints the page
+bench measure [--to FILE] [--build plain|LTO] [--rounds N] [--no-counts]
+                             a whole run, written to the file or printed; says how this program was built
+bench page [--to FOLDER] [--date DATE] [--tools WORDS] FILE..
+                             of such runs PERFORMANCE.md and performance.svg in the folder, or the page printed
 bench decks FOLDER           writes the decks
 bench once WAY FILE CALLS    so many calls on one deck, for the counting of instructions
 ";
@@ -39,6 +46,7 @@ fn main() -> ExitCode {
     let words: Vec<&str> = arguments.iter().map(String::as_str).collect();
     let outcome = match *words.as_slice() {
         ["measure", ref rest @ ..] => measure(rest),
+        ["page", ref rest @ ..] => page(rest),
         ["decks", folder] => write_decks(Path::new(folder)),
         ["once", way, file, calls] => once(way, file, calls),
         ["idle"] => Ok(()),
@@ -53,7 +61,7 @@ fn main() -> ExitCode {
 
 struct Settings {
     to: Option<PathBuf>,
-    date: String,
+    build: Build,
     rounds: usize,
     counts: bool,
 }
@@ -61,7 +69,7 @@ struct Settings {
 fn settings(words: &[&str]) -> Outcome<Settings> {
     let mut settings = Settings {
         to: None,
-        date: "a day that was not told".to_owned(),
+        build: Build::Plain,
         rounds: 15,
         counts: true,
     };
@@ -70,7 +78,7 @@ fn settings(words: &[&str]) -> Outcome<Settings> {
         let mut value = || words.next().ok_or(USAGE);
         match word {
             "--to" => settings.to = Some(PathBuf::from(value()?)),
-            "--date" => value()?.clone_into(&mut settings.date),
+            "--build" => settings.build = Build::named(value()?).ok_or(USAGE)?,
             "--rounds" => settings.rounds = value()?.parse()?,
             "--no-counts" => settings.counts = false,
             _ => return Err(USAGE.into()),
@@ -81,11 +89,13 @@ fn settings(words: &[&str]) -> Outcome<Settings> {
 
 fn measure(words: &[&str]) -> Outcome {
     let settings = settings(words)?;
+    let before = Ticks::now();
     let counter = settings.counts.then(Counter::find).flatten();
+    let (build, rounds) = (settings.build, settings.rounds);
     let mut rows = Vec::new();
     for kind in kinds() {
         eprintln!("{}", kind.name);
-        let mut row = Row::of(kind.name, &kind.decks, settings.rounds);
+        let mut row = Row::of(kind.name, build, &kind.decks, rounds);
         if let Some(counter) = counter {
             row.count(counter, &kind.decks[0])?;
         }
@@ -94,17 +104,42 @@ fn measure(words: &[&str]) -> Outcome {
     let mut grown = Vec::new();
     for (axioms, decks) in series() {
         eprintln!("{axioms} axioms");
-        grown.push(Row::of("", &decks, settings.rounds));
+        grown.push(Row::of(&axioms.to_string(), build, &decks, rounds));
     }
-    let report = Report {
-        date: settings.date,
-        machine: machine(),
-        rounds: settings.rounds,
+    let run = Run {
+        build,
+        rounds,
+        others: Ticks::now().others_since(&before),
         counter,
         rows,
         series: grown,
     };
     match settings.to {
+        Some(file) => fs::write(file, run.text())?,
+        None => print!("{}", run.text()),
+    }
+    Ok(())
+}
+
+/// The page of stored runs.
+fn page(words: &[&str]) -> Outcome {
+    let (mut to, mut date, mut tools) = (None, "a day that was not told", "");
+    let mut runs = Vec::new();
+    let mut words = words.iter().copied();
+    while let Some(word) = words.next() {
+        let mut value = || words.next().ok_or(USAGE);
+        match word {
+            "--to" => to = Some(PathBuf::from(value()?)),
+            "--date" => date = value()?,
+            "--tools" => tools = value()?,
+            file => {
+                let run = Run::of(&fs::read_to_string(file)?);
+                runs.push(run.ok_or_else(|| format!("{file} is no run"))?);
+            }
+        }
+    }
+    let report = Report::of(date, &machine(), tools, runs);
+    match to {
         Some(folder) => {
             fs::create_dir_all(&folder)?;
             fs::write(folder.join("PERFORMANCE.md"), report.page())?;

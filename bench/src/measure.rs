@@ -35,6 +35,21 @@ impl Times {
             .collect()
     }
 
+    pub fn add(&mut self, way: Way, times: Vec<f64>) {
+        self.0.push((way, times));
+    }
+
+    /// Every way with its times.
+    pub fn ways(&self) -> impl Iterator<Item = (Way, &[f64])> {
+        self.0.iter().map(|(way, times)| (*way, &times[..]))
+    }
+
+    /// The time of one way by that of another in the same round.
+    pub fn ratios(&self, way: Way, by: Way) -> impl Iterator<Item = f64> {
+        let pairs = self.way(way).iter().zip(self.way(by));
+        pairs.map(|(time, by)| time / by)
+    }
+
     /// The times of a way, none if it is not measured.
     pub fn way(&self, way: Way) -> &[f64] {
         let found = self.0.iter().find(|(of, _)| *of == way);

@@ -1,6 +1,6 @@
 //! Gorvask's side. Without the feature `gorvask` it is empty, and nothing calls it.
 
-pub use side::Ours;
+pub use side::{Ours, first};
 
 /// Whether Gorvask is measured.
 pub const MEASURED: bool = cfg!(feature = "gorvask");
@@ -28,16 +28,24 @@ mod side {
         scratch: Vec<u8>,
     }
 
+    /// A new clausifier after its first call: its tables were made, and made larger as the deck needed it.
+    ///
+    /// # Panics
+    /// If the deck is refused.
+    pub fn first(deck: &[u8]) -> Clausifier {
+        let mut clausifier = Clausifier::new();
+        if let Err(refusal) = clausifier.clausify(deck) {
+            panic!("Gorvask refuses a deck of the bench: {refusal}");
+        }
+        clausifier
+    }
+
     impl Ours {
         /// # Panics
         /// If the deck is refused.
         pub fn new(deck: &[u8]) -> Self {
-            let mut clausifier = Clausifier::new();
-            if let Err(refusal) = clausifier.clausify(deck) {
-                panic!("Gorvask refuses a deck of the bench: {refusal}");
-            }
             let mut ours = Self {
-                clausifier,
+                clausifier: first(deck),
                 tables: Vec::new(),
                 scratch: vec![0; SCRATCH_BYTES],
             };
@@ -91,6 +99,8 @@ mod side {
     use super::Words;
 
     pub struct Ours;
+
+    pub fn first(_: &[u8]) {}
 
     impl Ours {
         pub fn new(_: &[u8]) -> Self {

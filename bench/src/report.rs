@@ -1,27 +1,66 @@
 //! The results as a page of Markdown.
 
-use std::borrow::Borrow;
 use std::fmt::Write;
 
 use crate::count::Counter;
 use crate::decks::REALISTIC;
-use crate::measure::Spread;
+use crate::figures::{figure, millions, number, percent, range, ratio, table_head, table_row};
 use crate::ours::{self, SCRATCH_BYTES, table_bytes};
 use crate::plot::{Curve, Plot};
-use crate::results::{Measured, Range, Row};
+use crate::results::{Build, Measured, Range, Row, better};
+use crate::store::Run;
 use crate::ways::Way;
 
+/// The ways of Gorvask.
+const OURS: &str = "\
+    - **Gorvask**: from the deck's bytes to filled tables, one call through the wrapper in `host/`, whose tables are large enough \
+    already.\n\
+    - **First call**: the same by a new clausifier: scratch and tables are made, and where they are too small made larger and \
+    the deck clausified again.\n";
+/// How ratios are shown.
+const RATIOS: &str = "; ratios are Gorvask's time by the Rust's in the same round, their median and in brackets the middle half, \
+    and beside it the least and the greatest of the runs' medians: below 1 Gorvask is faster";
+
 pub struct Report {
-    pub date: String,
-    pub machine: String,
-    pub rounds: usize,
-    pub counter: Option<Counter>,
-    pub rows: Vec<Row>,
+    date: String,
+    machine: String,
+    tools: String,
+    rounds: usize,
+    /// Runs of each build.
+    runs: [usize; 2],
+    /// The most that other work took in a run.
+    others: f64,
+    counter: Option<Counter>,
+    rows: Vec<Row>,
     /// Realistic decks of rising size.
-    pub series: Vec<Row>,
+    series: Vec<Row>,
 }
 
 impl Report {
+    /// Of each row's builds the one in which the Rust takes less time.
+    pub fn of(date: &str, machine: &str, tools: &str, runs: Vec<Run>) -> Self {
+        let count = |build: Build| runs.iter().filter(|run| run.build == build).count();
+        let (counts, rounds) = (
+            Build::ALL.map(count),
+            runs.first().map_or(0, |run| run.rounds),
+        );
+        let others = runs.iter().map(|run| run.others).fold(0.0, f64::max);
+        let counter = runs.iter().find_map(|run| run.counter);
+        let measured = runs.into_iter().map(|run| (run.rows, run.series));
+        let (rows, series): (Vec<_>, Vec<_>) = measured.unzip();
+        Self {
+            date: date.to_owned(),
+            machine: machine.to_owned(),
+            tools: tools.to_owned(),
+            rounds,
+            runs: counts,
+            others,
+            counter,
+            rows: better(rows.into_iter().flatten().collect()),
+            series: better(series.into_iter().flatten().collect()),
+        }
+    }
+
     /// The whole page.
     pub fn page(&self) -> String {
         let mut page = String::new();
@@ -39,6 +78,10 @@ impl Report {
         self.method(page)?;
         writeln!(page, "\n## Times\n")?;
         self.times(page)?;
+        if ours::MEASURED {
+            writeln!(page, "\n## Gorvask by Rust\n")?;
+            self.ratios(page)?;
+        }
         for row in self.rows.iter().filter(|row| row.name == REALISTIC) {
             writeln!(page, "\n## Each realistic deck\n")?;
             each_deck(page, row)?;
@@ -56,66 +99,84 @@ impl Report {
     fn method(&self, page: &mut String) -> std::fmt::Result {
         writeln!(
             page,
-            "One program times all ways on the same decks, everything built for release:\n"
-        )?;
-        if ours::MEASURED {
-            writeln!(
-                page,
-                "- **Gorvask**: from the deck's bytes to filled tables, one call through the wrapper in `host/`."
-            )?;
-        }
-        writeln!(
-            page,
-            "- **Rust**: from the deck's bytes to clauses: the reader of `tests/deck`, conversion, and `clausify_with_stats` of \
+            "One program times all ways on the same decks:\n\n{}\
+             - **Rust**: from the deck's bytes to clauses: the reader of `tests/deck`, conversion, and `clausify_with_stats` of \
              the unmodified sources.\n\
-             - **Rust alone**: `clausify_with_stats` on an ontology that is there already.\n"
+             - **Rust alone**: `clausify_with_stats` on an ontology that is there already.\n",
+            if ours::MEASURED { OURS } else { "" }
         )?;
+        self.builds(page)?;
         if ours::MEASURED {
             write!(
                 page,
                 "Gorvask's clauses and statistics are first compared with the Rust's. "
             )?;
         }
+        let [plain, lto] = self.runs;
         writeln!(
             page,
-            "There are {} rounds; each has a sample of every way, in turning order, and a sample is the mean of as many calls as \
-             take 4 ms, or one. The time is the thread's processor time; what a call hands back is freed outside it. Times are \
-             medians of the samples{}.\n\n\
+            "There are {plain} whole runs of the plain build and {lto} of the other, in turn, each a process of its own with {} \
+             rounds; a round has a sample of every way, in turning order, and a sample is the mean of as many calls as take 4 ms, \
+             or one. The time is the thread's processor time; what a call hands back is freed outside it. Times are medians of \
+             the samples of all runs{}. Other work took at most {:.1} % of the processors' time in a run.\n\n\
              The sources use the crate hashbrown, which was not at hand; `tests/hashbrown` stands in for it, with a quick hash by \
              folded products in place of that crate's.",
             self.rounds,
+            if ours::MEASURED { RATIOS } else { "" },
+            100.0 * self.others
+        )
+    }
+
+    fn builds(&self, page: &mut String) -> std::fmt::Result {
+        writeln!(
+            page,
+            "The program, and with it the Rust, is built twice by cargo: *plain* is the profile `release` as it comes (opt-level \
+             3, 16 codegen units, `lto = false`), *LTO* has opt-level 3, one codegen unit and `lto = \"fat\"`. Each row shows the \
+             build in which the Rust takes less time.{} Neither side is told which processor it will run on. Tools: {}.\n",
             if ours::MEASURED {
-                "; ratios are Gorvask's time by the Rust's in the same round, their median and in brackets the middle half: below 1 \
-                 Gorvask is faster"
+                " Gorvask is a static library, all its crates as one LLVM module, compiled at -O3; it is the same in both builds, and \
+                 its times in a row are those beside the Rust's."
             } else {
                 ""
-            }
+            },
+            self.tools
         )
     }
 
     fn times(&self, page: &mut String) -> std::fmt::Result {
         let mut head = vec!["deck", "bytes", "axioms", "clauses", "visits"];
         if ours::MEASURED {
-            head.push("Gorvask, ms");
+            head.extend(["Gorvask, ms", "first call, ms"]);
         }
-        head.extend(["Rust, ms", "Rust alone, ms", "reading and conversion, ms"]);
-        if ours::MEASURED {
-            head.extend(["Gorvask by Rust", "Gorvask by Rust alone"]);
-        }
+        head.extend([
+            "Rust, ms",
+            "Rust alone, ms",
+            "reading and conversion, ms",
+            "their share of Rust",
+            "Rust's build",
+        ]);
         table_head(page, &head)?;
         for row in &self.rows {
-            let mut cells = vec![
-                row.name.clone(),
-                range(row.range(|deck| deck.bytes)),
-                range(row.range(|deck| deck.axioms)),
-                range(row.range(|deck| deck.clauses)),
-                range(row.range(|deck| deck.visits)),
-            ];
-            let ways = Way::shown().into_iter().chain([Way::RustReading]);
-            cells.extend(ways.map(|way| figure(row.time(way).median)));
-            if ours::MEASURED {
-                let ratios = [Way::Rust, Way::RustAlone];
-                cells.extend(ratios.map(|by| ratio(row.ratio(Way::Gorvask, by))));
+            table_row(page, &time_cells(row))?;
+        }
+        Ok(())
+    }
+
+    fn ratios(&self, page: &mut String) -> std::fmt::Result {
+        let head = [
+            "deck",
+            "Gorvask by Rust",
+            "in the runs",
+            "Gorvask by Rust alone",
+            "in the runs",
+        ];
+        table_head(page, &head)?;
+        for row in &self.rows {
+            let mut cells = vec![row.name.clone()];
+            for by in [Way::Rust, Way::RustAlone] {
+                let (least, greatest) = row.runs(Way::Gorvask, by);
+                cells.push(ratio(row.ratio(Way::Gorvask, by)));
+                cells.push(format!("{} to {}", figure(least), figure(greatest)));
             }
             table_row(page, &cells)?;
         }
@@ -161,7 +222,7 @@ impl Report {
         };
         writeln!(
             page,
-            "Millions of instructions of one call, by {}, on the first deck of each kind.\n",
+            "Millions of instructions of one call, by {}, on the first deck of each kind, in the row's build.\n",
             counter.name()
         )?;
         let names = Way::shown().into_iter().map(Way::name);
@@ -217,7 +278,7 @@ impl Report {
                 .series
                 .iter()
                 .map(|row| {
-                    let bytes = middle(row.range(|deck| deck.bytes));
+                    let bytes = middle(row.range(|facts| facts.bytes));
                     (bytes / 1_000.0, row.time(way).median)
                 })
                 .collect(),
@@ -243,7 +304,10 @@ fn each_deck(page: &mut String, row: &Row) -> std::fmt::Result {
     }
     table_head(page, &head)?;
     for deck in &row.decks {
-        let mut cells = [deck.bytes, deck.clauses, deck.visits].map(number).to_vec();
+        let facts = &deck.facts;
+        let mut cells = [facts.bytes, facts.clauses, facts.visits]
+            .map(number)
+            .to_vec();
         cells.extend(ways.iter().map(|&way| figure(deck.time(way).median)));
         if ours::MEASURED {
             cells.push(ratio(deck.ratio(Way::Gorvask, Way::Rust)));
@@ -263,6 +327,24 @@ fn each_deck(page: &mut String, row: &Row) -> std::fmt::Result {
     Ok(())
 }
 
+/// A kind's cells under "Times".
+fn time_cells(row: &Row) -> Vec<String> {
+    let mut cells = vec![
+        row.name.clone(),
+        range(row.range(|facts| facts.bytes)),
+        range(row.range(|facts| facts.axioms)),
+        range(row.range(|facts| facts.clauses)),
+        range(row.range(|facts| facts.visits)),
+    ];
+    let ours = [Way::Gorvask, Way::First];
+    let ours = ours.into_iter().filter(|_| ours::MEASURED);
+    let ways = ours.chain([Way::Rust, Way::RustAlone, Way::RustReading]);
+    cells.extend(ways.map(|way| figure(row.time(way).median)));
+    cells.push(percent(row.ratio(Way::RustReading, Way::Rust).median));
+    cells.push(row.build.name().to_owned());
+    cells
+}
+
 /// A kind's cells under "Memory and clearing".
 fn clearing_cells(row: &Row) -> [String; 9] {
     let [clauses, atoms, deferrals] = row.lent();
@@ -276,7 +358,7 @@ fn clearing_cells(row: &Row) -> [String; 9] {
         number(table_bytes(row.lent())),
         figure(row.time(Way::ClearTables).median),
         figure(row.time(Way::ClearScratch).median),
-        format!("{:.0} %", 100.0 * share),
+        percent(share),
         figure(row.without_clearing()),
     ]
 }
@@ -284,8 +366,8 @@ fn clearing_cells(row: &Row) -> [String; 9] {
 /// A size's cells under "How time grows".
 fn growth_cells(row: &Row) -> Vec<String> {
     let mut cells = vec![
-        range(row.range(|deck| deck.axioms)),
-        range(row.range(|deck| deck.bytes)),
+        range(row.range(|facts| facts.axioms)),
+        range(row.range(|facts| facts.bytes)),
     ];
     let times = Way::shown().into_iter().map(|way| row.time(way).median);
     cells.extend(times.map(figure));
@@ -298,87 +380,7 @@ fn growth_cells(row: &Row) -> Vec<String> {
     cells
 }
 
-fn table_head(page: &mut String, names: &[impl Borrow<str>]) -> std::fmt::Result {
-    writeln!(page, "| {} |", names.join(" | "))?;
-    writeln!(page, "|---|{}", "--:|".repeat(names.len() - 1))
-}
-
-fn table_row(page: &mut String, cells: &[String]) -> std::fmt::Result {
-    writeln!(page, "| {} |", cells.join(" | "))
-}
-
-/// Three digits that count.
-fn figure(number: f64) -> String {
-    let digits = match number {
-        n if n >= 100.0 => 0,
-        n if n >= 10.0 => 1,
-        n if n >= 1.0 => 2,
-        n if n >= 0.1 => 3,
-        n if n >= 0.01 => 4,
-        _ => 5,
-    };
-    format!("{number:.digits$}")
-}
-
-fn ratio(spread: Spread) -> String {
-    format!(
-        "{} ({} to {})",
-        figure(spread.median),
-        figure(spread.low),
-        figure(spread.high)
-    )
-}
-
-#[expect(clippy::cast_precision_loss, reason = "a few digits are shown")]
-fn millions(count: u64) -> String {
-    figure(count as f64 / 1e6)
-}
-
 #[expect(clippy::cast_precision_loss, reason = "a place in a picture")]
 fn middle((least, greatest): Range) -> f64 {
     (least + greatest) as f64 / 2.0
-}
-
-fn range((least, greatest): Range) -> String {
-    if least == greatest {
-        number(least)
-    } else {
-        format!("{} to {}", number(least), number(greatest))
-    }
-}
-
-/// With a comma between thousands.
-fn number(number: usize) -> String {
-    let digits = number.to_string();
-    let mut text = String::new();
-    for (place, digit) in digits.chars().enumerate() {
-        if place > 0 && (digits.len() - place).is_multiple_of(3) {
-            text.push(',');
-        }
-        text.push(digit);
-    }
-    text
-}
-
-#[cfg(test)]
-mod tests {
-    use super::{figure, number, range};
-
-    #[test]
-    fn figures_have_three_digits() {
-        assert_eq!(
-            [123.4, 12.34, 1.234, 0.1234, 0.01234].map(figure),
-            ["123", "12.3", "1.23", "0.123", "0.0123"]
-        );
-    }
-
-    #[test]
-    fn thousands_are_parted() {
-        assert_eq!(
-            [5, 512, 1_024, 1_572_864].map(number),
-            ["5", "512", "1,024", "1,572,864"]
-        );
-        assert_eq!(range((7, 7)), "7");
-        assert_eq!(range((7, 9_000)), "7 to 9,000");
-    }
 }

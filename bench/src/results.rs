@@ -7,8 +7,31 @@ use crate::decks::Known;
 use crate::measure::{Spread, Times};
 use crate::ways::{Prepared, Way};
 
+/// How this program, and with it the Rust, was built.
+#[derive(Clone, Copy, Debug, PartialEq, Eq)]
+pub enum Build {
+    Plain,
+    Lto,
+}
+
+impl Build {
+    pub const ALL: [Self; 2] = [Self::Plain, Self::Lto];
+
+    pub fn name(self) -> &'static str {
+        match self {
+            Self::Plain => "plain",
+            Self::Lto => "LTO",
+        }
+    }
+
+    pub fn named(name: &str) -> Option<Self> {
+        Self::ALL.into_iter().find(|build| build.name() == name)
+    }
+}
+
 pub struct Row {
     pub name: String,
+    pub build: Build,
     pub decks: Vec<Measured>,
     /// Instructions of a call on the first deck.
     pub counts: Vec<(Way, u64)>,
@@ -16,13 +39,20 @@ pub struct Row {
 
 /// What was measured of one deck.
 pub struct Measured {
+    pub facts: Facts,
+    /// Times of each whole run.
+    pub runs: Vec<Times>,
+}
+
+/// A deck's own numbers.
+#[derive(Clone, Copy, Debug, PartialEq, Eq)]
+pub struct Facts {
     pub bytes: usize,
     pub axioms: usize,
     pub clauses: usize,
     pub visits: usize,
     /// Records of the tables that Gorvask is lent.
     pub lent: [usize; 3],
-    times: Times,
 }
 
 /// The least and the greatest.
@@ -30,9 +60,10 @@ pub type Range = (usize, usize);
 
 impl Row {
     /// Measures the decks.
-    pub fn of(name: &str, decks: &[Vec<u8>], rounds: usize) -> Self {
+    pub fn of(name: &str, build: Build, decks: &[Vec<u8>], rounds: usize) -> Self {
         Self {
             name: name.to_owned(),
+            build,
             decks: decks
                 .iter()
                 .map(|bytes| Measured::of(bytes, rounds))
@@ -51,15 +82,28 @@ impl Row {
         Ok(())
     }
 
+    /// Takes the runs of a row of the same decks and build.
+    ///
+    /// # Panics
+    /// If the decks are others.
+    pub fn join(&mut self, other: Self) {
+        assert_eq!(self.decks.len(), other.decks.len(), "{}", self.name);
+        for (deck, more) in self.decks.iter_mut().zip(other.decks) {
+            assert_eq!(deck.facts, more.facts, "{}", self.name);
+            deck.runs.extend(more.runs);
+        }
+        self.counts.extend(other.counts);
+    }
+
     /// Of a number that each deck has, the least and the greatest.
-    pub fn range(&self, number: impl Fn(&Measured) -> usize) -> Range {
-        let numbers = || self.decks.iter().map(&number);
+    pub fn range(&self, number: impl Fn(&Facts) -> usize) -> Range {
+        let numbers = || self.decks.iter().map(|deck| number(&deck.facts));
         (numbers().min().unwrap_or(0), numbers().max().unwrap_or(0))
     }
 
     /// The most records that are lent for one of the decks.
     pub fn lent(&self) -> [usize; 3] {
-        [0, 1, 2].map(|table| self.range(|deck| deck.lent[table]).1)
+        [0, 1, 2].map(|table| self.range(|facts| facts.lent[table]).1)
     }
 
     /// Of a figure that each deck has, the median over the decks.
@@ -72,19 +116,26 @@ impl Row {
         self.decks.iter().map(figure).fold(0.0, f64::max)
     }
 
-    /// Milliseconds of a call, over all decks and rounds.
+    /// Milliseconds of a call, over all decks, runs and rounds.
     pub fn time(&self, way: Way) -> Spread {
-        Spread::of(
-            self.decks
-                .iter()
-                .flat_map(|deck| deck.times.way(way))
-                .copied(),
-        )
+        Spread::of(self.decks.iter().flat_map(|deck| deck.times(way)))
     }
 
-    /// The time of one way by that of another in the same round, over all decks and rounds.
+    /// The time of one way by that of another in the same round, over all decks, runs and rounds.
     pub fn ratio(&self, way: Way, by: Way) -> Spread {
         Spread::of(self.decks.iter().flat_map(|deck| deck.ratios(way, by)))
+    }
+
+    /// Of the whole runs' medians of that ratio the least and the greatest.
+    pub fn runs(&self, way: Way, by: Way) -> (f64, f64) {
+        let runs = self.decks.first().map_or(0, |deck| deck.runs.len());
+        let medians = (0..runs).map(|run| {
+            let decks = self.decks.iter();
+            Spread::of(decks.flat_map(|deck| deck.runs[run].ratios(way, by))).median
+        });
+        medians.fold((f64::INFINITY, 0.0), |(least, greatest), median| {
+            (median.min(least), median.max(greatest))
+        })
     }
 
     /// Milliseconds of a call of Gorvask without clearing.
@@ -93,34 +144,71 @@ impl Row {
     }
 }
 
+/// Of each row the build in which the Rust takes less time, with all its runs.
+pub fn better(rows: Vec<Row>) -> Vec<Row> {
+    let mut best: Vec<Row> = Vec::new();
+    for row in of_build(rows) {
+        let rust = |row: &Row| row.time(Way::Rust).median;
+        match best.iter_mut().find(|found| found.name == row.name) {
+            None => best.push(row),
+            Some(found) if rust(&row) < rust(found) => *found = row,
+            Some(_) => {}
+        }
+    }
+    best
+}
+
+/// The rows of each name and build as one.
+fn of_build(rows: Vec<Row>) -> Vec<Row> {
+    let mut joined: Vec<Row> = Vec::new();
+    for row in rows {
+        let same = |found: &&mut Row| found.name == row.name && found.build == row.build;
+        match joined.iter_mut().find(same) {
+            None => joined.push(row),
+            Some(found) => found.join(row),
+        }
+    }
+    joined
+}
+
 impl Measured {
     fn of(bytes: &[u8], rounds: usize) -> Self {
         let known = Known::of(bytes);
         let mut deck = Prepared::new(bytes);
         deck.compare();
-        Self {
+        let facts = Facts {
             bytes: bytes.len(),
             axioms: known.deck.axioms.len(),
             clauses: known.listing.clauses.len(),
             visits: known.listing.visits as usize,
             lent: deck.lent(),
-            times: Times::of(&mut deck, rounds),
+        };
+        let times = Times::of(&mut deck, rounds);
+        Self {
+            facts,
+            runs: vec![times],
         }
     }
 
-    /// Milliseconds of a call, over all rounds.
+    /// Milliseconds of a call, over all runs and rounds.
     pub fn time(&self, way: Way) -> Spread {
-        Spread::of(self.times.way(way).iter().copied())
+        Spread::of(self.times(way))
     }
 
-    /// The time of one way by that of another in the same round, over all rounds.
+    /// The time of one way by that of another in the same round, over all runs and rounds.
     pub fn ratio(&self, way: Way, by: Way) -> Spread {
         Spread::of(self.ratios(way, by))
     }
 
+    fn times(&self, way: Way) -> impl Iterator<Item = f64> {
+        let runs = self.runs.iter();
+        runs.flat_map(move |times| times.way(way).iter().copied())
+    }
+
     fn ratios(&self, way: Way, by: Way) -> impl Iterator<Item = f64> {
-        let pairs = self.times.way(way).iter().zip(self.times.way(by));
-        pairs.map(|(time, by)| time / by)
+        self.runs
+            .iter()
+            .flat_map(move |times| times.ratios(way, by))
     }
 
     /// Milliseconds of a call of Gorvask without clearing.
@@ -134,7 +222,7 @@ impl Measured {
         reason = "a deck has fewer than 2^52 bytes"
     )]
     pub fn by_kilobyte(&self, milliseconds: f64) -> f64 {
-        1e6 * milliseconds / self.bytes as f64
+        1e6 * milliseconds / self.facts.bytes as f64
     }
 }
 
@@ -147,41 +235,53 @@ fn without_clearing(time: impl Fn(Way) -> Spread) -> f64 {
 
 #[cfg(test)]
 mod tests {
-    use super::{Measured, Row};
+    use super::{Build, Facts, Measured, Row, better};
+    use crate::measure::Times;
     use crate::ways::Way;
 
-    fn deck(bytes: usize, gorvask: [f64; 3], rust: [f64; 3]) -> Measured {
+    fn times(gorvask: [f64; 3], rust: [f64; 3]) -> Times {
         let times = [
             (Way::Gorvask, gorvask.to_vec()),
             (Way::Rust, rust.to_vec()),
             (Way::ClearTables, vec![0.25; 3]),
             (Way::ClearScratch, vec![0.5; 3]),
         ];
-        Measured {
+        times.into_iter().collect()
+    }
+
+    fn deck(bytes: usize, runs: Vec<Times>) -> Measured {
+        let facts = Facts {
             bytes,
             axioms: 1,
             clauses: 2,
             visits: 3,
             lent: [bytes, 4, 8],
-            times: times.into_iter().collect(),
-        }
+        };
+        Measured { facts, runs }
     }
 
-    fn row() -> Row {
+    fn row(build: Build, decks: Vec<Measured>) -> Row {
         Row {
             name: String::new(),
-            decks: vec![
-                deck(1_000, [1.0, 2.0, 6.0], [2.0, 4.0, 6.0]),
-                deck(4_000, [0.5, 0.5, 0.5], [1.0, 1.0, 1.0]),
-            ],
+            build,
+            decks,
             counts: Vec::new(),
         }
     }
 
+    fn two_decks() -> Row {
+        let first = times([1.0, 2.0, 6.0], [2.0, 4.0, 6.0]);
+        let second = times([0.5, 0.5, 0.5], [1.0, 1.0, 1.0]);
+        row(
+            Build::Plain,
+            vec![deck(1_000, vec![first]), deck(4_000, vec![second])],
+        )
+    }
+
     #[test]
     fn single_decks_keep_their_figures() {
-        let row = row();
-        assert_eq!(row.range(|deck| deck.bytes), (1_000, 4_000));
+        let row = two_decks();
+        assert_eq!(row.range(|facts| facts.bytes), (1_000, 4_000));
         assert_eq!(row.lent(), [4_000, 4, 8]);
         let ratio = row.decks[0].ratio(Way::Gorvask, Way::Rust);
         assert_eq!((ratio.low, ratio.median, ratio.high), (0.5, 0.5, 0.75));
@@ -193,10 +293,39 @@ mod tests {
 
     #[test]
     fn clearing_is_taken_off_down_to_0() {
-        let row = row();
+        let row = two_decks();
         let times = row.decks.iter().map(Measured::without_clearing);
         assert_eq!(times.collect::<Vec<_>>(), [1.25, 0.0]);
         let shares = row.decks.iter().map(|deck| deck.by_kilobyte(0.5));
         assert_eq!(shares.collect::<Vec<_>>(), [500.0, 125.0]);
+    }
+
+    /// Three runs of the plain build, and one of the other, in which the Rust takes so many milliseconds.
+    fn runs(lto: f64) -> Vec<Row> {
+        let run = |build, gorvask, rust| {
+            let times = times([gorvask; 3], [rust; 3]);
+            row(build, vec![deck(1_000, vec![times])])
+        };
+        vec![
+            run(Build::Plain, 1.0, 2.0),
+            run(Build::Lto, 1.0, lto),
+            run(Build::Plain, 1.5, 2.0),
+            run(Build::Plain, 0.5, 2.0),
+        ]
+    }
+
+    #[test]
+    fn runs_of_the_better_build_stand_side_by_side() {
+        let [plain] = &better(runs(3.0))[..] else {
+            panic!("one row")
+        };
+        assert_eq!((plain.build, plain.decks[0].runs.len()), (Build::Plain, 3));
+        assert_eq!(plain.runs(Way::Gorvask, Way::Rust), (0.25, 0.75));
+        assert_eq!(plain.ratio(Way::Gorvask, Way::Rust).median, 0.5);
+        let [lto] = &better(runs(1.0))[..] else {
+            panic!("one row")
+        };
+        assert_eq!((lto.build, lto.decks[0].runs.len()), (Build::Lto, 1));
+        assert_eq!(lto.runs(Way::Gorvask, Way::Rust), (1.0, 1.0));
     }
 }

@@ -15,6 +15,8 @@ use crate::ours::{self, Ours, Words};
 pub enum Way {
     /// From the deck's bytes to filled tables.
     Gorvask,
+    /// The same by a new clausifier, with the making of its tables and their growth.
+    First,
     /// From the deck's bytes to clauses: the reader of the tests, conversion, `clausify_with_stats`.
     Rust,
     /// `clausify_with_stats` alone.
@@ -29,7 +31,12 @@ pub enum Way {
 
 impl Way {
     const RUST: [Self; 3] = [Self::Rust, Self::RustAlone, Self::RustReading];
-    const OURS: [Self; 3] = [Self::Gorvask, Self::ClearTables, Self::ClearScratch];
+    const OURS: [Self; 4] = [
+        Self::Gorvask,
+        Self::First,
+        Self::ClearTables,
+        Self::ClearScratch,
+    ];
 
     /// All that are timed.
     pub fn timed() -> Vec<Self> {
@@ -46,6 +53,7 @@ impl Way {
     pub fn name(self) -> &'static str {
         match self {
             Self::Gorvask => "Gorvask",
+            Self::First => "Gorvask, first call",
             Self::Rust => "Rust",
             Self::RustAlone => "Rust alone",
             Self::RustReading => "reading and conversion",
@@ -114,6 +122,7 @@ impl<'d> Prepared<'d> {
         let bytes = black_box(self.bytes);
         match way {
             Way::Gorvask => timed(|| self.ours.clausify(bytes)),
+            Way::First => timed(|| ours::first(bytes)),
             Way::Rust => timed(|| from_bytes(bytes)),
             Way::RustAlone => timed(|| clausify_with_stats(black_box(&self.ontology))),
             Way::RustReading => timed(|| read(bytes)),
