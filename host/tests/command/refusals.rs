@@ -1,5 +1,7 @@
 //! What is said of refused decks.
 
+use gorvask::diagnosis::diagnose;
+
 use crate::common::{equivalent, refused};
 use crate::process::{Ran, run_on};
 
@@ -106,5 +108,36 @@ fn a_deck_without_end() {
             ran.err
                 .contains(": refused by number 2: the deck has over 65,536 bytes\n")
         );
+    }
+}
+
+/// Where the diagnosis has the library's number and line its cause comes last, with its column; otherwise there is none.
+#[test]
+fn a_cause_where_the_diagnosis_knows_it() {
+    let mut decks = refused();
+    let header = "          0          3          0          1          3";
+    decks.push((2, Some(1), format!("{header}\r\n").into_bytes()));
+    decks.push((
+        3,
+        Some(2),
+        format!("{header}\n         21          0\n").into_bytes(),
+    ));
+    for (number, line, deck) in decks {
+        let found = diagnose(&deck).filter(|found| Some(found.line) == line);
+        let cause = found.filter(|found| found.number == number).map(|found| {
+            let column = found
+                .column
+                .map_or(String::new(), |column| format!("column {column}: "));
+            format!(
+                "gorvask: cause, by a reading that is not proved: {column}{}",
+                found.cause
+            )
+        });
+        let err = run_on(&["check"], &deck).err;
+        let told = err
+            .lines()
+            .last()
+            .filter(|line| line.starts_with("gorvask: cause"));
+        assert_eq!(told, cause.as_deref(), "{number}");
     }
 }

@@ -44,21 +44,23 @@ pub fn explain(deck: &Deck, refusal: Refusal, lent: Lent) -> Result<Status, Fail
     }
     if let Some(line) = refusal.line() {
         tell(&shown(line, deck.line(line)))?;
-    }
-    if let Some(diagnosis) = diagnose(&deck.bytes).filter(|found| agrees(found, refusal)) {
-        let column = diagnosis
-            .column
-            .map_or(String::new(), |column| format!("column {column}: "));
-        tell(&format!(
-            "cause, by a reading that is not proved: {column}{diagnosis}"
-        ))?;
+        let diagnosis = diagnose(&deck.bytes).filter(|found| agrees(found, refusal));
+        diagnosis.map_or(Ok(()), |found| tell(&cause(&found)))?;
     }
     Ok(Status::Refused)
 }
 
 /// Whether a reading that nothing proves found what the library found.
 fn agrees(diagnosis: &Diagnosis, refusal: Refusal) -> bool {
-    diagnosis.number == refusal.number() && diagnosis.line == refusal.line().unwrap_or(0)
+    diagnosis.number == refusal.number() && Some(diagnosis.line) == refusal.line()
+}
+
+fn cause(diagnosis: &Diagnosis) -> String {
+    let column = diagnosis
+        .column
+        .map_or(String::new(), |column| format!("column {column}: "));
+    let cause = &diagnosis.cause;
+    format!("cause, by a reading that is not proved: {column}{cause}")
 }
 
 /// The line's text, all signs but plain ones escaped.
@@ -77,7 +79,7 @@ fn shown(number: u32, line: Option<&[u8]>) -> String {
 
 #[cfg(test)]
 mod tests {
-    use super::{Diagnosis, Refusal, agrees, shown};
+    use super::{Diagnosis, Refusal, agrees, cause, shown};
 
     #[test]
     fn a_line_as_it_is() {
@@ -100,15 +102,16 @@ mod tests {
         let diagnosis = |number, line| Diagnosis {
             number,
             line,
-            column: None,
-            cause: String::new(),
+            column: Some(23),
+            cause: "a tab".to_owned(),
         };
         let refusal = Refusal::of_reply((5 << 32) + 9).expect("a refusal");
         assert!(agrees(&diagnosis(5, 9), refusal));
         assert!(!agrees(&diagnosis(5, 8), refusal));
         assert!(!agrees(&diagnosis(4, 9), refusal));
-        let of_no_line = Refusal::of_reply(2 << 32).expect("a refusal");
-        assert!(agrees(&diagnosis(2, 0), of_no_line));
-        assert!(!agrees(&diagnosis(2, 1), of_no_line));
+        assert_eq!(
+            cause(&diagnosis(5, 9)),
+            "cause, by a reading that is not proved: column 23: a tab"
+        );
     }
 }
