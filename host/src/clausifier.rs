@@ -51,10 +51,11 @@ impl Clausifier {
         self.tables.resize(sizes);
     }
 
-    /// The clauses of a deck. Where there is no room the deck is clausified once more, with the largest tables: the library
-    /// does not say which table was too small. Of these is kept what the answer takes, rounded up to a power of two; all of
-    /// them, where it takes no more than there was before, since the run then needed more on its way. A deck that is refused
-    /// leaves the tables as large as they were.
+    /// The clauses of a deck. Where there is no room, the tables are made eight times as large, up to [`Sizes::LARGEST`], and
+    /// the deck is clausified again: all of them, since the library does not say which one was too small. From what a new
+    /// clausifier lends that is two further calls at most; a call ends where a table does, so that most of the time is the last
+    /// one's. Then what the answer takes is kept, rounded up to a power of two; or all, where that is no more than there was,
+    /// since the run needed more on its way. A deck that is refused leaves the tables as large as they were.
     ///
     /// # Errors
     /// The refusal, if the deck is refused.
@@ -90,19 +91,18 @@ impl Clausifier {
             self.reserve(Sizes::for_deck(deck.len()));
         }
         let lent = self.sizes();
-        let mut refusal = Refusal::of_reply(call(&mut self.tables, deck));
-        let is_short = refusal.is_some_and(|refusal| refusal.kind() == RefusalKind::NoRoom);
-        if is_short && lent != Sizes::LARGEST {
-            self.tables.resize(Sizes::LARGEST);
-            refusal = Refusal::of_reply(call(&mut self.tables, deck));
-            if refusal.is_none() {
-                let grown = lent.grown_to(self.accepted(deck).sizes());
-                self.tables.resize(grown.unwrap_or(Sizes::LARGEST));
+        while let Some(refusal) = Refusal::of_reply(call(&mut self.tables, deck)) {
+            match self.sizes().enlarged() {
+                Some(sizes) if refusal.kind() == RefusalKind::NoRoom => self.tables.resize(sizes),
+                _ => {
+                    self.tables.resize(before);
+                    return Err(refusal);
+                }
             }
         }
-        if let Some(refusal) = refusal {
-            self.tables.resize(before);
-            return Err(refusal);
+        if self.sizes() != lent {
+            let needed = lent.grown_to(self.accepted(deck).sizes());
+            self.tables.resize(needed.unwrap_or(self.sizes()));
         }
         Ok(self.accepted(deck))
     }

@@ -65,6 +65,12 @@ impl Sizes {
         self.with(other, usize::max)
     }
 
+    /// Eight times the records of each table, and at least [`Sizes::FIRST`], as far as may be; none where all are the largest.
+    pub(crate) fn enlarged(self) -> Option<Self> {
+        let eightfold = self.with(Self::FIRST, |has, first| first.max(8 * has));
+        (self != Self::LARGEST).then(|| eightfold.at_most(Self::LARGEST))
+    }
+
     /// These sizes with room for so many records, each table that has it not rounded up; none where all have it.
     pub(crate) fn grown_to(self, needed: Self) -> Option<Self> {
         let room = |has: usize, needs: usize| {
@@ -116,6 +122,17 @@ mod tests {
         assert_eq!(some.grown_to(sizes(3, 61, 5)), Some(sizes(29, 64, 8)));
         assert_eq!(some.grown_to(Sizes::LARGEST), Some(Sizes::LARGEST));
         assert_eq!(Sizes::LARGEST.grown_to(Sizes::LARGEST), None);
+    }
+
+    #[test]
+    fn enlarging_ends_at_the_largest() {
+        let second = sizes(8_192, 32_768, 8_192);
+        assert_eq!(Sizes::FIRST.enlarged(), Some(second));
+        assert_eq!(second.enlarged(), Some(Sizes::LARGEST));
+        assert_eq!(Sizes::LARGEST.enlarged(), None);
+        assert_eq!(sizes(0, 5, 0).enlarged(), Some(Sizes::FIRST));
+        let uneven = sizes(65_536, 100_000, 3_000);
+        assert_eq!(uneven.enlarged(), Some(sizes(65_536, 262_144, 24_000)));
     }
 
     #[test]

@@ -7,6 +7,12 @@ use crate::tables::Tables;
 
 const NO_ROOM: u64 = (12 << 32) + 7;
 
+const EIGHTFOLD: Sizes = Sizes {
+    clauses: 8_192,
+    atoms: 32_768,
+    deferrals: 8_192,
+};
+
 /// A deck with a header, of so many bytes.
 fn deck(bytes: usize) -> Vec<u8> {
     let mut text = format!("{:11}{:11}{:11}{:11}{:11}\n", 0, 1, 0, 0, 0);
@@ -92,36 +98,50 @@ fn a_long_deck_is_lent_more_at_once() {
 }
 
 #[test]
-fn a_second_call_has_the_largest_and_what_is_needed_is_kept() {
+fn a_second_call_has_eight_times_as_much_and_what_is_needed_is_kept() {
     let mut clausifier = Clausifier::new();
     let mut library = Library::new(sizes(5_000, 5_000, 9), 5_000, 9);
     assert_eq!(library.ask(&mut clausifier, 100), Ok(5_000));
-    assert_eq!(library.lent, [Sizes::FIRST, Sizes::LARGEST]);
+    assert_eq!(library.lent, [Sizes::FIRST, EIGHTFOLD]);
     assert_eq!(clausifier.sizes(), sizes(8_192, 8_192, 1_024));
     assert_eq!(library.ask(&mut clausifier, 100), Ok(5_000));
     assert_eq!(library.lent.len(), 1);
 }
 
 #[test]
-fn room_that_the_answer_does_not_show() {
-    // The answer fits, the way to it does not: the same deck asks for a second call once and never again.
+fn a_third_call_has_the_largest() {
     let mut clausifier = Clausifier::new();
-    let mut library = Library::new(sizes(0, 100_000, 0), 10, 0);
-    assert_eq!(library.ask(&mut clausifier, 100), Ok(10));
-    assert_eq!(clausifier.sizes(), Sizes::LARGEST);
-    assert_eq!(library.ask(&mut clausifier, 100), Ok(10));
-    assert_eq!(library.lent, [Sizes::LARGEST]);
+    let mut library = Library::new(sizes(9_000, 9_000, 0), 9_000, 0);
+    assert_eq!(library.ask(&mut clausifier, 100), Ok(9_000));
+    assert_eq!(library.lent, [Sizes::FIRST, EIGHTFOLD, Sizes::LARGEST]);
+    assert_eq!(clausifier.sizes(), sizes(16_384, 16_384, 1_024));
 }
 
 #[test]
-fn a_refusal_takes_two_calls_at_most_and_leaves_the_sizes() {
+fn room_that_the_answer_does_not_show() {
+    // The answer fits, the way to it does not: the same deck asks for further calls once and never again.
+    let mut clausifier = Clausifier::new();
+    let mut library = Library::new(sizes(0, 20_000, 0), 10, 0);
+    assert_eq!(library.ask(&mut clausifier, 100), Ok(10));
+    assert_eq!(clausifier.sizes(), EIGHTFOLD);
+    assert_eq!(library.ask(&mut clausifier, 100), Ok(10));
+    assert_eq!(library.lent, [EIGHTFOLD]);
+}
+
+#[test]
+fn a_refusal_takes_three_calls_at_most_and_leaves_the_sizes() {
     let never = sizes(usize::MAX, 0, 0);
-    for (bytes, first) in [(100, Sizes::FIRST), (60_000, sizes(4_096, 16_384, 1_024))] {
+    let by_length = sizes(4_096, 16_384, 1_024);
+    let more = sizes(32_768, 131_072, 8_192);
+    for (bytes, lent) in [
+        (100, vec![Sizes::FIRST, EIGHTFOLD, Sizes::LARGEST]),
+        (60_000, vec![by_length, more, Sizes::LARGEST]),
+    ] {
         let mut clausifier = Clausifier::new();
         let mut library = Library::new(never, 0, 0);
         let refusal = library.ask(&mut clausifier, bytes).expect_err("refused");
         assert_eq!((refusal.number(), refusal.line()), (12, Some(7)));
-        assert_eq!(library.lent, [first, Sizes::LARGEST]);
+        assert_eq!(library.lent, lent);
         assert_eq!(clausifier.sizes(), Sizes::FIRST);
     }
     let mut clausifier = Clausifier::with_sizes(Sizes::LARGEST);
