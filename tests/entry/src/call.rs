@@ -1,44 +1,9 @@
 //! The call: dirty tables of any size, anywhere, and what must stand there afterwards.
 
 use deck::random::Random;
-use lent::{ATOM, CLAUSE, DEFERRAL, Lent, SCRATCH, bytes, first_not_zero, words};
+use lent::{ATOM, CLAUSE, Clausify, DEFERRAL, Lent, SCRATCH, bytes, first_not_zero, words};
 
 use crate::outcome::Outcome;
-
-/// `clausify_with_stats` of the proved library: the deck, then clauses, atoms, deferrals, numbers and scratch, each a place
-/// and its bytes. It answers 0, or a refusal's number × 2^32 + line.
-pub type Clausify = unsafe extern "C" fn(
-    deck: *const u8,
-    deck_len: usize,
-    clauses: *mut u8,
-    clauses_len: usize,
-    atoms: *mut u8,
-    atoms_len: usize,
-    deferrals: *mut u8,
-    deferrals_len: usize,
-    numbers: *mut u8,
-    numbers_len: usize,
-    scratch: *mut u8,
-    scratch_len: usize,
-) -> u64;
-
-#[cfg(feature = "linked")]
-unsafe extern "C" {
-    pub fn gorvask_clausify_with_stats(
-        deck: *const u8,
-        deck_len: usize,
-        clauses: *mut u8,
-        clauses_len: usize,
-        atoms: *mut u8,
-        atoms_len: usize,
-        deferrals: *mut u8,
-        deferrals_len: usize,
-        numbers: *mut u8,
-        numbers_len: usize,
-        scratch: *mut u8,
-        scratch_len: usize,
-    ) -> u64;
-}
 
 const NAMES: [&str; 5] = [
     "the clause table",

@@ -3,10 +3,11 @@
 use std::time::{Duration, Instant};
 
 use deck::generate::Shape;
+use lent::Clausify;
 use oracle::met::{DEFERRAL_KINDS, ENDS, LATE_PASSES, Met};
 use samples::sample::lines;
 
-use crate::call::{Call, Clausify};
+use crate::call::Call;
 use crate::case::{
     AFTER_THE_AXIOMS, BY_CONCEPTS, BY_MEMBERS, Case, Decks, IN_AN_AXIOM, LAST_VISIT, LONG,
     MIN_ZERO, NO_TABLES, WIDE, case,

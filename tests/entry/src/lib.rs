@@ -18,9 +18,7 @@ mod outcome;
 mod sizes;
 pub mod stored;
 
-#[cfg(feature = "linked")]
-pub use call::gorvask_clausify_with_stats;
-pub use call::{Call, Clausify, Sizes};
+pub use call::{Call, Sizes};
 #[cfg(feature = "live")]
 pub use case::{Case, Decks, case, sampled};
 #[cfg(feature = "live")]

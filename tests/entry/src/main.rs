@@ -3,7 +3,8 @@
 use std::error::Error;
 use std::process::ExitCode;
 
-use entry::{Decks, Until, compare, gorvask_clausify_with_stats};
+use entry::{Decks, Until, compare};
+use lent::gorvask_clausify_with_stats;
 
 const USAGE: &str = "entry [--dwell] SEED COUNT, or entry [--dwell] SEED --seconds N";
 

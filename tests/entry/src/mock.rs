@@ -2,10 +2,10 @@
 
 use std::cell::Cell;
 
-use lent::bytes;
+use lent::{Clausify, bytes};
 use oracle::{Answer, Limits, answer_min_zero};
 
-use crate::call::{Clausify, Sizes};
+use crate::call::Sizes;
 use crate::outcome::Outcome;
 use crate::sizes::WRONG;
 

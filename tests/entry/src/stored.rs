@@ -5,8 +5,9 @@ use std::io;
 use deck::random::Random;
 use deck::read::numbers;
 use deck::write::row;
+use lent::Clausify;
 
-use crate::call::{Call, Clausify, Sizes};
+use crate::call::{Call, Sizes};
 
 /// What a sample holds in a deck's place: a row of 40 and the records of the three tables, then the deck.
 #[must_use]

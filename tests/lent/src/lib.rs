@@ -1,9 +1,11 @@
-//! The tables that a caller of the proved libraries lends: their sizes, buffers that are watched, and what a build script
-//! needs to link such a library.
+//! The tables that a caller of the proved library lends: their sizes, buffers that are watched; its entry, and what a build
+//! script needs to link it.
 
+mod library;
 mod link;
 mod table;
 
+pub use library::{Clausify, gorvask_clausify_with_stats};
 pub use link::link;
 pub use table::Lent;
 

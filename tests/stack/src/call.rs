@@ -1,25 +1,8 @@
 //! A call of the proved library with the largest tables.
 
-use lent::{ATOM, CLAUSE, DEFERRAL, SCRATCH};
+use lent::{ATOM, CLAUSE, DEFERRAL, SCRATCH, gorvask_clausify_with_stats};
 
 use crate::paint::taken;
-
-unsafe extern "C" {
-    fn gorvask_clausify_with_stats(
-        deck: *const u8,
-        deck_len: usize,
-        clauses: *mut u8,
-        clauses_len: usize,
-        atoms: *mut u8,
-        atoms_len: usize,
-        deferrals: *mut u8,
-        deferrals_len: usize,
-        numbers: *mut u8,
-        numbers_len: usize,
-        scratch: *mut u8,
-        scratch_len: usize,
-    ) -> u64;
-}
 
 /// The five tables, in the entry's order.
 pub struct Tables([Vec<u8>; 5]);

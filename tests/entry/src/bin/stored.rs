@@ -4,7 +4,8 @@ use std::error::Error;
 use std::path::Path;
 use std::process::ExitCode;
 
-use entry::{gorvask_clausify_with_stats, stored};
+use entry::stored;
+use lent::gorvask_clausify_with_stats;
 
 fn main() -> Result<ExitCode, Box<dyn Error>> {
     let arguments: Vec<String> = std::env::args().skip(1).collect();
