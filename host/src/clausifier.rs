@@ -47,15 +47,15 @@ impl Clausifier {
 
     /// Makes room for at least so many records, as far as [`Sizes::LARGEST`] goes.
     pub fn reserve(&mut self, sizes: Sizes) {
-        let sizes = self.sizes().at_least(sizes).at_most(Sizes::LARGEST);
-        self.tables.resize(sizes);
+        self.tables.grow(sizes.at_most(Sizes::LARGEST));
     }
 
-    /// The clauses of a deck. Where there is no room, the tables are made eight times as large, up to [`Sizes::LARGEST`], and
-    /// the deck is clausified again: all of them, since the library does not say which one was too small. From what a new
-    /// clausifier lends that is two further calls at most; a call ends where a table does, so that most of the time is the last
-    /// one's. Then what the answer takes is kept, rounded up to a power of two; or all, where that is no more than there was,
-    /// since the run needed more on its way. A deck that is refused leaves the tables as large as they were.
+    /// The clauses of a deck. Where there is no room, the tables are made eight times as large, at least [`Sizes::FIRST`] and
+    /// at most [`Sizes::LARGEST`], and the deck is clausified again: all of them, since the library does not say which one was
+    /// too small. From what a new clausifier lends that is two further calls at most, and three from smaller tables; a call ends
+    /// where a table does, so that most of the time is the last one's. Then each table that was too small for the answer is cut
+    /// to what the answer takes, rounded up to a power of two, and each other one to what it had. Where all had room for the
+    /// answer, and only the way to it needed more, none is cut. A deck that is refused leaves the tables as large as they were.
     ///
     /// # Errors
     /// The refusal, if the deck is refused.
@@ -93,16 +93,16 @@ impl Clausifier {
         let lent = self.sizes();
         while let Some(refusal) = Refusal::of_reply(call(&mut self.tables, deck)) {
             match self.sizes().enlarged() {
-                Some(sizes) if refusal.kind() == RefusalKind::NoRoom => self.tables.resize(sizes),
+                Some(sizes) if refusal.kind() == RefusalKind::NoRoom => self.tables.grow(sizes),
                 _ => {
-                    self.tables.resize(before);
+                    self.tables.trim(before);
                     return Err(refusal);
                 }
             }
         }
         if self.sizes() != lent {
-            let needed = lent.grown_to(self.accepted(deck).sizes());
-            self.tables.resize(needed.unwrap_or(self.sizes()));
+            let kept = lent.grown_to(self.accepted(deck).sizes());
+            self.tables.trim(kept.unwrap_or(self.sizes()));
         }
         Ok(self.accepted(deck))
     }

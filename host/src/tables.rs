@@ -41,21 +41,30 @@ impl Tables {
         &self.numbers
     }
 
-    /// Makes each table as large as said. One that becomes smaller keeps the records for which it has room, one that becomes
-    /// larger keeps nothing.
-    pub fn resize(&mut self, sizes: Sizes) {
-        for (table, bytes) in [
+    /// Makes each table at least so large. One that becomes larger keeps nothing.
+    pub fn grow(&mut self, sizes: Sizes) {
+        for (table, bytes) in self.with_bytes(sizes) {
+            if bytes > table.len() {
+                *table = vec![0; bytes];
+            }
+        }
+    }
+
+    /// Makes each table at most so large, and none larger. It keeps the records for which it has room.
+    pub fn trim(&mut self, sizes: Sizes) {
+        for (table, bytes) in self.with_bytes(sizes) {
+            table.truncate(bytes);
+            table.shrink_to_fit();
+        }
+    }
+
+    /// Each table with the bytes that so many records take.
+    fn with_bytes(&mut self, sizes: Sizes) -> [(&mut Vec<u8>, usize); 3] {
+        [
             (&mut self.clauses, CLAUSE_BYTES * sizes.clauses),
             (&mut self.atoms, ATOM_BYTES * sizes.atoms),
             (&mut self.deferrals, DEFERRAL_BYTES * sizes.deferrals),
-        ] {
-            if bytes > table.len() {
-                *table = vec![0; bytes];
-            } else if bytes < table.len() {
-                table.truncate(bytes);
-                table.shrink_to_fit();
-            }
-        }
+        ]
     }
 
     /// What a call could leave, as words.
@@ -99,6 +108,60 @@ impl Tables {
                 scratch.as_mut_ptr(),
                 scratch.len(),
             )
+        }
+    }
+}
+
+#[cfg(test)]
+mod tests {
+    use super::Tables;
+    use crate::sizes::Sizes;
+
+    fn sizes(clauses: usize, atoms: usize, deferrals: usize) -> Sizes {
+        Sizes {
+            clauses,
+            atoms,
+            deferrals,
+        }
+    }
+
+    /// Tables of 3, 5 and 7 records whose bytes count up from 1.
+    fn counted() -> Tables {
+        let mut tables = Tables::new(sizes(3, 5, 7));
+        for (table, _) in tables.with_bytes(sizes(0, 0, 0)) {
+            for (byte, count) in table.iter_mut().zip(1..) {
+                *byte = count;
+            }
+        }
+        tables
+    }
+
+    #[test]
+    fn trimming_keeps_what_there_is_room_for() {
+        let whole = counted();
+        for to in [sizes(2, 9, 8), sizes(4, 1, 7), sizes(3, 6, 0)] {
+            let mut tables = counted();
+            tables.trim(to);
+            assert_eq!(tables.sizes(), to.at_most(sizes(3, 5, 7)));
+            for (kept, all) in tables.records().into_iter().zip(whole.records()) {
+                assert!(all.starts_with(kept));
+            }
+        }
+    }
+
+    #[test]
+    fn growing_makes_no_table_smaller() {
+        let mut tables = counted();
+        tables.grow(sizes(4, 5, 6));
+        assert_eq!(tables.sizes(), sizes(4, 5, 7));
+        assert!(tables.records()[0].iter().all(|&byte| byte == 0));
+        for (kept, all) in tables
+            .records()
+            .into_iter()
+            .zip(counted().records())
+            .skip(1)
+        {
+            assert_eq!(kept, all);
         }
     }
 }

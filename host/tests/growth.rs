@@ -40,6 +40,22 @@ fn the_answer_is_whole_after_growth() {
 }
 
 #[test]
+fn the_answer_is_whole_after_growth_from_uneven_tables() {
+    let enough = Clausifier::with_sizes(Sizes::LARGEST)
+        .clausify(&equivalent(40, 1))
+        .map(texts);
+    let mut clausifier = Clausifier::with_sizes(Sizes {
+        clauses: 200,
+        atoms: 4_096,
+        deferrals: 0,
+    });
+    let grown = clausifier.clausify(&equivalent(40, 1)).map(texts);
+    assert_eq!(enough.as_ref().map(Vec::len), Ok(1_560));
+    assert_eq!(grown, enough);
+    assert_eq!(clausifier.sizes().clauses, 1_600);
+}
+
+#[test]
 fn just_enough_room_is_not_made_larger() {
     let enough = Sizes {
         clauses: 30,

@@ -1,6 +1,8 @@
 //! Growth, with a stand-in for the library that counts its calls.
 
 use super::Clausifier;
+use crate::atom::Atom;
+use crate::clauses::Clauses;
 use crate::refusal::Refusal;
 use crate::sizes::Sizes;
 use crate::tables::Tables;
@@ -28,7 +30,8 @@ fn sizes(clauses: usize, atoms: usize, deferrals: usize) -> Sizes {
     }
 }
 
-/// A library that asks for some room on its way, and whose answer has so many clauses, each of one atom, and deferrals.
+/// A library that asks for some room on its way, and whose answer has so many clauses and deferrals. Clause n has class n for
+/// its one atom, and deferral n stands at line n + 1.
 struct Library {
     asks: Sizes,
     clauses: u32,
@@ -51,28 +54,31 @@ impl Library {
         if tables.sizes().at_least(self.asks) != tables.sizes() {
             return NO_ROOM;
         }
-        let clause = |first: u32| [first, 0, 1];
+        let clause = |number: u32| [number, 0, 1];
+        let atom = |number: u32| [1, 0, number + 1, 0, 0, 0];
+        let deferral = |number: u32| [number + 1, 4];
         tables.fill(
             &(0..self.clauses).flat_map(clause).collect::<Vec<_>>(),
-            &[1, 0, 1, 0, 0, 0].repeat(self.clauses as usize),
-            &[9, 4].repeat(self.deferrals as usize),
+            &(0..self.clauses).flat_map(atom).collect::<Vec<_>>(),
+            &(0..self.deferrals).flat_map(deferral).collect::<Vec<_>>(),
             [self.clauses, 0, 0, 0, 0, self.deferrals, 0, 0, 0, 0],
         );
         0
+    }
+
+    /// Whether every record is as it was written.
+    fn wrote(&self, answer: &Clauses<'_>) -> bool {
+        let atoms = answer.iter().flat_map(|clause| clause.head());
+        let lines = answer.deferrals().map(|deferral| deferral.line);
+        atoms.eq((0..self.clauses).map(|class| Atom::Class(class, 0)))
+            && lines.eq((1..=self.deferrals).map(Some))
     }
 
     /// How many clauses the deck has, or its refusal.
     fn ask(&mut self, clausifier: &mut Clausifier, bytes: usize) -> Result<usize, Refusal> {
         self.lent.clear();
         let answer = clausifier.clausify_by(&deck(bytes), |tables, _| self.call(tables))?;
-        assert_eq!(
-            answer
-                .iter()
-                .map(|clause| clause.head().len())
-                .sum::<usize>(),
-            answer.len()
-        );
-        assert_eq!(answer.deferrals().len(), self.deferrals as usize);
+        assert!(self.wrote(&answer), "other records than the library's");
         Ok(answer.len())
     }
 }
@@ -118,6 +124,38 @@ fn a_third_call_has_the_largest() {
 }
 
 #[test]
+fn uneven_tables_keep_the_answer() {
+    // Rounded up the answer would take more than was lent last: 2,048 clauses of 1,600, 8,192 atoms of 4,800, and so on.
+    let enough = 65_536;
+    for (from, clauses, deferrals, kept) in [
+        (sizes(200, 4_096, 0), 1_560, 0, sizes(1_600, 4_096, 0)),
+        (sizes(enough, 600, 0), 4_500, 0, sizes(enough, 4_800, 0)),
+        (sizes(10, 10, 200), 10, 1_560, sizes(10, 10, 1_600)),
+        (
+            sizes(200, 600, 200),
+            1_560,
+            1_560,
+            sizes(1_600, 2_048, 1_600),
+        ),
+        (
+            sizes(9_000, 33_000, 9_000),
+            65_535,
+            65_000,
+            sizes(enough, enough, enough),
+        ),
+    ] {
+        let mut clausifier = Clausifier::with_sizes(from);
+        let takes = clauses as usize;
+        let asks = sizes(takes, takes, deferrals as usize);
+        let mut library = Library::new(asks, clauses, deferrals);
+        assert_eq!(library.ask(&mut clausifier, 100), Ok(takes));
+        assert_eq!((library.lent.len(), clausifier.sizes()), (2, kept));
+        assert_eq!(library.ask(&mut clausifier, 100), Ok(takes));
+        assert_eq!((library.lent.len(), clausifier.sizes()), (1, kept));
+    }
+}
+
+#[test]
 fn room_that_the_answer_does_not_show() {
     // The answer fits, the way to it does not: the same deck asks for further calls once and never again.
     let mut clausifier = Clausifier::new();
@@ -148,6 +186,19 @@ fn a_refusal_takes_three_calls_at_most_and_leaves_the_sizes() {
     let mut library = Library::new(never, 0, 0);
     assert!(library.ask(&mut clausifier, 100).is_err());
     assert_eq!(library.lent, [Sizes::LARGEST]);
+}
+
+#[test]
+fn from_small_tables_a_refusal_takes_four_calls() {
+    let small = sizes(1, 0, 30);
+    let mut clausifier = Clausifier::with_sizes(small);
+    let mut library = Library::new(sizes(usize::MAX, 0, 0), 0, 0);
+    assert!(library.ask(&mut clausifier, 100).is_err());
+    assert_eq!(
+        library.lent,
+        [small, Sizes::FIRST, EIGHTFOLD, Sizes::LARGEST]
+    );
+    assert_eq!(clausifier.sizes(), small);
 }
 
 #[test]
