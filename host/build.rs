@@ -6,7 +6,8 @@ use std::path::{Path, PathBuf};
 
 /// Environment variable: the folder that has the static library, in place of the repository's own.
 const FOLDER: &str = "GORVASK_STATICLIB";
-const LIBRARY: &str = "libclausify.a";
+/// What the library is called, without what a linker puts around it.
+const NAME: &str = "clausify";
 
 /// What there is to link.
 enum Found {
@@ -59,8 +60,9 @@ fn named(folder: &Path) -> Found {
         Found::Library(library)
     } else {
         Found::Wrong(format!(
-            "{FOLDER} is {}, and there is no {LIBRARY} in it",
-            folder.display()
+            "{FOLDER} is {}, and there is no {} in it",
+            folder.display(),
+            file()
         ))
     }
 }
@@ -72,15 +74,20 @@ fn own() -> Found {
         Found::Library(library)
     } else {
         Found::Missing(format!(
-            "nothing can be linked: {} is not there. Run `rt staticlib clausify` in the repository, or set {FOLDER} to the \
-             folder that has {LIBRARY}",
-            library.display()
+            "nothing can be linked: {} is not there. Run `host/library` in the repository, or set {FOLDER} to the \
+             folder that has {}",
+            library.display(),
+            file()
         ))
     }
 }
 
+fn file() -> String {
+    format!("lib{NAME}.a")
+}
+
 fn watched(folder: &Path) -> PathBuf {
-    let library = folder.join(LIBRARY);
+    let library = folder.join(file());
     println!("cargo::rerun-if-changed={}", library.display());
     library
 }
@@ -92,5 +99,5 @@ fn link(library: &Path) {
     let folder = library.parent().expect("a file lies in a folder");
     println!("cargo::rustc-cfg=gorvask_linked");
     println!("cargo::rustc-link-search=native={}", folder.display());
-    println!("cargo::rustc-link-lib=static=clausify");
+    println!("cargo::rustc-link-lib=static={NAME}");
 }

@@ -25,7 +25,7 @@
 //! ```
 //!
 //! Checking and documenting this package needs no static library, and neither do the tests of this library target
-//! (`cargo test --lib`). What is linked needs it: `rt staticlib clausify` in the repository writes it.
+//! (`cargo test --lib`). What is linked needs it: `host/library` in the repository writes it.
 
 mod atom;
 mod clause;

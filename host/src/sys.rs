@@ -22,7 +22,7 @@ unsafe extern "C" {
     // Where there is no library to link, the linker misses a name that says so.
     #[cfg_attr(
         not(gorvask_linked),
-        link_name = "libclausify.a_is_missing__run__rt_staticlib_clausify__or_set_GORVASK_STATICLIB"
+        link_name = "the_static_library_is_missing__run__host/library__or_set_GORVASK_STATICLIB"
     )]
     pub fn gorvask_clausify_with_stats(
         deck: *const u8,

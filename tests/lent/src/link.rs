@@ -20,7 +20,7 @@ pub fn link(name: &str) {
     println!("cargo::rerun-if-changed={}", file.display());
     assert!(
         file.is_file(),
-        "{} is missing: `rt staticlib {name}` writes it, or set {FOLDER} to its folder",
+        "{} is missing: `host/library` writes it, or set {FOLDER} to its folder",
         file.display()
     );
     println!("cargo::rustc-link-search=native={}", folder.display());
