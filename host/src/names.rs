@@ -115,45 +115,51 @@ impl Names {
             }),
         }
     }
-
-    /// Takes a line.
-    fn take(&mut self, line: u32, text: &str) -> Result<(), String> {
-        if text.trim_start().is_empty() || text.trim_start().starts_with('#') {
-            return Ok(());
-        }
-        let (sort, id, name) = read(text)?;
-        let key = (sort, id);
-        if let Some(before) = self.0.get(&key) {
-            return Err(format!(
-                "{} {id} has a name already, by line {}",
-                sort.word(),
-                before.line
-            ));
-        }
-        let mut of_sort = self.0.iter().filter(|((other, _), _)| *other == sort);
-        if let Some(((_, other), before)) = of_sort.find(|(_, before)| before.name == name) {
-            let word = sort.word();
-            return Err(format!(
-                "{name} is the name of {word} {other} already, by line {}",
-                before.line
-            ));
-        }
-        let name = name.to_owned();
-        self.0.insert(key, Name { line, name });
-        Ok(())
-    }
 }
 
 impl FromStr for Names {
     type Err = NamesError;
 
     fn from_str(text: &str) -> Result<Self, NamesError> {
-        let mut names = Self::default();
+        let mut reader = Reader::default();
         for (line, text) in (1..).zip(text.lines()) {
-            let taken = names.take(line, text);
+            let taken = reader.take(line, text);
             taken.map_err(|words| NamesError { line, words })?;
         }
-        Ok(names)
+        Ok(reader.names)
+    }
+}
+
+/// The names of the lines so far.
+#[derive(Default)]
+struct Reader<'t> {
+    names: Names,
+    /// The id that a name of a sort stands for.
+    ids: BTreeMap<(Sort, &'t str), u32>,
+}
+
+impl<'t> Reader<'t> {
+    /// Takes a line.
+    fn take(&mut self, line: u32, text: &'t str) -> Result<(), String> {
+        if text.trim_start().is_empty() || text.trim_start().starts_with('#') {
+            return Ok(());
+        }
+        let (sort, id, name) = read(text)?;
+        let word = sort.word();
+        if let Some(before) = self.names.0.get(&(sort, id)) {
+            let before = before.line;
+            return Err(format!("{word} {id} has a name already, by line {before}"));
+        }
+        if let Some(&other) = self.ids.get(&(sort, name)) {
+            let before = self.names.0[&(sort, other)].line;
+            return Err(format!(
+                "{name} is the name of {word} {other} already, by line {before}"
+            ));
+        }
+        self.ids.insert((sort, name), id);
+        let name = name.to_owned();
+        self.names.0.insert((sort, id), Name { line, name });
+        Ok(())
     }
 }
 
@@ -172,11 +178,17 @@ fn read(text: &str) -> Result<(Sort, u32, &str), String> {
             "a line begins with class, individual or role, and not with {sort:?}"
         ));
     };
-    let Ok(id) = id.parse() else {
+    let Some(id) = number(id) else {
         return Err(format!("the second word is a number, and {id:?} is none"));
     };
     is_clear(sort, name)?;
     Ok((sort, id, name))
+}
+
+/// The number of a word that has digits alone.
+fn number(word: &str) -> Option<u32> {
+    let is_digits = word.bytes().all(|byte| byte.is_ascii_digit());
+    word.parse().ok().filter(|_| is_digits)
 }
 
 /// Whether the name can be told from all else in a clause.

@@ -1,3 +1,5 @@
+use std::fmt::Write;
+
 use super::{Names, NamesError};
 use crate::header::Header;
 
@@ -55,6 +57,10 @@ fn a_bad_line_is_told_with_its_number() {
             "line 1: the second word is a number, and \"-1\" is none",
         ),
         (
+            "class +1 A",
+            "line 1: the second word is a number, and \"+1\" is none",
+        ),
+        (
             "class 4294967296 A",
             "line 1: the second word is a number, and \"4294967296\" is none",
         ),
@@ -94,6 +100,21 @@ fn a_bad_line_is_told_with_its_number() {
     ] {
         assert_eq!(names(text), Err(error.to_owned()));
     }
+}
+
+#[test]
+fn a_long_file() {
+    let mut text = String::new();
+    for id in 0..60_000 {
+        writeln!(text, "class {id} Class-{id}").expect("a text takes all");
+    }
+    let all = names(&text).expect("names");
+    assert_eq!(all.class(59_999), Some("Class-59999"));
+    text.push_str("class 60000 Class-59998\n");
+    assert_eq!(
+        names(&text),
+        Err("line 60001: Class-59998 is the name of class 59998 already, by line 59999".to_owned())
+    );
 }
 
 #[test]

@@ -1,6 +1,7 @@
 //! What stands behind a subcommand.
 
 use std::ffi::{OsStr, OsString};
+use std::os::unix::ffi::OsStrExt;
 
 use crate::ended::Failure;
 
@@ -84,22 +85,26 @@ fn option(
     forms: &[Form],
     next: impl FnOnce() -> Option<OsString>,
 ) -> Result<(&'static str, OsString), Failure> {
-    let text = word.to_string_lossy();
-    let (name, value) = match text.split_once('=') {
-        Some((name, value)) => (name, Some(OsString::from(value))),
-        None => (&*text, None),
-    };
+    let (name, value) = parted(word);
     let Some(form) = forms.iter().find(|form| form.name == name) else {
-        return Err(unknown(&text, forms));
+        return Err(unknown(&word.to_string_lossy(), forms));
     };
+    let name = form.name;
     match (form.value, value) {
-        (None, None) => Ok((form.name, OsString::new())),
+        (None, None) => Ok((name, OsString::new())),
         (None, Some(_)) => Err(Failure::Usage(format!("{name} takes no value"))),
-        (Some(what), value) => match value.or_else(next) {
-            Some(value) => Ok((form.name, value)),
+        (Some(what), value) => match value.map(OsStr::to_owned).or_else(next) {
+            Some(value) => Ok((name, value)),
             None => Err(Failure::Usage(format!("{name} takes a value: {what}"))),
         },
     }
+}
+
+/// What stands before the first `=`, and what behind it, which need not be a text.
+fn parted(word: &OsStr) -> (&OsStr, Option<&OsStr>) {
+    let mut parts = word.as_bytes().splitn(2, |&byte| byte == b'=');
+    let name = parts.next().unwrap_or_default();
+    (OsStr::from_bytes(name), parts.next().map(OsStr::from_bytes))
 }
 
 fn unknown(word: &str, forms: &[Form]) -> Failure {
@@ -116,6 +121,7 @@ fn unknown(word: &str, forms: &[Form]) -> Failure {
 #[cfg(test)]
 mod tests {
     use std::ffi::{OsStr, OsString};
+    use std::os::unix::ffi::OsStrExt;
 
     use super::{Arguments, Form};
     use crate::ended::Failure;
@@ -154,6 +160,20 @@ mod tests {
         let behind = read(&["--", "--flag"]).expect("arguments");
         assert_eq!(behind.deck(), Some(OsStr::new("--flag")));
         assert_eq!(behind.option("--flag"), None);
+    }
+
+    #[test]
+    fn a_value_that_is_no_text() {
+        for (word, value) in [
+            (&b"--names=n\xff"[..], &b"n\xff"[..]),
+            (b"--names=a=\xfe", b"a=\xfe"),
+            (b"--names=", b""),
+        ] {
+            let words = [OsStr::from_bytes(word).to_owned()];
+            let arguments = Arguments::read(&words, FORMS).expect("arguments");
+            let names = arguments.option("--names");
+            assert_eq!(names, Some(OsStr::from_bytes(value)));
+        }
     }
 
     #[test]
