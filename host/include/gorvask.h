@@ -28,8 +28,8 @@ extern "C" {
 #define GORVASK_MOST_ATOMS 262144u
 #define GORVASK_MOST_DEFERRALS 65536u
 
-/* Stack that the calling thread should have left. No proof bounds it; as measured over concepts of every shape at the limits a
- * call takes at most 160 KiB, and this is four times as much. */
+/* Stack that the calling thread should have left. No proof bounds it; a test holds calls on concepts of every shape at the
+ * limits to 160 KiB at most, and this is four times as much. */
 #define GORVASK_STACK_BYTES 655360u
 
 /* The reply is 0 where the deck is accepted: the tables hold the records, then zeros. Otherwise it is a refusal's number

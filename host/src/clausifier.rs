@@ -52,10 +52,11 @@ impl Clausifier {
 
     /// The clauses of a deck. Where there is no room, the tables are made eight times as large, at least [`Sizes::FIRST`] and
     /// at most [`Sizes::LARGEST`], and the deck is clausified again: all of them, since the library does not say which one was
-    /// too small. From what a new clausifier lends that is two further calls at most, and three from smaller tables; a call ends
-    /// where a table does, so that most of the time is the last one's. Then each table that was too small for the answer is cut
-    /// to what the answer takes, rounded up to a power of two, and each other one to what it had. Where all had room for the
-    /// answer, and only the way to it needed more, none is cut. A deck that is refused leaves the tables as large as they were.
+    /// too small. From what a new clausifier lends that is two further calls at most, and three from smaller tables; a call
+    /// ends where a table does, so that most of the time is the last one's. Then each table that was too small for the answer
+    /// is cut to what the answer takes, rounded up to a power of two, and each other one to what it had. Where all had room
+    /// for the answer, and only the way to it needed more, none is cut. A deck that is refused leaves the tables as large as
+    /// they were.
     ///
     /// # Errors
     /// The refusal, if the deck is refused.

@@ -5,7 +5,7 @@ use std::fmt;
 use crate::atom::ClassId;
 use crate::deferral::Deferral;
 
-/// Why the second half of demand 3 may not be promised for an accepted deck. It says that no rule is lost or weakened: where
+/// Why the second half of the promise may not be given for an accepted deck. It says that no rule is lost or weakened: where
 /// all clauses hold and the deck's inverse-role axioms are satisfied, every axiom of kinds 21 to 31 is. It is promised where
 /// nothing was deferred, no class is marked as data key, and no at-most atom names a fresh class; `docs/MEANING.md` has it in
 /// full. The first half, that no clause says too much, is promised for every accepted deck.

@@ -46,6 +46,27 @@ fn a_text_with_company_deferrals_and_numbers() {
 }
 
 #[test]
+fn a_fresh_class_of_anything_has_no_company() {
+    // A0 below Some r0 Top.
+    let deck = concat!(
+        "          0          1          0          1          3\n",
+        "          3          0\n",
+        "          1\n",
+        "          9          0          1\n",
+        "         21          0          2\n",
+    );
+    let ran = run_on(&["text"], deck.as_bytes());
+    assert_eq!(ran.status, Some(0));
+    let mut lines = ran.out.lines();
+    assert_eq!(lines.next(), Some("    0  A0(x) → ∃r0.Q0(x)"));
+    assert!(
+        lines
+            .next()
+            .is_some_and(|line| line.starts_with("clauses 1: "))
+    );
+}
+
+#[test]
 fn a_check_has_verdict_and_numbers() {
     let whole = Ran {
         status: Some(0),
