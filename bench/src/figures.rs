@@ -38,6 +38,11 @@ pub fn ratio(spread: Spread) -> String {
     )
 }
 
+/// The least and the greatest of some runs.
+pub fn runs((least, greatest): (f64, f64)) -> String {
+    format!("{} to {}", figure(least), figure(greatest))
+}
+
 pub fn percent(share: f64) -> String {
     format!("{:.0} %", 100.0 * share)
 }

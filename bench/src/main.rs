@@ -34,7 +34,8 @@ const USAGE: &str = "\
 bench measure [--to FILE] [--build plain|LTO] [--rounds N] [--no-counts]
                              a whole run, written to the file or printed; says how this program was built
 bench page [--to FOLDER] [--date DATE] [--tools WORDS] FILE..
-                             of such runs PERFORMANCE.md and performance.svg in the folder, or the page printed
+                             of such runs PERFORMANCE.md and performance.svg in the folder, or the page printed; nothing is
+                             written where other work took over 2 % of the processors' time in a run
 bench decks FOLDER           writes the decks
 bench once WAY FILE CALLS    so many calls on one deck, for the counting of instructions
 ";
@@ -141,6 +142,7 @@ fn page(words: &[&str]) -> Outcome {
     let report = Report::of(date, &machine(), tools, runs);
     match to {
         Some(folder) => {
+            report.quiet()?;
             fs::create_dir_all(&folder)?;
             fs::write(folder.join("PERFORMANCE.md"), report.page())?;
             fs::write(folder.join("performance.svg"), report.picture())?;
@@ -179,7 +181,8 @@ fn write_decks(folder: &Path) -> Outcome {
 
 fn once(way: &str, file: &str, calls: &str) -> Outcome {
     let deck = fs::read(file)?;
-    let way = Way::named(way).ok_or(USAGE)?;
+    let is_timed = |way: &Way| Way::timed().contains(way);
+    let way = Way::named(way).filter(is_timed).ok_or(USAGE)?;
     let calls = calls.parse()?;
     Prepared::new(&deck).time(way, calls, Duration::ZERO);
     Ok(())

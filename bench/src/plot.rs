@@ -83,7 +83,8 @@ impl Plot<'_> {
             r##"<text x="{middle:.1}" y="28" text-anchor="middle" font-size="16" fill="#222222">{}</text>"##,
             self.title
         )?;
-        self.grid(svg, x, y)?;
+        grid(svg, x, y)?;
+        self.frame(svg, x, y)?;
         let mut labels = Vec::new();
         for curve in &self.curves {
             draw_curve(svg, curve, x, y)?;
@@ -95,28 +96,8 @@ impl Plot<'_> {
         writeln!(svg, "</svg>")
     }
 
-    fn grid(&self, svg: &mut String, x: &Axis, y: &Axis) -> std::fmt::Result {
-        for tick in x.ticks() {
-            let at = x.at(tick);
-            writeln!(
-                svg,
-                r##"<line x1="{at:.1}" y1="{:.1}" x2="{at:.1}" y2="{:.1}" stroke="#dddddd"/><text x="{at:.1}" y="{:.1}" text-anchor="middle" fill="#444444">{tick}</text>"##,
-                y.from,
-                y.to,
-                y.from + 20.0
-            )?;
-        }
-        for tick in y.ticks() {
-            let at = y.at(tick);
-            writeln!(
-                svg,
-                r##"<line x1="{:.1}" y1="{at:.1}" x2="{:.1}" y2="{at:.1}" stroke="#dddddd"/><text x="{:.1}" y="{:.1}" text-anchor="end" fill="#444444">{tick}</text>"##,
-                x.from,
-                x.to,
-                x.from - 8.0,
-                at + 4.0
-            )?;
-        }
+    /// A box around the curves, and what the axes are.
+    fn frame(&self, svg: &mut String, x: &Axis, y: &Axis) -> std::fmt::Result {
         writeln!(
             svg,
             r##"<rect x="{:.1}" y="{:.1}" width="{:.1}" height="{:.1}" fill="none" stroke="#888888"/>"##,
@@ -138,6 +119,32 @@ impl Plot<'_> {
             self.y
         )
     }
+}
+
+/// A line and a number for each tick.
+fn grid(svg: &mut String, x: &Axis, y: &Axis) -> std::fmt::Result {
+    for tick in x.ticks() {
+        let at = x.at(tick);
+        writeln!(
+            svg,
+            r##"<line x1="{at:.1}" y1="{:.1}" x2="{at:.1}" y2="{:.1}" stroke="#dddddd"/><text x="{at:.1}" y="{:.1}" text-anchor="middle" fill="#444444">{tick}</text>"##,
+            y.from,
+            y.to,
+            y.from + 20.0
+        )?;
+    }
+    for tick in y.ticks() {
+        let at = y.at(tick);
+        writeln!(
+            svg,
+            r##"<line x1="{:.1}" y1="{at:.1}" x2="{:.1}" y2="{at:.1}" stroke="#dddddd"/><text x="{:.1}" y="{:.1}" text-anchor="end" fill="#444444">{tick}</text>"##,
+            x.from,
+            x.to,
+            x.from - 8.0,
+            at + 4.0
+        )?;
+    }
+    Ok(())
 }
 
 fn draw_curve(svg: &mut String, curve: &Curve, x: &Axis, y: &Axis) -> std::fmt::Result {

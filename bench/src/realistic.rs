@@ -184,49 +184,43 @@ impl Junction {
     }
 
     fn add(&mut self, form: Form) {
-        match form {
-            Form::Domain => {
-                let axiom = Axiom::Domain(self.role(), self.class());
-                self.draft.axiom(axiom);
-            }
+        if let Form::InverseRole = form {
+            self.inverse();
+        } else if let Some(axiom) = self.axiom(form) {
+            self.draft.axiom(axiom);
+        } else {
+            let (sub, sup) = self.inclusion(form);
+            self.draft.below(sub, sup);
+        }
+    }
+
+    /// An axiom of that form, if it is no inclusion.
+    fn axiom(&mut self, form: Form) -> Option<Axiom> {
+        let axiom = match form {
+            Form::Domain => Axiom::Domain(self.role(), self.class()),
             Form::Range => {
                 let (role, filler) = self.path();
-                self.draft.axiom(Axiom::Range(role, filler));
+                Axiom::Range(role, filler)
             }
             Form::Definition => {
                 let parts = [self.class(), self.some()];
                 let whole = self.draft.and(&parts);
-                let axiom = Axiom::EquivalentClasses(vec![self.class(), whole]);
-                self.draft.axiom(axiom);
+                Axiom::EquivalentClasses(vec![self.class(), whole])
             }
-            Form::Disjoint => {
-                let list = self.siblings(3, 6);
-                self.draft.axiom(Axiom::DisjointClasses(list));
-            }
-            Form::Union => {
-                let axiom = Axiom::DisjointUnion(self.rng.below(self.classes), self.siblings(2, 5));
-                self.draft.axiom(axiom);
-            }
-            Form::SubRole => {
-                let axiom = Axiom::RoleInclusion(self.role(), self.role());
-                self.draft.axiom(axiom);
-            }
-            Form::InverseRole => self.inverse(),
+            Form::Disjoint => Axiom::DisjointClasses(self.siblings(3, 6)),
+            Form::Union => Axiom::DisjointUnion(self.rng.below(self.classes), self.siblings(2, 5)),
+            Form::SubRole => Axiom::RoleInclusion(self.role(), self.role()),
             Form::RoleRule => self.role_rule(),
             Form::Assertion => {
-                let axiom = Axiom::ClassAssertion(self.class(), self.rng.below(self.individuals));
-                self.draft.axiom(axiom);
+                Axiom::ClassAssertion(self.class(), self.rng.below(self.individuals))
             }
             Form::RelatedAssertion => {
                 let related = self.some_individual();
-                let axiom = Axiom::ClassAssertion(related, self.rng.below(self.individuals));
-                self.draft.axiom(axiom);
+                Axiom::ClassAssertion(related, self.rng.below(self.individuals))
             }
-            _ => {
-                let (sub, sup) = self.inclusion(form);
-                self.draft.below(sub, sup);
-            }
-        }
+            _ => return None,
+        };
+        Some(axiom)
     }
 
     /// The two sides of an inclusion.
@@ -315,15 +309,14 @@ impl Junction {
         }
     }
 
-    fn role_rule(&mut self) {
+    fn role_rule(&mut self) -> Axiom {
         let role = self.role();
-        let axiom = match self.rng.below(6) {
+        match self.rng.below(6) {
             0 | 1 => Axiom::Chain(role, vec![self.role(), self.role()]),
             2 => Axiom::Transitive(role),
             3 => Axiom::Irreflexive(role),
             4 => Axiom::Asymmetric(role),
             _ => Axiom::DisjointRoles(vec![role, self.role()]),
-        };
-        self.draft.axiom(axiom);
+        }
     }
 }

@@ -4,10 +4,12 @@ use std::fmt::Write;
 
 use crate::count::Counter;
 use crate::decks::REALISTIC;
-use crate::figures::{figure, millions, number, percent, range, ratio, table_head, table_row};
-use crate::ours::{self, SCRATCH_BYTES, table_bytes};
+use crate::figures::{
+    figure, millions, number, percent, range, ratio, runs, table_head, table_row,
+};
+use crate::ours::{SCRATCH_BYTES, table_bytes};
 use crate::plot::{Curve, Plot};
-use crate::results::{Build, Measured, Range, Row, better};
+use crate::results::{Build, Builds, Measured, Range, Row};
 use crate::store::Run;
 use crate::ways::Way;
 
@@ -17,6 +19,8 @@ const OURS: &str = "\
     already.\n\
     - **First call**: the same by a new clausifier: scratch and tables are made, and where they are too small made larger and \
     the deck clausified again.\n";
+/// The most that other work may take in a run whose figures are written down.
+const MOST_OTHERS: f64 = 0.02;
 /// How ratios are shown.
 const RATIOS: &str = "; ratios are Gorvask's time by the Rust's in the same round, their median and in brackets the middle half, \
     and beside it the least and the greatest of the runs' medians: below 1 Gorvask is faster";
@@ -31,13 +35,15 @@ pub struct Report {
     /// The most that other work took in a run.
     others: f64,
     counter: Option<Counter>,
-    rows: Vec<Row>,
+    /// Whether Gorvask was measured.
+    ours: bool,
+    kinds: Vec<Builds>,
     /// Realistic decks of rising size.
-    series: Vec<Row>,
+    series: Vec<Builds>,
 }
 
 impl Report {
-    /// Of each row's builds the one in which the Rust takes less time.
+    /// Of each kind of deck the builds in which the Rust takes less time.
     pub fn of(date: &str, machine: &str, tools: &str, runs: Vec<Run>) -> Self {
         let count = |build: Build| runs.iter().filter(|run| run.build == build).count();
         let (counts, rounds) = (
@@ -46,6 +52,11 @@ impl Report {
         );
         let others = runs.iter().map(|run| run.others).fold(0.0, f64::max);
         let counter = runs.iter().find_map(|run| run.counter);
+        let mut decks = runs
+            .iter()
+            .flat_map(|run| &run.rows)
+            .flat_map(|row| &row.decks);
+        let ours = decks.any(|deck| deck.has(Way::Gorvask));
         let measured = runs.into_iter().map(|run| (run.rows, run.series));
         let (rows, series): (Vec<_>, Vec<_>) = measured.unzip();
         Self {
@@ -56,9 +67,25 @@ impl Report {
             runs: counts,
             others,
             counter,
-            rows: better(rows.into_iter().flatten().collect()),
-            series: better(series.into_iter().flatten().collect()),
+            ours,
+            kinds: Builds::of(rows.into_iter().flatten().collect()),
+            series: Builds::of(series.into_iter().flatten().collect()),
         }
+    }
+
+    /// Whether the machine had little other work.
+    ///
+    /// # Errors
+    /// Words that say how much it had.
+    pub fn quiet(&self) -> Result<(), String> {
+        if self.others <= MOST_OTHERS {
+            return Ok(());
+        }
+        let [others, most] = [self.others, MOST_OTHERS].map(|share| 100.0 * share);
+        Err(format!(
+            "other work took {others:.1} % of the processors' time in a run, and {most:.0} % is the most: nothing is written. \
+             Measure again with nothing else running"
+        ))
     }
 
     /// The whole page.
@@ -78,15 +105,15 @@ impl Report {
         self.method(page)?;
         writeln!(page, "\n## Times\n")?;
         self.times(page)?;
-        if ours::MEASURED {
+        if self.ours {
             writeln!(page, "\n## Gorvask by Rust\n")?;
             self.ratios(page)?;
         }
-        for row in self.rows.iter().filter(|row| row.name == REALISTIC) {
+        for kind in self.kinds.iter().filter(|kind| kind.name() == REALISTIC) {
             writeln!(page, "\n## Each realistic deck\n")?;
-            each_deck(page, row)?;
+            self.each_deck(page, kind.shown(Way::Rust))?;
         }
-        if ours::MEASURED {
+        if self.ours {
             writeln!(page, "\n## Memory and clearing\n")?;
             self.clearing(page)?;
         }
@@ -103,10 +130,10 @@ impl Report {
              - **Rust**: from the deck's bytes to clauses: the reader of `tests/deck`, conversion, and `clausify_with_stats` of \
              the unmodified sources.\n\
              - **Rust alone**: `clausify_with_stats` on an ontology that is there already.\n",
-            if ours::MEASURED { OURS } else { "" }
+            if self.ours { OURS } else { "" }
         )?;
         self.builds(page)?;
-        if ours::MEASURED {
+        if self.ours {
             write!(
                 page,
                 "Gorvask's clauses and statistics are first compared with the Rust's. "
@@ -118,11 +145,11 @@ impl Report {
             "There are {plain} whole runs of the plain build and {lto} of the other, in turn, each a process of its own with {} \
              rounds; a round has a sample of every way, in turning order, and a sample is the mean of as many calls as take 4 ms, \
              or one. The time is the thread's processor time; what a call hands back is freed outside it. Times are medians of \
-             the samples of all runs{}. Other work took at most {:.1} % of the processors' time in a run.\n\n\
+             the samples of all runs, and in brackets stand the least and the greatest of the runs' medians{}. Other work took at most {:.1} % of the processors' time in a run.\n\n\
              The sources use the crate hashbrown, which was not at hand; `tests/hashbrown` stands in for it, with a quick hash by \
              folded products in place of that crate's.",
             self.rounds,
-            if ours::MEASURED { RATIOS } else { "" },
+            if self.ours { RATIOS } else { "" },
             100.0 * self.others
         )
     }
@@ -131,11 +158,12 @@ impl Report {
         writeln!(
             page,
             "The program, and with it the Rust, is built twice by cargo: *plain* is the profile `release` as it comes (opt-level \
-             3, 16 codegen units, `lto = false`), *LTO* has opt-level 3, one codegen unit and `lto = \"fat\"`. Each row shows the \
-             build in which the Rust takes less time.{} Neither side is told which processor it will run on. Tools: {}.\n",
-            if ours::MEASURED {
+             3, 16 codegen units, `lto = false`), *LTO* has opt-level 3, one codegen unit and `lto = \"fat\"`. Of Rust, and \
+             of Rust alone, the build is shown in which it takes less time; reading and conversion are those of Rust's build.{} \
+             Neither side is told which processor it will run on. Tools: {}.\n",
+            if self.ours {
                 " Gorvask is a static library, all its crates as one LLVM module, compiled at -O3; it is the same in both builds, and \
-                 its times in a row are those beside the Rust's."
+                 its times are those beside Rust's."
             } else {
                 ""
             },
@@ -145,7 +173,7 @@ impl Report {
 
     fn times(&self, page: &mut String) -> std::fmt::Result {
         let mut head = vec!["deck", "bytes", "axioms", "clauses", "visits"];
-        if ours::MEASURED {
+        if self.ours {
             head.extend(["Gorvask, ms", "first call, ms"]);
         }
         head.extend([
@@ -154,10 +182,11 @@ impl Report {
             "reading and conversion, ms",
             "their share of Rust",
             "Rust's build",
+            "Rust alone's build",
         ]);
         table_head(page, &head)?;
-        for row in &self.rows {
-            table_row(page, &time_cells(row))?;
+        for kind in &self.kinds {
+            table_row(page, &self.time_cells(kind))?;
         }
         Ok(())
     }
@@ -171,12 +200,12 @@ impl Report {
             "in the runs",
         ];
         table_head(page, &head)?;
-        for row in &self.rows {
-            let mut cells = vec![row.name.clone()];
+        for kind in &self.kinds {
+            let mut cells = vec![kind.name().to_owned()];
             for by in [Way::Rust, Way::RustAlone] {
-                let (least, greatest) = row.runs(Way::Gorvask, by);
+                let row = kind.shown(by);
                 cells.push(ratio(row.ratio(Way::Gorvask, by)));
-                cells.push(format!("{} to {}", figure(least), figure(greatest)));
+                cells.push(runs(row.ratio_in_runs(Way::Gorvask, by)));
             }
             table_row(page, &cells)?;
         }
@@ -207,8 +236,8 @@ impl Report {
                 "Gorvask without clearing, ms",
             ],
         )?;
-        for row in &self.rows {
-            table_row(page, &clearing_cells(row))?;
+        for kind in &self.kinds {
+            table_row(page, &clearing_cells(kind.shown(Way::Gorvask)))?;
         }
         Ok(())
     }
@@ -222,18 +251,19 @@ impl Report {
         };
         writeln!(
             page,
-            "Millions of instructions of one call, by {}, on the first deck of each kind, in the row's build.\n",
+            "Millions of instructions of one call, by {}, on the first deck of each kind, in the builds above.\n",
             counter.name()
         )?;
-        let names = Way::shown().into_iter().map(Way::name);
-        let head: Vec<&str> = std::iter::once("deck").chain(names).collect();
+        let ways = Way::shown(self.ours);
+        let mut head = vec!["deck"];
+        head.extend(ways.iter().map(|way| way.name()));
         table_head(page, &head)?;
-        for row in &self.rows {
-            let counts = Way::shown().into_iter().map(|way| {
-                let found = row.counts.iter().find(|(of, _)| *of == way);
-                found.map_or_else(|| "–".to_owned(), |&(_, count)| millions(count))
-            });
-            let cells: Vec<String> = std::iter::once(row.name.clone()).chain(counts).collect();
+        for kind in &self.kinds {
+            let mut cells = vec![kind.name().to_owned()];
+            cells.extend(ways.iter().map(|&way| {
+                let count = kind.shown(way).count_of(way);
+                count.map_or_else(|| "–".to_owned(), millions)
+            }));
             table_row(page, &cells)?;
         }
         Ok(())
@@ -245,22 +275,22 @@ impl Report {
             "Realistic decks with more and more axioms, names and concepts; three of each size. Time per KB (1,000 bytes) is the \
              median of the three decks{}. Where it stays level from row to row, time is linear in the deck.\n\n\
              ![Time against the size of the deck](performance.svg)\n",
-            if ours::MEASURED {
+            if self.ours {
                 "; Gorvask's is without clearing, as above"
             } else {
                 ""
             }
         )?;
         let mut head = vec!["axioms".to_owned(), "bytes".to_owned()];
-        let names = Way::shown().into_iter().map(Way::name);
+        let names = Way::shown(self.ours).into_iter().map(Way::name);
         head.extend(names.map(|name| format!("{name}, ms")));
-        if ours::MEASURED {
+        if self.ours {
             head.push("Gorvask without clearing, µs per KB".to_owned());
         }
         head.push("Rust, µs per KB".to_owned());
         table_head(page, &head)?;
-        for row in &self.series {
-            table_row(page, &growth_cells(row))?;
+        for kind in &self.series {
+            table_row(page, &self.growth_cells(kind))?;
         }
         Ok(())
     }
@@ -277,7 +307,8 @@ impl Report {
             points: self
                 .series
                 .iter()
-                .map(|row| {
+                .map(|kind| {
+                    let row = kind.shown(way);
                     let bytes = middle(row.range(|facts| facts.bytes));
                     (bytes / 1_000.0, row.time(way).median)
                 })
@@ -287,62 +318,87 @@ impl Report {
             title: "Time of a call against the size of the deck (realistic decks)",
             x: "deck, kilobytes (logarithmic)",
             y: "time of a call, milliseconds (logarithmic)",
-            curves: Way::shown().into_iter().map(curve).collect(),
+            curves: Way::shown(self.ours).into_iter().map(curve).collect(),
         }
         .svg()
     }
-}
 
-/// The decks of a kind one by one.
-fn each_deck(page: &mut String, row: &Row) -> std::fmt::Result {
-    let ways = [Way::Gorvask, Way::Rust];
-    let ways = &ways[usize::from(!ours::MEASURED)..];
-    let mut head = ["bytes", "clauses", "visits"].map(str::to_owned).to_vec();
-    head.extend(ways.iter().map(|way| format!("{}, ms", way.name())));
-    if ours::MEASURED {
-        head.push("Gorvask by Rust".to_owned());
-    }
-    table_head(page, &head)?;
-    for deck in &row.decks {
-        let facts = &deck.facts;
-        let mut cells = [facts.bytes, facts.clauses, facts.visits]
-            .map(number)
-            .to_vec();
-        cells.extend(ways.iter().map(|&way| figure(deck.time(way).median)));
-        if ours::MEASURED {
-            cells.push(ratio(deck.ratio(Way::Gorvask, Way::Rust)));
+    /// The decks of a kind one by one.
+    fn each_deck(&self, page: &mut String, row: &Row) -> std::fmt::Result {
+        let ways = [Way::Gorvask, Way::Rust];
+        let ways = &ways[usize::from(!self.ours)..];
+        let mut head = ["bytes", "clauses", "visits"].map(str::to_owned).to_vec();
+        head.extend(ways.iter().map(|way| format!("{}, ms", way.name())));
+        if self.ours {
+            head.push("Gorvask by Rust".to_owned());
         }
-        table_row(page, &cells)?;
+        table_head(page, &head)?;
+        for deck in &row.decks {
+            let facts = &deck.facts;
+            let mut cells = [facts.bytes, facts.clauses, facts.visits]
+                .map(number)
+                .to_vec();
+            cells.extend(ways.iter().map(|&way| figure(deck.time(way).median)));
+            if self.ours {
+                cells.push(ratio(deck.ratio(Way::Gorvask, Way::Rust)));
+            }
+            table_row(page, &cells)?;
+        }
+        if self.ours {
+            let median = |deck: &Measured| deck.ratio(Way::Gorvask, Way::Rust).median;
+            writeln!(
+                page,
+                "\nOf the {} decks' medians of Gorvask by Rust the median is {}, and the greatest is {}.",
+                row.decks.len(),
+                figure(row.median(median)),
+                figure(row.greatest(median))
+            )?;
+        }
+        Ok(())
     }
-    if ours::MEASURED {
-        let median = |deck: &Measured| deck.ratio(Way::Gorvask, Way::Rust).median;
-        writeln!(
-            page,
-            "\nOf the {} decks' medians of Gorvask by Rust the median is {}, and the greatest is {}.",
-            row.decks.len(),
-            figure(row.median(median)),
-            figure(row.greatest(median))
-        )?;
-    }
-    Ok(())
-}
 
-/// A kind's cells under "Times".
-fn time_cells(row: &Row) -> Vec<String> {
-    let mut cells = vec![
-        row.name.clone(),
-        range(row.range(|facts| facts.bytes)),
-        range(row.range(|facts| facts.axioms)),
-        range(row.range(|facts| facts.clauses)),
-        range(row.range(|facts| facts.visits)),
-    ];
-    let ours = [Way::Gorvask, Way::First];
-    let ours = ours.into_iter().filter(|_| ours::MEASURED);
-    let ways = ours.chain([Way::Rust, Way::RustAlone, Way::RustReading]);
-    cells.extend(ways.map(|way| figure(row.time(way).median)));
-    cells.push(percent(row.ratio(Way::RustReading, Way::Rust).median));
-    cells.push(row.build.name().to_owned());
-    cells
+    /// A kind's cells under "Times".
+    fn time_cells(&self, kind: &Builds) -> Vec<String> {
+        let row = kind.shown(Way::Rust);
+        let mut cells = vec![
+            row.name.clone(),
+            range(row.range(|facts| facts.bytes)),
+            range(row.range(|facts| facts.axioms)),
+            range(row.range(|facts| facts.clauses)),
+            range(row.range(|facts| facts.visits)),
+        ];
+        let ours = [Way::Gorvask, Way::First].into_iter();
+        let ways = ours
+            .filter(|_| self.ours)
+            .chain([Way::Rust, Way::RustAlone, Way::RustReading]);
+        cells.extend(ways.map(|way| {
+            let row = kind.shown(way);
+            let in_runs = runs(row.time_in_runs(way));
+            format!("{} ({in_runs})", figure(row.time(way).median))
+        }));
+        cells.push(percent(row.ratio(Way::RustReading, Way::Rust).median));
+        let builds = [Way::Rust, Way::RustAlone].map(|way| kind.shown(way).build.name());
+        cells.extend(builds.map(str::to_owned));
+        cells
+    }
+
+    /// A size's cells under "How time grows".
+    fn growth_cells(&self, kind: &Builds) -> Vec<String> {
+        let row = kind.shown(Way::Rust);
+        let mut cells = vec![
+            range(row.range(|facts| facts.axioms)),
+            range(row.range(|facts| facts.bytes)),
+        ];
+        let ways = Way::shown(self.ours).into_iter();
+        cells.extend(ways.map(|way| figure(kind.shown(way).time(way).median)));
+        if self.ours {
+            let median = row.median(|deck| deck.by_kilobyte(deck.without_clearing()));
+            cells.push(figure(median));
+        }
+        let median = row.median(|deck| deck.by_kilobyte(deck.time(Way::Rust).median));
+        cells.push(figure(median));
+        cells
+    }
 }
 
 /// A kind's cells under "Memory and clearing".
@@ -363,24 +419,10 @@ fn clearing_cells(row: &Row) -> [String; 9] {
     ]
 }
 
-/// A size's cells under "How time grows".
-fn growth_cells(row: &Row) -> Vec<String> {
-    let mut cells = vec![
-        range(row.range(|facts| facts.axioms)),
-        range(row.range(|facts| facts.bytes)),
-    ];
-    let times = Way::shown().into_iter().map(|way| row.time(way).median);
-    cells.extend(times.map(figure));
-    if ours::MEASURED {
-        let median = row.median(|deck| deck.by_kilobyte(deck.without_clearing()));
-        cells.push(figure(median));
-    }
-    let median = row.median(|deck| deck.by_kilobyte(deck.time(Way::Rust).median));
-    cells.push(figure(median));
-    cells
-}
-
 #[expect(clippy::cast_precision_loss, reason = "a place in a picture")]
 fn middle((least, greatest): Range) -> f64 {
     (least + greatest) as f64 / 2.0
 }
+
+#[cfg(test)]
+mod tests;

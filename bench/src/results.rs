@@ -5,6 +5,7 @@ use std::io;
 use crate::count::Counter;
 use crate::decks::Known;
 use crate::measure::{Spread, Times};
+use crate::ours;
 use crate::ways::{Prepared, Way};
 
 /// How this program, and with it the Rust, was built.
@@ -74,12 +75,18 @@ impl Row {
 
     /// Counts the instructions of each way on a deck.
     pub fn count(&mut self, counter: Counter, deck: &[u8]) -> io::Result<()> {
-        for way in Way::shown() {
+        for way in Way::shown(ours::MEASURED) {
             if let Some(count) = counter.call(way, deck)? {
                 self.counts.push((way, count));
             }
         }
         Ok(())
+    }
+
+    /// Instructions of a call by this way, if they were counted.
+    pub fn count_of(&self, way: Way) -> Option<u64> {
+        let found = self.counts.iter().find(|(of, _)| *of == way);
+        found.map(|&(_, count)| count)
     }
 
     /// Takes the runs of a row of the same decks and build.
@@ -126,12 +133,21 @@ impl Row {
         Spread::of(self.decks.iter().flat_map(|deck| deck.ratios(way, by)))
     }
 
+    /// Of the whole runs' medians of that time the least and the greatest.
+    pub fn time_in_runs(&self, way: Way) -> (f64, f64) {
+        self.in_runs(|times| times.way(way).to_vec())
+    }
+
     /// Of the whole runs' medians of that ratio the least and the greatest.
-    pub fn runs(&self, way: Way, by: Way) -> (f64, f64) {
+    pub fn ratio_in_runs(&self, way: Way, by: Way) -> (f64, f64) {
+        self.in_runs(|times| times.ratios(way, by).collect())
+    }
+
+    fn in_runs(&self, samples: impl Fn(&Times) -> Vec<f64>) -> (f64, f64) {
         let runs = self.decks.first().map_or(0, |deck| deck.runs.len());
         let medians = (0..runs).map(|run| {
             let decks = self.decks.iter();
-            Spread::of(decks.flat_map(|deck| deck.runs[run].ratios(way, by))).median
+            Spread::of(decks.flat_map(|deck| samples(&deck.runs[run]))).median
         });
         medians.fold((f64::INFINITY, 0.0), |(least, greatest), median| {
             (median.min(least), median.max(greatest))
@@ -144,18 +160,39 @@ impl Row {
     }
 }
 
-/// Of each row the build in which the Rust takes less time, with all its runs.
-pub fn better(rows: Vec<Row>) -> Vec<Row> {
-    let mut best: Vec<Row> = Vec::new();
-    for row in of_build(rows) {
-        let rust = |row: &Row| row.time(Way::Rust).median;
-        match best.iter_mut().find(|found| found.name == row.name) {
-            None => best.push(row),
-            Some(found) if rust(&row) < rust(found) => *found = row,
-            Some(_) => {}
+/// A kind of deck in each build, with all its runs.
+pub struct Builds(Vec<Row>);
+
+impl Builds {
+    /// The rows of each name.
+    pub fn of(rows: Vec<Row>) -> Vec<Self> {
+        let mut kinds: Vec<Self> = Vec::new();
+        for row in of_build(rows) {
+            match kinds.iter_mut().find(|kind| kind.name() == row.name) {
+                None => kinds.push(Self(vec![row])),
+                Some(kind) => kind.0.push(row),
+            }
         }
+        kinds
     }
-    best
+
+    pub fn name(&self) -> &str {
+        &self.0[0].name
+    }
+
+    /// The build whose figures of a way are shown: of Rust alone the one in which that takes less time, of all else the one in
+    /// which Rust does.
+    pub fn shown(&self, way: Way) -> &Row {
+        let by = if way == Way::RustAlone {
+            way
+        } else {
+            Way::Rust
+        };
+        let median = |row: &Row| row.time(by).median;
+        let rows = self.0.iter();
+        rows.min_by(|first, second| median(first).total_cmp(&median(second)))
+            .expect("a kind has a row")
+    }
 }
 
 /// The rows of each name and build as one.
@@ -188,6 +225,11 @@ impl Measured {
             facts,
             runs: vec![times],
         }
+    }
+
+    /// Whether this way was timed.
+    pub fn has(&self, way: Way) -> bool {
+        self.times(way).next().is_some()
     }
 
     /// Milliseconds of a call, over all runs and rounds.
@@ -235,7 +277,7 @@ fn without_clearing(time: impl Fn(Way) -> Spread) -> f64 {
 
 #[cfg(test)]
 mod tests {
-    use super::{Build, Facts, Measured, Row, better};
+    use super::{Build, Builds, Facts, Measured, Row};
     use crate::measure::Times;
     use crate::ways::Way;
 
@@ -243,6 +285,7 @@ mod tests {
         let times = [
             (Way::Gorvask, gorvask.to_vec()),
             (Way::Rust, rust.to_vec()),
+            (Way::RustAlone, rust.map(|time| 1.0 / time).to_vec()),
             (Way::ClearTables, vec![0.25; 3]),
             (Way::ClearScratch, vec![0.5; 3]),
         ];
@@ -316,16 +359,30 @@ mod tests {
 
     #[test]
     fn runs_of_the_better_build_stand_side_by_side() {
-        let [plain] = &better(runs(3.0))[..] else {
-            panic!("one row")
-        };
+        let kinds = Builds::of(runs(3.0));
+        assert_eq!(kinds.len(), 1);
+        let plain = kinds[0].shown(Way::Rust);
         assert_eq!((plain.build, plain.decks[0].runs.len()), (Build::Plain, 3));
-        assert_eq!(plain.runs(Way::Gorvask, Way::Rust), (0.25, 0.75));
+        assert_eq!(plain.ratio_in_runs(Way::Gorvask, Way::Rust), (0.25, 0.75));
         assert_eq!(plain.ratio(Way::Gorvask, Way::Rust).median, 0.5);
-        let [lto] = &better(runs(1.0))[..] else {
-            panic!("one row")
-        };
+        assert_eq!(plain.time_in_runs(Way::Gorvask), (0.5, 1.5));
+        let kinds = Builds::of(runs(1.0));
+        let lto = kinds[0].shown(Way::Gorvask);
         assert_eq!((lto.build, lto.decks[0].runs.len()), (Build::Lto, 1));
-        assert_eq!(lto.runs(Way::Gorvask, Way::Rust), (1.0, 1.0));
+        assert_eq!(lto.ratio_in_runs(Way::Gorvask, Way::Rust), (1.0, 1.0));
+    }
+
+    #[test]
+    fn rust_alone_has_its_own_better_build() {
+        // Where Rust takes more time in a run above, Rust alone takes less.
+        for (lto, rust, alone) in [
+            (3.0, Build::Plain, Build::Lto),
+            (1.0, Build::Lto, Build::Plain),
+            (2.0, Build::Plain, Build::Plain),
+        ] {
+            let kinds = Builds::of(runs(lto));
+            let builds = [Way::Rust, Way::RustAlone].map(|way| kinds[0].shown(way).build);
+            assert_eq!(builds, [rust, alone]);
+        }
     }
 }

@@ -44,10 +44,10 @@ impl Way {
         ours.chain(Self::RUST).collect()
     }
 
-    /// The three whose growth is shown and whose instructions are counted, or the Rust's two.
-    pub fn shown() -> Vec<Self> {
+    /// The three whose growth is shown and whose instructions are counted, or without ours the Rust's two.
+    pub fn shown(ours: bool) -> Vec<Self> {
         let shown = [Self::Gorvask, Self::Rust, Self::RustAlone];
-        shown[usize::from(!ours::MEASURED)..].to_vec()
+        shown[usize::from(!ours)..].to_vec()
     }
 
     pub fn name(self) -> &'static str {
@@ -63,7 +63,8 @@ impl Way {
     }
 
     pub fn named(name: &str) -> Option<Self> {
-        Self::timed().into_iter().find(|way| way.name() == name)
+        let mut all = Self::OURS.into_iter().chain(Self::RUST);
+        all.find(|way| way.name() == name)
     }
 }
 
