@@ -33,71 +33,74 @@ fn names_of_each_sort() {
     assert_eq!(names.fit(HEADER), Ok(()));
 }
 
+/// Texts that are no names, and what is told of them.
+const BAD: &[(&str, &str)] = &[
+    (
+        "class 1 A\nclass 2\n",
+        "line 2: a line has three words, as in 'class 11 Locked'; this one has 2",
+    ),
+    (
+        "class 1 my class",
+        "line 1: a line has three words, as in 'class 11 Locked'; this one has 4",
+    ),
+    (
+        "#\n\nclas 1 A",
+        "line 3: a line begins with class, individual or role, and not with \"clas\"",
+    ),
+    (
+        "class one A",
+        "line 1: the second word is a number, and \"one\" is none",
+    ),
+    (
+        "class -1 A",
+        "line 1: the second word is a number, and \"-1\" is none",
+    ),
+    (
+        "class +1 A",
+        "line 1: the second word is a number, and \"+1\" is none",
+    ),
+    (
+        "class 4294967296 A",
+        "line 1: the second word is a number, and \"4294967296\" is none",
+    ),
+    (
+        "role 1 a.b",
+        "line 1: the name \"a.b\" has '.', a sign that clauses are written with",
+    ),
+    (
+        "class 1 A∨B",
+        "line 1: the name \"A∨B\" has '∨', a sign that clauses are written with",
+    ),
+    (
+        "class 1 A\u{7}",
+        "line 1: the name \"A\\u{7}\" has '\\u{7}', a sign that clauses are written with",
+    ),
+    (
+        "class 1 Q0",
+        "line 1: Q0 is kept for classes without a name",
+    ),
+    (
+        "class 1 A1",
+        "line 1: A1 is kept for classes without a name",
+    ),
+    ("role 1 r20", "line 1: r20 is kept for roles without a name"),
+    (
+        "individual 1 i2",
+        "line 1: i2 is kept for individuals without a name",
+    ),
+    (
+        "class 1 A\nclass 1 B",
+        "line 2: class 1 has a name already, by line 1",
+    ),
+    (
+        "class 1 A\n\nclass 7 A",
+        "line 3: A is the name of class 1 already, by line 1",
+    ),
+];
+
 #[test]
 fn a_bad_line_is_told_with_its_number() {
-    for (text, error) in [
-        (
-            "class 1 A\nclass 2\n",
-            "line 2: a line has three words, as in 'class 11 Locked'; this one has 2",
-        ),
-        (
-            "class 1 my class",
-            "line 1: a line has three words, as in 'class 11 Locked'; this one has 4",
-        ),
-        (
-            "#\n\nclas 1 A",
-            "line 3: a line begins with class, individual or role, and not with \"clas\"",
-        ),
-        (
-            "class one A",
-            "line 1: the second word is a number, and \"one\" is none",
-        ),
-        (
-            "class -1 A",
-            "line 1: the second word is a number, and \"-1\" is none",
-        ),
-        (
-            "class +1 A",
-            "line 1: the second word is a number, and \"+1\" is none",
-        ),
-        (
-            "class 4294967296 A",
-            "line 1: the second word is a number, and \"4294967296\" is none",
-        ),
-        (
-            "role 1 a.b",
-            "line 1: the name \"a.b\" has '.', a sign that clauses are written with",
-        ),
-        (
-            "class 1 A∨B",
-            "line 1: the name \"A∨B\" has '∨', a sign that clauses are written with",
-        ),
-        (
-            "class 1 A\u{7}",
-            "line 1: the name \"A\\u{7}\" has '\\u{7}', a sign that clauses are written with",
-        ),
-        (
-            "class 1 Q0",
-            "line 1: Q0 is kept for classes without a name",
-        ),
-        (
-            "class 1 A1",
-            "line 1: A1 is kept for classes without a name",
-        ),
-        ("role 1 r20", "line 1: r20 is kept for roles without a name"),
-        (
-            "individual 1 i2",
-            "line 1: i2 is kept for individuals without a name",
-        ),
-        (
-            "class 1 A\nclass 1 B",
-            "line 2: class 1 has a name already, by line 1",
-        ),
-        (
-            "class 1 A\n\nclass 7 A",
-            "line 3: A is the name of class 1 already, by line 1",
-        ),
-    ] {
+    for &(text, error) in BAD {
         assert_eq!(names(text), Err(error.to_owned()));
     }
 }
