@@ -88,7 +88,7 @@ impl<'a> Clauses<'a> {
             .map(|record| Deferral::of_words(words::of(record)).expect("a record of a deferral"))
     }
 
-    /// Whether it is promised that no rule of this deck is lost or weakened, and if not, why.
+    /// Whether it is promised that no axiom of the kinds 21 to 31 is lost or weakened, and if not, why.
     #[must_use]
     pub fn provisos(&self) -> Provisos {
         Provisos {

@@ -1,12 +1,12 @@
-//! Whether no rule of a deck is lost or weakened.
+//! Whether no axiom of the kinds 21 to 31 is lost or weakened.
 
 use std::fmt;
 
 use crate::atom::ClassId;
 use crate::deferral::Deferral;
 
-/// Why the second half of the promise may not be given for an accepted deck. It says that no rule is lost or weakened: where
-/// all clauses hold and the deck's inverse-role axioms are satisfied, every axiom of kinds 21 to 31 is. It is promised where
+/// Why the second half of the promise may not be given for an accepted deck. It says that no axiom of the kinds 21 to 31 is lost
+/// or weakened: where all clauses hold and the deck's inverse-role axioms are satisfied, each of them is. It is promised where
 /// nothing was deferred, no class is marked as data key, and no at-most atom names a fresh class; `docs/MEANING.md` has it in
 /// full. The first half, that no clause says too much, is promised for every accepted deck.
 #[derive(Clone, Debug, Default, PartialEq, Eq, Hash)]
@@ -51,7 +51,7 @@ impl Provisos {
 impl fmt::Display for Provisos {
     fn fmt(&self, f: &mut fmt::Formatter<'_>) -> fmt::Result {
         if self.are_met() {
-            return f.write_str("promised whole: no rule of the deck is lost or weakened");
+            return f.write_str("promised whole: no axiom of the kinds 21 to 31 is lost or weakened");
         }
         write!(f, "not promised whole: {}", self.reasons().join("; "))
     }
@@ -72,7 +72,7 @@ mod tests {
         assert!(met.are_met());
         assert_eq!(
             met.to_string(),
-            "promised whole: no rule of the deck is lost or weakened"
+            "promised whole: no axiom of the kinds 21 to 31 is lost or weakened"
         );
         for not in [
             Provisos {

@@ -4,7 +4,7 @@ use crate::common::{equivalent, worked};
 use crate::process::{Ran, read, read_text, run, run_on};
 
 const JUNCTION: &str = "examples/junction.deck";
-const WHOLE: &str = "accepted, promised whole: no rule of the deck is lost or weakened";
+const WHOLE: &str = "accepted, promised whole: no axiom of the kinds 21 to 31 is lost or weakened";
 
 #[test]
 fn the_listing_of_the_junction_is_the_stored_one() {

@@ -27,7 +27,7 @@ fn promised() {
         said,
         (
             0,
-            "promised whole: no rule of the deck is lost or weakened".to_owned()
+            "promised whole: no axiom of the kinds 21 to 31 is lost or weakened".to_owned()
         )
     );
 }

@@ -5,7 +5,7 @@ use gorvask::Clauses;
 use crate::deck::Deck;
 use crate::ended::{Failure, Status, tell};
 
-/// One line on standard error: whether no rule of the deck is lost or weakened, and if not, why.
+/// One line on standard error: whether no axiom of the kinds 21 to 31 is lost or weakened, and if not, why.
 pub fn promise(deck: &Deck, clauses: &Clauses<'_>) -> Result<Status, Failure> {
     let provisos = clauses.provisos();
     tell(&format!("{}: accepted, {provisos}", deck.name))?;
