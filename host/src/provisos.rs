@@ -51,7 +51,8 @@ impl Provisos {
 impl fmt::Display for Provisos {
     fn fmt(&self, f: &mut fmt::Formatter<'_>) -> fmt::Result {
         if self.are_met() {
-            return f.write_str("promised whole: no axiom of the kinds 21 to 31 is lost or weakened");
+            return f
+                .write_str("promised whole: no axiom of the kinds 21 to 31 is lost or weakened");
         }
         write!(f, "not promised whole: {}", self.reasons().join("; "))
     }

@@ -20,7 +20,11 @@ fn place(bytes: &mut [u8]) -> *mut u8 {
 fn call(deck: &[u8], numbers: usize, scratch: usize) -> (u64, bool) {
     let mut numbers = vec![7; numbers];
     let mut scratch = vec![7; scratch];
-    let deck_place = if deck.is_empty() { null() } else { deck.as_ptr() };
+    let deck_place = if deck.is_empty() {
+        null()
+    } else {
+        deck.as_ptr()
+    };
     // SAFETY: vectors of their own, each with its length; NULL where there are no bytes.
     let reply = unsafe {
         gorvask_clausify_with_stats(
@@ -38,7 +42,10 @@ fn call(deck: &[u8], numbers: usize, scratch: usize) -> (u64, bool) {
             scratch.len(),
         )
     };
-    (reply, [numbers, scratch].concat().iter().all(|&byte| byte == 0))
+    (
+        reply,
+        [numbers, scratch].concat().iter().all(|&byte| byte == 0),
+    )
 }
 
 const fn refusal(number: u64, line: u64) -> u64 {
