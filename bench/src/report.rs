@@ -145,7 +145,8 @@ impl Report {
             "There are {plain} whole runs of the plain build and {lto} of the other, in turn, each a process of its own with {} \
              rounds; a round has a sample of every way, in turning order, and a sample is the mean of as many calls as take 4 ms, \
              or one. The time is the thread's processor time; what a call hands back is freed outside it. Times are medians of \
-             the samples of all runs, and in brackets stand the least and the greatest of the runs' medians{}. Other work took at most {:.1} % of the processors' time in a run.\n\n\
+             the samples of all runs, and in brackets stand the least and the greatest of the runs' medians{}. Other work took at \
+             most {:.1} % of the processors' time in a run.\n\n\
              The sources use the crate hashbrown, which was not at hand; `tests/hashbrown` stands in for it, with a quick hash by \
              folded products in place of that crate's.",
             self.rounds,

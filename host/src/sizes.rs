@@ -93,17 +93,19 @@ impl Sizes {
     }
 }
 
+/// Sizes in one line, for tests.
+#[cfg(test)]
+pub fn sizes(clauses: usize, atoms: usize, deferrals: usize) -> Sizes {
+    Sizes {
+        clauses,
+        atoms,
+        deferrals,
+    }
+}
+
 #[cfg(test)]
 mod tests {
-    use super::Sizes;
-
-    fn sizes(clauses: usize, atoms: usize, deferrals: usize) -> Sizes {
-        Sizes {
-            clauses,
-            atoms,
-            deferrals,
-        }
-    }
+    use super::{Sizes, sizes};
 
     #[test]
     fn by_the_length_of_the_deck() {

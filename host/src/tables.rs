@@ -115,15 +115,7 @@ impl Tables {
 #[cfg(test)]
 mod tests {
     use super::Tables;
-    use crate::sizes::Sizes;
-
-    fn sizes(clauses: usize, atoms: usize, deferrals: usize) -> Sizes {
-        Sizes {
-            clauses,
-            atoms,
-            deferrals,
-        }
-    }
+    use crate::sizes::sizes;
 
     /// Tables of 3, 5 and 7 records whose bytes count up from 1.
     fn counted() -> Tables {
