@@ -7,7 +7,7 @@ use std::path::{Path, PathBuf};
 /// Environment variable: the folder that has the static library, in place of the repository's own.
 const FOLDER: &str = "GORVASK_STATICLIB";
 /// What the library is called, without what a linker puts around it.
-const NAME: &str = "clausify";
+const NAME: &str = "gorvask";
 
 /// What there is to link.
 enum Found {

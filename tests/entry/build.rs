@@ -1,3 +1,3 @@
 fn main() {
-    lent::link("clausify");
+    lent::link("gorvask");
 }

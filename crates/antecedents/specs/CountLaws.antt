@@ -4,7 +4,7 @@ use mathlib.Core.Bool.{Bool, true, false, _&&_}
 use mathlib.Core.List.{List, [], _∷_, _++_, map}
 use mathlib.Core.Option.{Option, none, some}
 use Prim.{tt}
-use Prim.Native.Nat.{ℕ, zero, suc, _+_, _*_, _≤_, _<_, max}
+use Prim.Native.Nat.{ℕ, zero, suc, _+_, _*_, _≤_, max}
 use native.Mathlib.Omega.{arith}
 use native.Mathlib.Nat.{suc-mul, mul-suc, zero-mul, mul-zero, add-comm}
 use lib.ListN.{length, length-append, length-map}
@@ -24,8 +24,9 @@ use Rattle.rules.specs.Concept.{Concept}
 use Rattle.rules.specs.Concept.{Top, Bot, Atomic, Nominal, SelfRestriction, Not, And, Or, Some, All, Min, Max}
 use Rattle.rules.specs.Pool.{Pool, at}
 use Rattle.rules.specs.State.{Env, Out, out, E, canon, begun, visit, freshVar}
-use Rattle.rules.specs.Post.{Post, gives, refuses, give, post-then}
-use Rattle.rules.specs.EmitLaws.{visited, withVar, visit-then}
+use Rattle.rules.specs.Post.{Post, gives}
+use Rattle.rules.specs.EmitLaws.{visited, withVar}
+use Rattle.rules.specs.EncodeKeeps.{encode-keeps}
 use Rattle.rules.specs.Antecedents.{Alternatives, cross, inHand, within, andWith, encodeAnd, orWith, encodeOr, someWith, encodeStep, encodeBy}
 use Rattle.pool.specs.Shapes.{by-test}
 use Rattle.tables.specs.Good.{Good}
@@ -39,67 +40,11 @@ pub record Moved (s t : Out) : Type 0 where
   pub within : s .visits ≤ s .limit → t .visits ≤ t .limit
   pub vars : t .nextVar + s .visits ≤ s .nextVar + t .visits
 
-moved-trans : {s t u : Out} → Moved s t → Moved t u → Moved s u
-moved-trans X Y = record { limit = Y .limit ∙ X .limit; visits = omega (arith, X .visits, Y .visits); within = λ h. Y .within (X .within h); vars = omega (arith, X .vars, Y .vars) }
-
-moved-visit : (s : Out) → s .visits < s .limit → Moved s (visited s)
-moved-visit s h = record { limit = refl; visits = omega arith; within = λ _. omega arith; vars = omega arith }
-
-moved-var : (s : Out) → s .visits < s .limit → Moved s (withVar (visited s))
-moved-var s h = record { limit = refl; visits = omega arith; within = λ _. omega arith; vars = omega arith }
-
-within-post : {Q : Option Alternatives → Out → Type 0} (short few : Bool) (l : Alternatives) (rest : Alternatives → E (Option Alternatives)) (s : Out)
-    → Q none s → Post Q (rest l s) → Post Q (within short few l rest s)
-within-post false few l rest s q h = refuses
-within-post true false l rest s q h = give q
-within-post true true l rest s q h = h
-
-module _ (env : Env) (pool : Pool) where
-  module _ (F : ℕ → ℕ → E (Option Alternatives)) (W : (c v : ℕ) (s : Out) → Post (λ _ t. Moved s t) (F c v s)) where
-    and-moved : (l : List ℕ) (v : ℕ) (acc : Alternatives) (s₀ s : Out) → Moved s₀ s → Post (λ _ t. Moved s₀ t) (encodeAnd env pool F l v acc s)
-    unfolding encodeAnd
-    and-moved [] v acc s₀ s X = give X
-    and-moved (c ∷ l) v acc s₀ s X = post-then (W c v s) (λ o t Y. go t (moved-trans X Y) (λ next. and-moved l v next s₀ t (moved-trans X Y)) o)
-      where
-        go : (t : Out) → Moved s₀ t → ((next : Alternatives) → Post (λ _ u. Moved s₀ u) (encodeAnd env pool F l v next t))
-            → (o : Option Alternatives) → Post (λ _ u. Moved s₀ u) (andWith env pool F (λ next. encodeAnd env pool F l v next) acc o t)
-        go t Y rest none = give Y
-        go t Y rest (some k) = within-post (all inHand (cross acc k)) (leb (length (cross acc k)) 64) (cross acc k) (λ next. encodeAnd env pool F l v next) t Y (rest (cross acc k))
-
-    or-moved : (l : List ℕ) (v : ℕ) (acc : Alternatives) (s₀ s : Out) → Moved s₀ s → Post (λ _ t. Moved s₀ t) (encodeOr env pool F l v acc s)
-    unfolding encodeOr
-    or-moved [] v acc s₀ s X = give X
-    or-moved (c ∷ l) v acc s₀ s X = post-then (W c v s) (λ o t Y. go t (moved-trans X Y) (λ next. or-moved l v next s₀ t (moved-trans X Y)) o)
-      where
-        go : (t : Out) → Moved s₀ t → ((next : Alternatives) → Post (λ _ u. Moved s₀ u) (encodeOr env pool F l v next t))
-            → (o : Option Alternatives) → Post (λ _ u. Moved s₀ u) (orWith env pool F (λ next. encodeOr env pool F l v next) acc o t)
-        go t Y rest none = give Y
-        go t Y rest (some k) = within-post true (leb (length (acc ++ k)) 64) (acc ++ k) (λ next. encodeOr env pool F l v next) t Y (rest (acc ++ k))
-
-    some-moved : (a : Atom) (s₀ t : Out) → Moved s₀ t → (o : Option Alternatives) → Post (λ _ u. Moved s₀ u) (someWith env pool F a o t)
-    some-moved a s₀ t X none = give X
-    some-moved a s₀ t X (some l) = within-post (all inHand (map (λ b. a ∷ b) l)) true (map (λ b. a ∷ b) l) (λ k s. ok (some k) s) t X (give X)
-
-    step-moved : (v : ℕ) (s : Out) → s .visits < s .limit → (e : Concept) → Post (λ _ t. Moved s t) (encodeStep env pool F v e (visited s))
-    unfolding encodeStep freshVar
-    step-moved v s h Top = give (moved-visit s h)
-    step-moved v s h Bot = give (moved-visit s h)
-    step-moved v s h (Atomic _) = give (moved-visit s h)
-    step-moved v s h (Nominal _) = give (moved-visit s h)
-    step-moved v s h (SelfRestriction _) = give (moved-visit s h)
-    step-moved v s h (Not _) = give (moved-visit s h)
-    step-moved v s h (And l) = and-moved l v ([] ∷ []) s (visited s) (moved-visit s h)
-    step-moved v s h (Or l) = or-moved l v [] s (visited s) (moved-visit s h)
-    step-moved v s h (Some r d) = post-then (W d (s .nextVar) (withVar (visited s))) (λ o t Y. some-moved (RoleAtom (canon env r) v (s .nextVar)) s t (moved-trans (moved-var s h) Y) o)
-    step-moved v s h (All _ _) = give (moved-visit s h)
-    step-moved v s h (Min _ _ _) = give (moved-visit s h)
-    step-moved v s h (Max _ _ _) = give (moved-visit s h)
-
-  pub encode-moved : (f c v : ℕ) (s : Out) → Post (λ _ t. Moved s t) (encodeBy env pool f c v s)
-  unfolding encodeBy
-  encode-moved zero c v s = refuses
-  encode-moved (suc f) c v s = visit-then s (λ _. encodeStep env pool (λ d u. encodeBy env pool f d u) v (at pool c))
-      (λ h. step-moved (λ d u. encodeBy env pool f d u) (λ d u t. encode-moved f d u t) v s h (at pool c))
+pub encode-moved : (env : Env) (pool : Pool) (f c v : ℕ) (s : Out) → Post (λ _ t. Moved s t) (encodeBy env pool f c v s)
+encode-moved env pool = encode-keeps Moved
+    (λ s t u X Y. record { limit = Y .limit ∙ X .limit; visits = omega (arith, X .visits, Y .visits); within = λ h. Y .within (X .within h); vars = omega (arith, X .vars, Y .vars) })
+    (λ s h. record { limit = refl; visits = omega arith; within = λ _. omega arith; vars = omega arith })
+    (λ s h. record { limit = refl; visits = omega arith; within = λ _. omega arith; vars = omega arith }) env pool
 
 -- ---- products, unions and their lengths
 pub length-cross : (a b : Alternatives) → length (cross a b) ≡ length a * length b

@@ -18,7 +18,7 @@ use Rattle.ir.specs.declared.atom.Atom.the-variants.{Role as RoleAtom}
 use Rattle.rules.specs.Pool.{Pool}
 use Rattle.rules.specs.State.{Env, Out, Rooms, E, canon, push, restarted, restartVars, freshVar as newVar}
 use Rattle.rules.specs.Axioms.{chain}
-use Rattle.tables.specs.Drawn.{Tables, tables, show, shown, after, Lent}
+use Rattle.tables.specs.Drawn.{Tables, tables, show, shown, after, Lent, countersIn, clausesIn, atomsIn, deferralsIn}
 use Rattle.tables.specs.Good.{Good, GoodAnswer, Alike, KeptAnswer}
 use Rattle.hands.specs.Hands.{InHand, Four, four, EnvIn, Did}
 use Rattle.hands.specs.HandLaws.{put-frame, hand-more}
@@ -27,18 +27,6 @@ use Rattle.heads.specs.FrameLaws.{frame-less}
 use Rattle.axioms.specs.RoleAxioms.{irreflexive, secondAtom, notBoth}
 
 -- ---- the variables begin again
-abbrev countersIn : Tables → Counters
-countersIn (tables k c a d) = k
-
-abbrev clausesIn : Tables → List ℕ
-clausesIn (tables k c a d) = c
-
-abbrev atomsIn : Tables → List ℕ
-atomsIn (tables k c a d) = a
-
-abbrev deferralsIn : Tables → List ℕ
-deferralsIn (tables k c a d) = d
-
 pub alike-restart : (k k' : Counters) → k' ≡ varsRestarted k → Alike k k'
 alike-restart k k' e = subst (Alike k) (sym e) (record { concepts = refl; members = refl; nominals = refl; options = refl })
 

@@ -22,7 +22,7 @@ use Rattle.pool.specs.HeldLaws.{pool-length}
 use Rattle.pool.specs.Answers.{sized}
 use Rattle.pool.specs.Answers.{after as afterPool}
 use Rattle.rebuilding.specs.States.{counted, told}
-use Rattle.tables.specs.Drawn.{Tables, tables, show, shown, after}
+use Rattle.tables.specs.Drawn.{tables, show, shown, after, countersIn, clausesIn, atomsIn, deferralsIn}
 use Rattle.tables.specs.Good.{GoodAnswer, KeptAnswer}
 use Rattle.hands.specs.Hands.{InHand, Four, Did}
 use Rattle.antecedents.specs.WriteLaws.{hands-word, hands-pool}
@@ -54,18 +54,6 @@ out-whole value k rooms x y (Refused n) (ok a s) z H p q K e = absurd (let z : _
 out-whole value k rooms x y (Refused n) (refused o) z H p q K e = cc
 
 -- ---- an answer of the normal form's rules: pool and visits change, the tables do not
-abbrev countersIn : Tables → Counters
-countersIn (tables k c a d) = k
-
-abbrev clausesIn : Tables → List ℕ
-clausesIn (tables k c a d) = c
-
-abbrev atomsIn : Tables → List ℕ
-atomsIn (tables k c a d) = a
-
-abbrev deferralsIn : Tables → List ℕ
-deferralsIn (tables k c a d) = d
-
 -- other sizes and visits
 pub show-visited : (k : Counters) (rooms : Rooms) (o : Out) (c a d : List ℕ) (s : St) → tables k c a d ≡ show k rooms o → s .limit ≡ k .limit
     → tables (counted k s) c a d ≡ show (sized k (s .pool)) rooms (visitedTo (s .visits) o)

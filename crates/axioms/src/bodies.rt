@@ -31,7 +31,10 @@ pub fn push_bodies(
     class: u32,
 ) -> Answer
     requires { ⌜ Encoding (now scratch) k × (sub < k .concepts) × (inHandBytes ≤ length (now scratch)) × (class + 1 < 2 ^ 32) × Sized (length (now clauses)) (length (now atoms)) 0 × Good k × Sourced (words (now scratch)) k sub y count ⌝ }
-    ensures { λ r. ⌜ ((d : List ℕ) → Bodied (givesClass class) k sub y count (four (words (now (scratch .entry))) (words (now (clauses .entry))) (words (now (atoms .entry))) d) (four (words (now (scratch .exit))) (words (now (clauses .exit))) (words (now (atoms .exit))) d) r) ⌝ }
+    ensures { λ r.
+        let old = four (words (now (scratch .entry))) (words (now (clauses .entry))) (words (now (atoms .entry))) in
+        let new = four (words (now (scratch .exit))) (words (now (clauses .exit))) (words (now (atoms .exit))) in
+        ⌜ ((d : List ℕ) → Bodied (givesClass class) k sub y count (old d) (new d) r) ⌝ }
 {
     let mut l = k;
     let mut i: u32 = 0;
@@ -64,7 +67,10 @@ pub fn emit_bodies(
     head: u32,
 ) -> Answer
     requires { ⌜ Encoding (now scratch) k × (sub < k .concepts) × (head < k .concepts) × (4 * (handsAt + 127000) ≤ length (now scratch)) × Sized (length (now clauses)) (length (now atoms)) (length (now deferrals)) × Good k × Sourced (words (now scratch)) k sub y count ⌝ }
-    ensures { λ r. ⌜ Bodied (λ env b. emitHead env (poolOf (words (now (scratch .entry))) (k .concepts)) b head 0) k sub y count (four (words (now (scratch .entry))) (words (now (clauses .entry))) (words (now (atoms .entry))) (words (now (deferrals .entry)))) (four (words (now (scratch .exit))) (words (now (clauses .exit))) (words (now (atoms .exit))) (words (now (deferrals .exit)))) r ⌝ }
+    ensures { λ r.
+        let old = four (words (now (scratch .entry))) (words (now (clauses .entry))) (words (now (atoms .entry))) (words (now (deferrals .entry))) in
+        let new = four (words (now (scratch .exit))) (words (now (clauses .exit))) (words (now (atoms .exit))) (words (now (deferrals .exit))) in
+        ⌜ Bodied (λ env b. emitHead env (poolOf (old .scratch) (k .concepts)) b head 0) k sub y count old new r ⌝ }
 {
     let mut l = k;
     let mut i: u32 = 0;

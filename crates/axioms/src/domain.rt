@@ -31,7 +31,10 @@ pub fn domain_or_range(
     range: bool,
 ) -> Answer
     requires { ⌜ Reading (now scratch) k × Good k × (role < 2 * mostRoles) × (c < k .concepts) × (4 * (handsAt + 127000) ≤ length (now scratch)) × Sized (length (now clauses)) (length (now atoms)) (length (now deferrals)) ⌝ }
-    ensures { λ r. ⌜ Did (λ _. 0) 0 (λ env f b s. domainOrRange env (roleOf role) c range (poolOf (words (now (scratch .entry))) (k .concepts)) s) k handAt 0 (four (words (now (scratch .entry))) (words (now (clauses .entry))) (words (now (atoms .entry))) (words (now (deferrals .entry)))) (four (words (now (scratch .exit))) (words (now (clauses .exit))) (words (now (atoms .exit))) (words (now (deferrals .exit)))) r ⌝ }
+    ensures { λ r.
+        let old = four (words (now (scratch .entry))) (words (now (clauses .entry))) (words (now (atoms .entry))) (words (now (deferrals .entry))) in
+        let new = four (words (now (scratch .exit))) (words (now (clauses .exit))) (words (now (atoms .exit))) (words (now (deferrals .exit))) in
+        ⌜ Did (λ _. 0) 0 (λ env f b s. domainOrRange env (roleOf role) c range (poolOf (old .scratch) (k .concepts)) s) k handAt 0 old new r ⌝ }
 {
     let l = k.restart_vars();
     let m = l.fresh_var();

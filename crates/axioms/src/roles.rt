@@ -41,7 +41,11 @@ pub fn chain(
     t: u32,
 ) -> Answer
     requires { ⌜ (r < 2 * mostRoles) × (s < 2 * mostRoles) × (t < 2 * mostRoles) × (inHandBytes ≤ length (now scratch)) × Sized (length (now clauses)) (length (now atoms)) 0 × Good k ⌝ }
-    ensures { λ z. ⌜ ((d : List ℕ) → Did (λ _. 0) 0 (λ env f b u. chain env (roleOf r) (roleOf s) (roleOf t) (poolOf (words (now (scratch .entry))) (k .concepts)) u) k handAt 0 (four (words (now (scratch .entry))) (words (now (clauses .entry))) (words (now (atoms .entry))) d) (four (words (now (scratch .exit))) (words (now (clauses .exit))) (words (now (atoms .exit))) d) z) ⌝ }
+    ensures { λ z.
+        let w = words (now (scratch .entry)) in
+        let old = four w (words (now (clauses .entry))) (words (now (atoms .entry))) in
+        let new = four (words (now (scratch .exit))) (words (now (clauses .exit))) (words (now (atoms .exit))) in
+        ⌜ ((d : List ℕ) → Did (λ _. 0) 0 (λ env f b u. chain env (roleOf r) (roleOf s) (roleOf t) (poolOf w (k .concepts)) u) k handAt 0 (old d) (new d) z) ⌝ }
 {
     let l = k.restart_vars();
     let m = l.fresh_var().fresh_var();
@@ -63,7 +67,10 @@ pub fn irreflexive(
     r: u32,
 ) -> Answer
     requires { ⌜ (r < 2 * mostRoles) × (inHandBytes ≤ length (now scratch)) × Sized (length (now clauses)) (length (now atoms)) 0 × Good k ⌝ }
-    ensures { λ z. ⌜ ((d : List ℕ) → Did (λ _. 0) 0 (λ env f b u. irreflexive env (roleOf r) u) k handAt 0 (four (words (now (scratch .entry))) (words (now (clauses .entry))) (words (now (atoms .entry))) d) (four (words (now (scratch .exit))) (words (now (clauses .exit))) (words (now (atoms .exit))) d) z) ⌝ }
+    ensures { λ z.
+        let old = four (words (now (scratch .entry))) (words (now (clauses .entry))) (words (now (atoms .entry))) in
+        let new = four (words (now (scratch .exit))) (words (now (clauses .exit))) (words (now (atoms .exit))) in
+        ⌜ ((d : List ℕ) → Did (λ _. 0) 0 (λ env f b u. irreflexive env (roleOf r) u) k handAt 0 (old d) (new d) z) ⌝ }
 {
     let a = Atom::Role(canon(scratch, r), 0, 0);
     record::put_atom(scratch, HAND, a);
@@ -94,7 +101,10 @@ pub fn not_both(
     back: bool,
 ) -> Answer
     requires { ⌜ (r < 2 * mostRoles) × (s < 2 * mostRoles) × (inHandBytes ≤ length (now scratch)) × Sized (length (now clauses)) (length (now atoms)) 0 × Good k ⌝ }
-    ensures { λ z. ⌜ ((d : List ℕ) → Did (λ _. 0) 0 (λ env f b u. notBoth env (roleOf r) (roleOf s) back u) k handAt 0 (four (words (now (scratch .entry))) (words (now (clauses .entry))) (words (now (atoms .entry))) d) (four (words (now (scratch .exit))) (words (now (clauses .exit))) (words (now (atoms .exit))) d) z) ⌝ }
+    ensures { λ z.
+        let old = four (words (now (scratch .entry))) (words (now (clauses .entry))) (words (now (atoms .entry))) in
+        let new = four (words (now (scratch .exit))) (words (now (clauses .exit))) (words (now (atoms .exit))) in
+        ⌜ ((d : List ℕ) → Did (λ _. 0) 0 (λ env f b u. notBoth env (roleOf r) (roleOf s) back u) k handAt 0 (old d) (new d) z) ⌝ }
 {
     let l = k.restart_vars();
     let m = l.fresh_var();

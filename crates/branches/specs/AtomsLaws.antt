@@ -1,9 +1,9 @@
 -- The words of atoms that stand in a table: each atom's kind and variables. Assumes nothing.
-use mathlib.Core.Path.{_≡_, refl}
+use mathlib.Core.Path.{_≡_, refl, _∙_}
 use mathlib.Core.List.{List, [], _∷_}
-use Prim.Native.Nat.{ℕ, zero, suc, _+_, _*_, _≤_, _<_}
+use Prim.Native.Nat.{ℕ, zero, suc, _+_, _*_, _-_, _/_, _≤_, _<_}
 use native.Mathlib.Omega.{arith}
-use lib.ListN.{length, getD, drop}
+use lib.ListN.{length, getD, take, drop}
 use Rattle.words.specs.Words.{words}
 use Rattle.words.specs.Laws.{length-words}
 use Rattle.ir.specs.Records.{wordsOf, six}
@@ -12,20 +12,13 @@ use Rattle.ir.specs.declared.atom.Atom.the-variants.{Class, Exists, AtMost, AtL
 use Rattle.rules.specs.Run.{flat}
 use Rattle.rules.specs.DecodeLaws.{flat-long}
 use Rattle.rules.specs.Branches.{roleVars}
+use Rattle.tables.specs.Tabled.{Run}
 use Rattle.tables.specs.TabledLaws.{At, at-back, at-get, at-long}
+use Rattle.tables.specs.AtomLaws.{flat-drop, run-at}
 use Rattle.branches.specs.Wide.{AtomsAre, AtomsThere}
 
--- ---- from atom i on
-pub at-drop : (w : List ℕ) (first i : ℕ) (l : List Atom) → i ≤ length l → At w (6 * first) (flat l) → At w (6 * (first + i)) (flat (drop i l))
-unfolding flat
-at-drop w first zero l h e = let z : first + 0 ≡ first = omega arith in rw z e
-at-drop w first (suc i) [] h e = absurd (omega arith)
-at-drop w first (suc i) (a ∷ l) h e =
-    let n : 6 * (first + 1) ≡ 6 * first + length (six a) = omega arith in
-    let z : first + suc i ≡ first + 1 + i = omega arith in
-    rw z (at-drop w (first + 1) i l (omega arith) (at-back w (6 * first) (six a) (flat l) e (6 * (first + 1)) n))
-
--- the words of the first of them
+-- ---- an atom's words
+-- the first of some atoms
 pub record WordsAre (w : List ℕ) (j : ℕ) (a : Atom) : Type 0 where
   pub kind : getD w j 0 ≡ wordsOf a .0
   pub var : getD w (j + 4) 0 ≡ wordsOf a .4
@@ -58,8 +51,14 @@ module _ (w : List ℕ) (first count i : ℕ) (l : List Atom) (A : AtomsAre w fi
   pub atom-at : i < count → AtomAt w (6 * (first + i)) (drop i l) (drop (i + 1) l)
   atom-at h =
       let s = split-at l i (omega (arith, A .long)) in
-      let e = at-drop w first i l (omega (arith, A .long)) (A .there) in
+      let e = flat-drop w first l i (A .there) (omega (arith, A .long)) in
       record { atom = s .0; split = s .1; words = at-words w (6 * (first + i)) (s .0) (drop (i + 1) l) (rw (s .1) at e) }
+
+-- atom i of a part
+pub run-atom : (s : List ℕ) (count i : ℕ) → count ≡ length s / 24 → (l : List Atom) → Run s l → i < count → AtomAt (words s) (6 * i) (drop i l) (drop (i + 1) l)
+run-atom s count i e l R h =
+    let z : 0 + i ≡ i = omega arith in
+    rw z at (atom-at (words s) 0 count i l (record { long = omega (arith, R .long); there = run-at s l R }) h)
 
 -- the bytes of the table reach to its end
 pub atoms-long : (s : List ℕ) (first count i : ℕ) → AtomsThere (words s) first count → i < count → 24 * (first + i) + 24 ≤ length s

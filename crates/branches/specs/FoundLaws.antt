@@ -13,6 +13,7 @@ use Rattle.ir.specs.Records.{sameWords}
 use Rattle.ir.specs.RecordLaws.{same-words, same-words-refl}
 use Rattle.ir.specs.declared.atom.Atom.{Atom}
 use Rattle.rules.specs.Invariants.{Each}
+use Rattle.rules.specs.EachLaws.{each-nth}
 use Rattle.rules.specs.Reflexive.{sameAtoms}
 use Rattle.rules.specs.Branches.{Branch, branchName, memoOf}
 use Rattle.rules.specs.Branches as Rules
@@ -32,11 +33,6 @@ pub record BranchAt (w : List ℕ) (s : Naming) (z : Rules.Naming) (p i : ℕ) :
   pub room : p + (1 + length (branch .body)) + length (namedWords (drop (i + 1) (z .named))) ≡ s .used
   pub packable : Each Packable (branch .body)
   pub name : branch .name ≡ s .first + i
-
-each-at : (P : Branch → Type 0) (l : List Branch) (i : ℕ) → i < length l → Each P l → P (getD l i noBranch)
-each-at P [] i h e = absurd (omega arith)
-each-at P (b ∷ l) zero h e = e .0
-each-at P (b ∷ l) (suc i) h e = each-at P l i (omega arith) (e .1)
 
 parts : (w : List ℕ) (p used : ℕ) (b : Branch) (l : List Branch) → At w p (namedWords (b ∷ l)) → p + length (namedWords (b ∷ l)) ≡ used
     → (getD w p 0 ≡ length (b .body)) × At w (p + 1) (map packed (b .body)) × At w (p + (1 + length (b .body))) (namedWords l) × (p + (1 + length (b .body)) + length (namedWords l) ≡ used)
@@ -65,7 +61,7 @@ module _ (r : ℕ) (w : List ℕ) (s : Naming) (count p i : ℕ) (S : Searching 
         words = q .1;
         rest = q .2;
         room = q .3;
-        packable = each-at (λ x. Each Packable (x .body) × (length (x .body) ≤ 256)) (z .named) i n (H .bodies) .0;
+        packable = each-nth (λ (x : Branch). Each Packable (x .body) × (length (x .body) ≤ 256)) (z .named) i noBranch (H .bodies) n .0;
         name = H .names i h;
       }
 

@@ -12,12 +12,12 @@ use Rattle.ir.specs.declared.atom.Atom.{Atom}
 use Rattle.ir.specs.declared.atom.Atom.the-variants.{Class, Exists, AtMost, AtLeast, Equal, Role as RoleAtom}
 use Rattle.rules.specs.Base.{any, contains}
 use Rattle.rules.specs.Branches.{treeVars, mentions}
+use Rattle.rules.specs.EachLaws.{each-drop}
 use Rattle.branches.specs.Wide.{AtomsAre}
 use Rattle.branches.specs.Memo.{Tame, TameThere}
 use Rattle.branches.specs.Renumbered.{run}
 use Rattle.branches.specs.MetLaws.{run-from, run-out}
 use Rattle.branches.specs.AtomsLaws.{WordsAre, atom-at, atoms-long}
-use Rattle.branches.specs.RenumberLaws.{each-drop}
 
 -- ---- a search for v among n words from m on, at i
 pub record Seeking (m : ℕ) (w : List ℕ) (n v i : ℕ) : Type 0 where
@@ -55,7 +55,7 @@ tame-kind (Equal u v) h = absurd h
 pub kind-small : (w : List ℕ) (base count i : ℕ) → TameThere w base count → i < count → getD w (6 * (base + i)) 0 < 3
 kind-small w base count i T h =
     let N = atom-at w base count i (T .list) (T .are) h in
-    omega (arith, N .words .kind, tame-kind (N .atom) (each-drop (T .list) i (N .atom) (drop (i + 1) (T .list)) (T .tame) (N .split)))
+    omega (arith, N .words .kind, tame-kind (N .atom) (each-drop Tame (T .list) i (N .atom) (drop (i + 1) (T .list)) (T .tame) (N .split)))
 
 pub tame-long : (s : List ℕ) (base count i : ℕ) → TameThere (words s) base count → i < count → 24 * (base + i) + 24 ≤ length s
 tame-long s base count i T h = atoms-long s base count i (record { list = T .list; are = T .are }) h

@@ -3,8 +3,6 @@ pub mod Seen
 pub mod SeenLaws
 pub mod AtomsLaws
 pub mod WideLaws
-pub mod Clauses
-pub mod ClauseLaws
 pub mod Layout
 pub mod Trees
 pub mod FilterLaws

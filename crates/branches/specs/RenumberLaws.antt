@@ -17,8 +17,10 @@ use Rattle.rules.specs.DecodeLaws.{flat-long}
 use Rattle.rules.specs.Branches.{placeOf, metWith, renumber, renumberFrom}
 use Rattle.rules.specs.BranchLaws.{renumber-length}
 use Rattle.rules.specs.Invariants.{Each}
+use Rattle.rules.specs.EachLaws.{each-drop}
 use Rattle.tables.specs.TabledLaws.{At, at-back, at-get}
-use Rattle.branches.specs.AtomsLaws.{at-drop, split-at}
+use Rattle.tables.specs.AtomLaws.{flat-drop}
+use Rattle.branches.specs.AtomsLaws.{split-at}
 use Rattle.branches.specs.Wide.{AtomsAre}
 use Rattle.branches.specs.Memo.{packed, Tame, TameThere}
 use Rattle.branches.specs.Renumbered.{run, Met, Put, metAfter, placed, TameAt, OnlyRenumbered, Renumbering}
@@ -100,18 +102,12 @@ pub read-at : (m : ℕ) (w w' : List ℕ) (base count i : ℕ) (l : List Atom) �
 read-at m w w' base count i l e b A h =
     let s = split-at l i (omega (arith, A .long)) in
     let g : At w' (6 * base) (flat l) = run-kept m w w' (6 * base) (length (flat l)) e (omega (arith, flat-long l, A .long)) ∙ A .there in
-    record { atom = s .0; split = s .1; read = atom-read w' (base + i) (s .0) (drop (i + 1) l) (rw (s .1) at (at-drop w' base i l (omega (arith, A .long)) g)) }
-
-pub each-drop : (l : List Atom) (i : ℕ) (a : Atom) (t : List Atom) → Each Tame l → drop i l ≡ a ∷ t → Tame a
-each-drop [] zero a t p e = absurd (let z : _≡_ {A = ℕ} 0 (suc (length t)) = ap length e in omega arith)
-each-drop [] (suc i) a t p e = absurd (let z : _≡_ {A = ℕ} 0 (suc (length t)) = ap length e in omega arith)
-each-drop (b ∷ l) zero a t p e = let q : b ≡ a = cc in subst Tame q (p .0)
-each-drop (b ∷ l) (suc i) a t p e = each-drop l i a t (p .1) e
+    record { atom = s .0; split = s .1; read = atom-read w' (base + i) (s .0) (drop (i + 1) l) (rw (s .1) at (flat-drop w' base l i g (omega (arith, A .long)))) }
 
 pub tame-at : (m : ℕ) (w w' : List ℕ) (base count i : ℕ) → take m w' ≡ take m w → 6 * (base + count) ≤ m → TameThere w base count → i < count → TameAt w' (base + i)
 tame-at m w w' base count i e b T h =
     let R = read-at m w w' base count i (T .list) e b (T .are) h in
-    record { atom = R .atom; is = R .read; tame = each-drop (T .list) i (R .atom) (drop (i + 1) (T .list)) (T .tame) (R .split) }
+    record { atom = R .atom; is = R .read; tame = each-drop Tame (T .list) i (R .atom) (drop (i + 1) (T .list)) (T .tame) (R .split) }
 
 -- ---- the body
 renumber-cons : (met : List ℕ) (a : Atom) (l : List Atom) → renumberFrom met (a ∷ l) ≡ placed met a ∷ renumberFrom (metAfter met a) l

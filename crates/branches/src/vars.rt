@@ -1,15 +1,15 @@
 // body_var_count and body_var_count_from, as far as MAX_BODY_VARS: one variable more ends the count.
+use tables::read;
 ghost use mathlib.Core.Path.{_≡_};
 ghost use mathlib.Core.List.{List};
 ghost use Prim.Native.Nat.{_+_, _≤_, _<_};
 ghost use lib.ListN.{length, take};
 ghost use lib.Dec.{ltb, eqb};
-ghost use Rattle.words.specs.Words.{words};
 ghost use Rattle.ir.specs.Pick.{pick};
 ghost use Rattle.ir.specs.declared.atom.Atom.{Atom};
 ghost use Rattle.rules.specs.Base.{contains as inList};
 ghost use Rattle.rules.specs.Branches.{maxBodyVars, bodyVarCountFrom, metWith};
-ghost use Rattle.branches.specs.Wide.{AtomsAre, AtomsThere};
+ghost use Rattle.tables.specs.Tabled.{Run};
 
 // MAX_BODY_VARS
 const MOST: usize = 8;
@@ -48,28 +48,19 @@ fn from_root(v: u32, root: u32) -> u32
     if v == root { 0 } else { v }
 }
 
-// The role atoms among the `count` atoms from atom `first` of the table on have more variables than MAX_BODY_VARS, X among
-// them, which stands for the root.
-pub fn is_wide(table: &[u8], first: usize, count: u32, root: u32) -> bool
-    requires { ⌜ AtomsThere (words (now table)) first count ⌝ }
-    ensures { λ r. ⌜ ((l : List Atom) → AtomsAre (words (now (table .entry))) first count l → r ≡ ltb maxBodyVars (bodyVarCountFrom l root)) ⌝ }
+// The role atoms of a body have more variables than MAX_BODY_VARS, X among them, which stands for the root.
+pub fn is_wide(body: &[u8], root: u32) -> bool
+    ensures { λ r. ⌜ ((l : List Atom) → Run (now (body .entry)) l → r ≡ ltb maxBodyVars (bodyVarCountFrom l root)) ⌝ }
 {
+    let count = read::atom_room(body);
     let mut seen = [0; 10];
     let mut n: usize = 1;
     let mut i: usize = 0;
-    while i < count as usize {
-        let at = 6 * (first + i);
-        if words::get_word(table, at) == 2 {
-            n = see(
-                &mut seen,
-                n,
-                from_root(words::get_word(table, at + 4), root),
-            );
-            n = see(
-                &mut seen,
-                n,
-                from_root(words::get_word(table, at + 5), root),
-            );
+    while i < count {
+        let at = 6 * i;
+        if words::get_word(body, at) == 2 {
+            n = see(&mut seen, n, from_root(words::get_word(body, at + 4), root));
+            n = see(&mut seen, n, from_root(words::get_word(body, at + 5), root));
             if MOST < n {
                 return true;
             }

@@ -1,4 +1,5 @@
 // The clauses that are due.
+use tables::read;
 ghost use Prim.Native.Nat.{_≤_, _<_};
 
 // In place of a clause's number: it is none of those that are due.
@@ -41,7 +42,7 @@ fn is_some(atoms: &[u8], first: u32, j: u32, class: u32, variable: u32) -> bool
     is_role(atoms, first, j, variable) && is_class(atoms, first, j + 1, class, variable)
 }
 
-// A clause's record: its first atom, and the numbers of body and head atoms.
+// A clause's record: its first atom, and the numbers of body and head atoms; zeros past the end.
 struct Numbers {
     first: u32,
     body: u32,
@@ -49,11 +50,17 @@ struct Numbers {
 }
 
 fn clause(clauses: &[u8], c: u32) -> Numbers {
-    let at = 3 * (c as usize);
+    if (c as usize) < read::clause_room(clauses) {
+        return Numbers {
+            first: read::first_atom(clauses, c),
+            body: read::body_count(clauses, c),
+            head: read::head_count(clauses, c),
+        };
+    }
     Numbers {
-        first: word(clauses, at),
-        body: word(clauses, at + 1),
-        head: word(clauses, at + 2),
+        first: 0,
+        body: 0,
+        head: 0,
     }
 }
 

@@ -8,7 +8,7 @@ use Rattle.rules.specs.Pool.{members}
 use Rattle.rules.specs.State.{Rooms, Deferred, total}
 use Rattle.rules.specs.Axioms.{Clausifier}
 use Rattle.rules.specs.Deck.{Told, fine, refused}
-use Rattle.rules.specs.Run.{Lined, done, stopped, deferralRecords}
+use Rattle.rules.specs.Run.{Lined, done, stopped, deferralWords, deferralRecords}
 use Rattle.rules.specs.Lister.{fieldsText, clausesText}
 use Rattle.staging.specs.Stage.{staged}
 
@@ -48,4 +48,4 @@ mostText = 214617
 -- a table that begins with the records of the deferrals l
 pub record Deferring (d : List ℕ) (n : ℕ) (l : List Deferred) : Type 0 where
   pub count : n ≡ length l
-  pub records : take (2 * n) d ≡ deferralRecords l
+  pub records : take (deferralWords * n) d ≡ deferralRecords l

@@ -1,11 +1,13 @@
 // The text of the clauses, the deferrals and the sums.
 use ir::counters::Counters;
+use tables::read;
 ghost use mathlib.Core.List.{List, [], _∷_};
 ghost use Prim.Native.Nat.{_+_, _*_, _≤_};
 ghost use lib.ListN.{length};
 ghost use Rattle.words.specs.Words.{words};
 ghost use Rattle.rules.specs.State.{Deferred};
 ghost use Rattle.rules.specs.Axioms.{Clausifier};
+ghost use Rattle.rules.specs.Run.{deferralWords};
 ghost use Rattle.rules.specs.Lister.{fieldsText};
 ghost use Rattle.rows.specs.Rows.{Put};
 ghost use Rattle.staging.specs.Stage.{Shows, Showing};
@@ -13,13 +15,15 @@ ghost use Rattle.clauses.specs.Stage.{deferralsText, stateText, refusalT
 
 // The first n deferrals, from byte `at` on; where they end.
 fn put_deferrals(deferrals: &[u8], n: u32, out: &mut [u8], at: usize) -> usize
-    requires { ⌜ (8 * n ≤ length (now deferrals)) × (at + 34 * n ≤ length (now out)) ⌝ }
+    requires { ⌜ (4 * (deferralWords * n) ≤ length (now deferrals)) × (at + 34 * n ≤ length (now out)) ⌝ }
     ensures { λ r. ⌜ ((l : List Deferred) → Deferring (words (now (deferrals .entry))) n l → Put (now (out .entry)) at (deferralsText l) (now (out .exit)) r) ⌝ }
 {
     let mut p = at;
     let mut i: u32 = 0;
     while i < n {
-        p = rows::put_row(45, deferrals, 2 * (i as usize), 2, out, p);
+        let line = read::deferral_line(deferrals, i);
+        let kind = read::deferral_kind(deferrals, i);
+        p = rows::put_three(out, p, 45, line, kind);
         i += 1;
     }
     p

@@ -20,7 +20,7 @@ use Rattle.pool.specs.Held.{Held}
 use Rattle.pool.specs.Answers.{sized}
 use Rattle.pool.specs.Tabs.{tab-next, tab-end}
 use Rattle.ontology.specs.Layout.{axiomAt, axiomsOf}
-use Rattle.tables.specs.Drawn.{Tables, tables, show}
+use Rattle.tables.specs.Drawn.{Tables, tables, show, countersIn, clausesIn, atomsIn, deferralsIn}
 use Rattle.tables.specs.Good.{Alike, alike-step, good-same}
 use Rattle.hands.specs.Hands.{Four, four, EnvHeld}
 use Rattle.leaves.specs.StepLaws.{show-alike, words-long}
@@ -31,22 +31,10 @@ use Rattle.clausifier.specs.Arms.{AxiomsOf, AxiomOf}
 use Rattle.clausifier.specs.All.{shownLined, afterLined, ClausifiedAll}
 use Rattle.axioms.specs.OnwardLaws.{untouched-same, untouched-then, onward-same, onward-then}
 use Rattle.lists.specs.TurnLaws.{env-turned}
-use Rattle.normalize.specs.KeptAxioms.{axiom-kept}
+use Rattle.ontology.specs.KeptAxioms.{axiom-kept}
 use Rattle.clausifier.specs.KeptLaws.{axioms-of-kept}
 
 -- ---- at another line
-abbrev countersIn : Tables → Counters
-countersIn (tables k c a d) = k
-
-abbrev clausesIn : Tables → List ℕ
-clausesIn (tables k c a d) = c
-
-abbrev atomsIn : Tables → List ℕ
-atomsIn (tables k c a d) = a
-
-abbrev deferralsIn : Tables → List ℕ
-deferralsIn (tables k c a d) = d
-
 alike-line : (k k' : Counters) (n : ℕ) → k' ≡ atLine n k → Alike k k'
 alike-line k k' n e = alike-step k k' (atLine n) e refl refl refl refl
 

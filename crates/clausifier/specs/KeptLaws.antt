@@ -6,7 +6,7 @@ use Rattle.rules.specs.NormalizeLaws.{axioms-more}
 use Rattle.ontology.specs.Layout.{axiomsOf}
 use Rattle.axioms.specs.Wholes.{Untouched}
 use Rattle.clausifier.specs.Arms.{AxiomsOf}
-use Rattle.normalize.specs.KeptAxioms.{axioms-kept, held-axioms}
+use Rattle.ontology.specs.KeptAxioms.{axioms-kept, held-axioms}
 
 pub axioms-of-kept : (w w' : List ℕ) (k k' : Counters) (n : ℕ) → Untouched w w' → k .concepts ≤ k' .concepts → AxiomsOf w k n → AxiomsOf w' k' n
 axioms-of-kept w w' k k' n U h A = record {

@@ -13,7 +13,7 @@ use Rattle.rules.specs.Normalize.{St}
 use Rattle.rules.specs.State.{Rooms}
 use Rattle.rules.specs.Deck.{Known}
 use Rattle.rules.specs.DeckLaws.{DeckIn}
-use Rattle.rules.specs.Run.{done, stopped, envOf, start}
+use Rattle.rules.specs.Run.{done, stopped, envOf, start, clauseWords, atomWords, deferralWords}
 use Rattle.pool.specs.Layout.{poolOf}
 use Rattle.ontology.specs.Layout.{axiomsOf}
 use Rattle.ontology.specs.Loads.{Holds}
@@ -34,7 +34,7 @@ pub record Preparing (s : List ℕ) (k : Counters) (n : ℕ) : Type 0 where
 
 -- lent tables of zeros
 abbrev pub empty : Counters → Rooms → Tables
-empty k rooms = tables k (replicate (3 * rooms .clauses) 0) (replicate (6 * rooms .atoms) 0) (replicate (2 * rooms .deferrals) 0)
+empty k rooms = tables k (replicate (clauseWords * rooms .clauses) 0) (replicate (atomWords * rooms .atoms) 0) (replicate (deferralWords * rooms .deferrals) 0)
 
 -- the deck's normal form stands there, with all that clausify_axioms reads
 pub record Prepared (d : Known) (limit : ℕ) (s : List ℕ) (k : Counters) (n : ℕ) : Type 0 where

@@ -25,7 +25,7 @@ use Rattle.rules.specs.NormalizeLaws.{AxiomsMade, nnf-axioms-made}
 use Rattle.rules.specs.LinedPost.{LinedPost, done-post}
 use Rattle.rules.specs.Deck.{Known, axiomLine}
 use Rattle.rules.specs.DeckLaws.{boundsOf, DeckIn}
-use Rattle.rules.specs.Run.{Lined, done, stopped, nnfAxioms, clauseRecords, atomRecords, deferralRecords, firstFresh, envOf, start}
+use Rattle.rules.specs.Run.{Lined, done, stopped, nnfAxioms, clauseWords, atomWords, deferralWords, clauseRecords, atomRecords, deferralRecords, firstFresh, envOf, start}
 use Rattle.pool.specs.Layout.{poolOf}
 use Rattle.pool.specs.Held.{Held, Ready}
 use Rattle.pool.specs.HeldLaws.{Same, pool-same, held-same, word-above}
@@ -41,7 +41,7 @@ use Rattle.antecedents.specs.Table.{Numbered, Outside}
 use Rattle.antecedents.specs.TableLaws.{same-words, outside-pool, outside-held}
 use Rattle.axioms.specs.Wholes.{Clausifying}
 use Rattle.clausifier.specs.Arms.{AxiomsOf}
-use Rattle.normalize.specs.KeptAxioms.{axioms-kept, held-axioms}
+use Rattle.ontology.specs.KeptAxioms.{axioms-kept, held-axioms}
 use Rattle.clausifier.specs.Prepare.{Preparing, empty, Prepared}
 
 -- ---- nnf_axioms' answer
@@ -128,9 +128,9 @@ readied d limit s = atLine 0 (counted (begin d limit) s)
 start-shown : (d : Known) (limit : ℕ) (s : St) (rooms : Rooms) → empty (readied d limit s) rooms ≡ show (readied d limit s) rooms (start d s .out)
 unfolding show padded clauseRecords atomRecords deferralRecords total
 start-shown d limit s rooms =
-    let c : 3 * rooms .clauses - 0 ≡ 3 * rooms .clauses = omega arith in
-    let a : 6 * rooms .atoms - 0 ≡ 6 * rooms .atoms = omega arith in
-    let f : 2 * rooms .deferrals - 0 ≡ 2 * rooms .deferrals = omega arith in
+    let c : clauseWords * rooms .clauses - 0 ≡ clauseWords * rooms .clauses = omega arith in
+    let a : atomWords * rooms .atoms - 0 ≡ atomWords * rooms .atoms = omega arith in
+    let f : deferralWords * rooms .deferrals - 0 ≡ deferralWords * rooms .deferrals = omega arith in
     rw (c, a, f) refl
 
 -- ---- what the code asks of it

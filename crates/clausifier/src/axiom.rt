@@ -34,7 +34,10 @@ fn clausify_classes(
     count: u32,
 ) -> Answer
     requires { ⌜ Clausifying (now scratch) k × Row (words (now scratch)) k kind at count × (kind < 27) × Sized (length (now clauses)) (length (now atoms)) (length (now deferrals)) ⌝ }
-    ensures { λ r. ⌜ Clausified (λ env. clausifyAxiom env (rowAxiom (words (now (scratch .entry))) kind at count)) k (four (words (now (scratch .entry))) (words (now (clauses .entry))) (words (now (atoms .entry))) (words (now (deferrals .entry)))) (four (words (now (scratch .exit))) (words (now (clauses .exit))) (words (now (atoms .exit))) (words (now (deferrals .exit)))) r ⌝ }
+    ensures { λ r.
+        let old = four (words (now (scratch .entry))) (words (now (clauses .entry))) (words (now (atoms .entry))) (words (now (deferrals .entry))) in
+        let new = four (words (now (scratch .exit))) (words (now (clauses .exit))) (words (now (atoms .exit))) (words (now (deferrals .exit))) in
+        ⌜ Clausified (λ env. clausifyAxiom env (rowAxiom (old .scratch) kind at count)) k old new r ⌝ }
     ensures { λ r. ⌜ ClausifyingAfter (now (scratch .exit)) r ⌝ }
 {
     let a = words::get_word(scratch, at + 1);
@@ -73,7 +76,10 @@ fn clausify_chain(
     count: u32,
 ) -> Answer
     requires { ⌜ Clausifying (now scratch) k × Row (words (now scratch)) k 27 at count × Sized (length (now clauses)) (length (now atoms)) (length (now deferrals)) ⌝ }
-    ensures { λ r. ⌜ Clausified (λ env. clausifyAxiom env (rowAxiom (words (now (scratch .entry))) 27 at count)) k (four (words (now (scratch .entry))) (words (now (clauses .entry))) (words (now (atoms .entry))) (words (now (deferrals .entry)))) (four (words (now (scratch .exit))) (words (now (clauses .exit))) (words (now (atoms .exit))) (words (now (deferrals .exit)))) r ⌝ }
+    ensures { λ r.
+        let old = four (words (now (scratch .entry))) (words (now (clauses .entry))) (words (now (atoms .entry))) (words (now (deferrals .entry))) in
+        let new = four (words (now (scratch .exit))) (words (now (clauses .exit))) (words (now (atoms .exit))) (words (now (deferrals .exit))) in
+        ⌜ Clausified (λ env. clausifyAxiom env (rowAxiom (old .scratch) 27 at count)) k old new r ⌝ }
     ensures { λ r. ⌜ ClausifyingAfter (now (scratch .exit)) r ⌝ }
 {
     if count != 4 {
@@ -97,7 +103,10 @@ fn clausify_roles(
     count: u32,
 ) -> Answer
     requires { ⌜ Clausifying (now scratch) k × Row (words (now scratch)) k kind at count × (27 ≤ kind) × Sized (length (now clauses)) (length (now atoms)) (length (now deferrals)) ⌝ }
-    ensures { λ r. ⌜ Clausified (λ env. clausifyAxiom env (rowAxiom (words (now (scratch .entry))) kind at count)) k (four (words (now (scratch .entry))) (words (now (clauses .entry))) (words (now (atoms .entry))) (words (now (deferrals .entry)))) (four (words (now (scratch .exit))) (words (now (clauses .exit))) (words (now (atoms .exit))) (words (now (deferrals .exit)))) r ⌝ }
+    ensures { λ r.
+        let old = four (words (now (scratch .entry))) (words (now (clauses .entry))) (words (now (atoms .entry))) (words (now (deferrals .entry))) in
+        let new = four (words (now (scratch .exit))) (words (now (clauses .exit))) (words (now (atoms .exit))) (words (now (deferrals .exit))) in
+        ⌜ Clausified (λ env. clausifyAxiom env (rowAxiom (old .scratch) kind at count)) k old new r ⌝ }
     ensures { λ r. ⌜ ClausifyingAfter (now (scratch .exit)) r ⌝ }
 {
     let r = words::get_word(scratch, at + 1);
@@ -121,7 +130,10 @@ pub fn clausify_axiom(
     i: u32,
 ) -> Answer
     requires { ⌜ Clausifying (now scratch) k × AxiomOf (words (now scratch)) k i × Sized (length (now clauses)) (length (now atoms)) (length (now deferrals)) ⌝ }
-    ensures { λ r. ⌜ Clausified (λ env. clausifyAxiom env (axiomAt (words (now (scratch .entry))) i)) k (four (words (now (scratch .entry))) (words (now (clauses .entry))) (words (now (atoms .entry))) (words (now (deferrals .entry)))) (four (words (now (scratch .exit))) (words (now (clauses .exit))) (words (now (atoms .exit))) (words (now (deferrals .exit)))) r ⌝ }
+    ensures { λ r.
+        let old = four (words (now (scratch .entry))) (words (now (clauses .entry))) (words (now (atoms .entry))) (words (now (deferrals .entry))) in
+        let new = four (words (now (scratch .exit))) (words (now (clauses .exit))) (words (now (atoms .exit))) (words (now (deferrals .exit))) in
+        ⌜ Clausified (λ env. clausifyAxiom env (axiomAt (old .scratch) i)) k old new r ⌝ }
     ensures { λ r. ⌜ ClausifyingAfter (now (scratch .exit)) r ⌝ }
 {
     let kind = axiom::number(scratch, i, 0);

@@ -25,7 +25,10 @@ pub fn clausify_axioms(
     line: u32,
 ) -> Lined
     requires { ⌜ Clausifying (now scratch) k × AxiomsOf (words (now scratch)) k n × (line ≤ 65536) × Sized (length (now clauses)) (length (now atoms)) (length (now deferrals)) ⌝ }
-    ensures { λ r. ⌜ ClausifiedAll n line k (four (words (now (scratch .entry))) (words (now (clauses .entry))) (words (now (atoms .entry))) (words (now (deferrals .entry)))) (four (words (now (scratch .exit))) (words (now (clauses .exit))) (words (now (atoms .exit))) (words (now (deferrals .exit)))) r ⌝ }
+    ensures { λ r.
+        let old = four (words (now (scratch .entry))) (words (now (clauses .entry))) (words (now (atoms .entry))) (words (now (deferrals .entry))) in
+        let new = four (words (now (scratch .exit))) (words (now (clauses .exit))) (words (now (atoms .exit))) (words (now (deferrals .exit))) in
+        ⌜ ClausifiedAll n line k old new r ⌝ }
     ensures { λ r. ⌜ ClausifyingLined (now (scratch .exit)) r ⌝ }
 {
     let mut l = k;

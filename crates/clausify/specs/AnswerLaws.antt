@@ -10,7 +10,7 @@ use Rattle.ir.specs.declared.counters.Counters.{Counters}
 use Rattle.rules.specs.State.{Rooms}
 use Rattle.rules.specs.Stats as Rules
 use Rattle.rules.specs.Deck.{readDeck}
-use Rattle.rules.specs.Run.{Lengths, Outcome, Accepted, accepted, refused, sizesOk, roomsOf, runRead, runWith, visitLimit, Run, clauseRecords, atomRecords, deferralRecords, tableOf, clauseTable, atomTable, deferralTable}
+use Rattle.rules.specs.Run.{Lengths, Outcome, Accepted, accepted, refused, sizesOk, roomsOf, runRead, runWith, visitLimit, Run, clauseWords, atomWords, deferralWords, clauseRecords, atomRecords, deferralRecords, tableOf, clauseTable, atomTable, deferralTable}
 use Rattle.statistics.specs.declared.ClauseStats.{ClauseStats}
 use Rattle.statistics.specs.Counted.{statsOf}
 use Rattle.run.specs.declared.Ran.{Ran}
@@ -96,7 +96,7 @@ module _ (deck : List ℕ) (t : Lengths) (fits : sizesOk t ≡ true) (r : Ran) w
       let is : Run deck t ≡ accepted x = run-sized deck t fits ∙ K .is in
       record {
         reply = f (roomsOf t) x (words d) L ∙ sym (ap replyOf is);
-        clauses = table-bytes c (clauseRecords 0 (x .clauses)) (3 * roomsOf t .clauses) bc (lc ∙ W .clauses) (L .clauses) ∙ ap (λ (n : ℕ). tableOf n (clauseRecords 0 (x .clauses))) lc ∙ sym (ap (clauseTable t) is);
-        atoms = table-bytes a (atomRecords (x .clauses)) (6 * roomsOf t .atoms) ba (la ∙ W .atoms) (L .atoms) ∙ ap (λ (n : ℕ). tableOf n (atomRecords (x .clauses))) la ∙ sym (ap (atomTable t) is);
-        deferrals = table-bytes d (deferralRecords (x .deferrals)) (2 * roomsOf t .deferrals) bd (ld ∙ W .deferrals) (L .deferrals) ∙ ap (λ (n : ℕ). tableOf n (deferralRecords (x .deferrals))) ld ∙ sym (ap (deferralTable t) is);
+        clauses = table-bytes c (clauseRecords 0 (x .clauses)) (clauseWords * roomsOf t .clauses) bc (lc ∙ W .clauses) (L .clauses) ∙ ap (λ (n : ℕ). tableOf n (clauseRecords 0 (x .clauses))) lc ∙ sym (ap (clauseTable t) is);
+        atoms = table-bytes a (atomRecords (x .clauses)) (atomWords * roomsOf t .atoms) ba (la ∙ W .atoms) (L .atoms) ∙ ap (λ (n : ℕ). tableOf n (atomRecords (x .clauses))) la ∙ sym (ap (atomTable t) is);
+        deferrals = table-bytes d (deferralRecords (x .deferrals)) (deferralWords * roomsOf t .deferrals) bd (ld ∙ W .deferrals) (L .deferrals) ∙ ap (λ (n : ℕ). tableOf n (deferralRecords (x .deferrals))) ld ∙ sym (ap (deferralTable t) is);
       }

@@ -1,15 +1,12 @@
 -- What the entries promise: the reply, the bytes of the lent tables, and the clauses' meaning.
 use mathlib.Core.Path.{_≡_}
-use mathlib.Core.Bool.{Bool, true, false}
 use mathlib.Core.List.{List}
 use Prim.{Unit}
-use Prim.Native.Nat.{ℕ, _+_, _*_, _^_}
-use lib.ListN.{length, getD, replicate}
-use lib.Dec.{eqb}
-use Rattle.words.specs.Words.{words, bytes}
+use Prim.Native.Nat.{ℕ}
+use lib.ListN.{length}
 use Rattle.rules.specs.Deck.{Known, fine, readDeck}
 use Rattle.rules.specs.Stats as Rules
-use Rattle.rules.specs.Run.{Lengths, Outcome, Accepted, accepted, refused, Run, replyNumber, replyLine, tenNumbers}
+use Rattle.rules.specs.Run.{Lengths, Outcome, Accepted, accepted, refused, Run}
 use Rattle.rules.specs.Statements.{leftClauses, FirstHalf, SecondHalf}
 use Rattle.statistics.specs.declared.ClauseStats.{ClauseStats}
 use Rattle.clausify.specs.declared.Reply.{Reply}
@@ -44,26 +41,6 @@ abbrev pub countOf : Outcome → Clausified
 countOf (accepted x) = Counts.Accepted (x .stats .total)
 countOf (refused n line) = Counts.Refused n line
 
--- the C entry: number × 2^32 + line, 0 where accepted
-abbrev pub codeOf : Outcome → ℕ
-codeOf o = replyNumber o * 2 ^ 32 + replyLine o
-
--- its table of numbers has ten words; any other size is refusal 1
-abbrev pub numbersBytes : ℕ
-numbersBytes = 40
-
-abbrev pub runIf : Bool → Outcome → Outcome
-runIf true o = o
-runIf false o = refused 1 0
-
-abbrev pub runWithNumbers : ℕ → List ℕ → Lengths → Outcome
-runWithNumbers n deck t = runIf (eqb n numbersBytes) (Run deck t)
-
--- the ten numbers of line 43, zeros on a refusal
-abbrev pub numbersTable : ℕ → Outcome → List ℕ
-numbersTable n (accepted x) = bytes (tenNumbers x)
-numbersTable n (refused k line) = replicate n 0
-
 -- ---- demand 3, about the clauses that are decoded from the bytes of the tables at exit; in plain words: docs/MEANING.md
 -- the deck was read, and both halves hold of the first `total` clauses in these bytes
 pub record Meaning (deck clauses atoms : List ℕ) (total freshIds deferred : ℕ) : Type 0 where
@@ -86,7 +63,3 @@ pub record CountMeaning (deck : List ℕ) (t : Lengths) (clauses atoms : List �
 abbrev pub MeantCount : (deck : List ℕ) → Lengths → (clauses atoms : List ℕ) → Clausified → Type 0
 MeantCount deck t c a (Counts.Accepted n) = CountMeaning deck t c a n
 MeantCount deck t c a (Counts.Refused n line) = Unit {0}
-
--- by the table of numbers, where the reply is 0
-abbrev pub MeantNumbers : (deck clauses atoms numbers : List ℕ) → ℕ → Type 0
-MeantNumbers deck c a numbers r = r ≡ 0 → Meaning deck c a (getD (words numbers) 0 0) (getD (words numbers) 8 0) (getD (words numbers) 5 0)

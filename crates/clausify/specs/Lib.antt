@@ -3,4 +3,3 @@ pub mod Answer
 pub mod TableLaws
 pub mod AnswerLaws
 pub mod MeaningLaws
-pub mod NumberLaws

@@ -43,11 +43,14 @@ and-stop x z a b e f g = let h : false ≡ a = sym e ∙ f in rw (← h) (g ∙ 
 
 -- whole records, and no more than may be
 pub record Whole (t : Lengths) : Type 0 where
-  pub clauses : t .clauses ≡ 4 * (3 * roomsOf t .clauses)
-  pub atoms : t .atoms ≡ 4 * (6 * roomsOf t .atoms)
-  pub deferrals : t .deferrals ≡ 4 * (2 * roomsOf t .deferrals)
+  pub clauses : t .clauses ≡ 4 * (clauseWords * roomsOf t .clauses)
+  pub atoms : t .atoms ≡ 4 * (atomWords * roomsOf t .atoms)
+  pub deferrals : t .deferrals ≡ 4 * (deferralWords * roomsOf t .deferrals)
   pub sized : Sized (t .clauses) (t .atoms) (t .deferrals)
   pub scratch : scratchBytes ≤ t .scratch
+
+records-whole : (w most n : ℕ) → tableOk w most n ≡ true → n % (4 * w) ≡ 0
+records-whole w most n e = eqb-true (n % (4 * w)) 0 (both-true (eqb (n % (4 * w)) 0) (leb (n / (4 * w)) most) e .0)
 
 pub sizes-whole : (t : Lengths) → sizesOk t ≡ true → Whole t
 sizes-whole t e =
@@ -57,9 +60,9 @@ sizes-whole t e =
     let f = both-true (x && y && z) (leb scratchBytes (t .scratch)) e in
     let g = both-true (x && y) z (f .0) in
     let h = both-true x y (g .0) in
-    let c = eqb-true (t .clauses % 12) 0 (both-true (eqb (t .clauses % 12) 0) (leb (t .clauses / 12) mostClauses) (h .0) .0) in
-    let a = eqb-true (t .atoms % 24) 0 (both-true (eqb (t .atoms % 24) 0) (leb (t .atoms / 24) mostAtoms) (h .1) .0) in
-    let d = eqb-true (t .deferrals % 8) 0 (both-true (eqb (t .deferrals % 8) 0) (leb (t .deferrals / 8) mostDeferrals) (g .1) .0) in
+    let c = records-whole clauseWords mostClauses (t .clauses) (h .0) in
+    let a = records-whole atomWords mostAtoms (t .atoms) (h .1) in
+    let d = records-whole deferralWords mostDeferrals (t .deferrals) (g .1) in
     let S = sizes-ok t e in
     record {
       clauses = omega arith;
@@ -70,7 +73,7 @@ sizes-whole t e =
     }
 
 -- ---- cleared tables
-pub cleared-blank : (rooms : Rooms) (c a d : List ℕ) → length c ≡ 4 * (3 * rooms .clauses) → length a ≡ 4 * (6 * rooms .atoms) → length d ≡ 4 * (2 * rooms .deferrals)
+pub cleared-blank : (rooms : Rooms) (c a d : List ℕ) → length c ≡ 4 * (clauseWords * rooms .clauses) → length a ≡ 4 * (atomWords * rooms .atoms) → length d ≡ 4 * (deferralWords * rooms .deferrals)
     → Zeros c a d → Blank rooms (words c) (words a) (words d)
 cleared-blank rooms c a d e f g Z = blank-zeros rooms c a d e f g (Z .clauses) (Z .atoms) (Z .deferrals)
 
@@ -82,6 +85,6 @@ front n m l w e h = rw (h, ← e) (take-append-seam l (replicate (n - length l) 
 pub left-tabled : (rooms : Rooms) (x : Accepted) (k : Counters) (first m : ℕ) (c a d : List ℕ) → Left rooms x k first m c a d → Tabled c a (k .clauses) (x .clauses)
 left-tabled rooms x k first m c a d L = record {
   count = L .many;
-  clauses = front (3 * rooms .clauses) (3 * k .clauses) (clauseRecords 0 (x .clauses)) c (clause-records-long 0 (x .clauses) ∙ ap (λ (n : ℕ). 3 * n) (sym (L .many))) (L .clauses);
-  atoms = front (6 * rooms .atoms) (6 * total (x .clauses)) (atomRecords (x .clauses)) a (atom-records-long (x .clauses)) (L .atoms);
+  clauses = front (clauseWords * rooms .clauses) (clauseWords * k .clauses) (clauseRecords 0 (x .clauses)) c (clause-records-long 0 (x .clauses) ∙ ap (λ (n : ℕ). clauseWords * n) (sym (L .many))) (L .clauses);
+  atoms = front (atomWords * rooms .atoms) (atomWords * total (x .clauses)) (atomRecords (x .clauses)) a (atom-records-long (x .clauses)) (L .atoms);
 }

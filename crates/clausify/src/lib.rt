@@ -1,8 +1,6 @@
-// The public entries: clausify_with_stats, clausify, and gorvask_clausify_with_stats for callers in C (c.rt). None asks anything of
-// what it is lent. Each contract gives the reply, and every byte of every table at exit, as a function of the deck's bytes and the
+// The public entries in Rattle: clausify_with_stats and clausify. None asks anything of what it is lent. Each contract gives the reply, and every byte of every table at exit, as a function of the deck's bytes and the
 // tables' lengths alone, and says what the clauses in these bytes mean.
-mod answer;
-pub mod c;
+pub mod answer;
 mod sizes;
 
 use statistics::ClauseStats;
@@ -32,11 +30,25 @@ pub fn clausify_with_stats(
     deferrals: &mut [u8],
     scratch: &mut [u8],
 ) -> Reply
-    ensures reply { λ r. ⌜ r ≡ replyOf (Run (now (deck .entry)) (lent (now (clauses .entry)) (now (atoms .entry)) (now (deferrals .entry)) (now (scratch .entry)))) ⌝ }
-    ensures clauses { λ _. ⌜ now (clauses .exit) ≡ clauseTable (lent (now (clauses .entry)) (now (atoms .entry)) (now (deferrals .entry)) (now (scratch .entry))) (Run (now (deck .entry)) (lent (now (clauses .entry)) (now (atoms .entry)) (now (deferrals .entry)) (now (scratch .entry)))) ⌝ }
-    ensures atoms { λ _. ⌜ now (atoms .exit) ≡ atomTable (lent (now (clauses .entry)) (now (atoms .entry)) (now (deferrals .entry)) (now (scratch .entry))) (Run (now (deck .entry)) (lent (now (clauses .entry)) (now (atoms .entry)) (now (deferrals .entry)) (now (scratch .entry)))) ⌝ }
-    ensures deferrals { λ _. ⌜ now (deferrals .exit) ≡ deferralTable (lent (now (clauses .entry)) (now (atoms .entry)) (now (deferrals .entry)) (now (scratch .entry))) (Run (now (deck .entry)) (lent (now (clauses .entry)) (now (atoms .entry)) (now (deferrals .entry)) (now (scratch .entry)))) ⌝ }
-    ensures scratch { λ _. ⌜ now (scratch .exit) ≡ scratchTable (lent (now (clauses .entry)) (now (atoms .entry)) (now (deferrals .entry)) (now (scratch .entry))) ⌝ }
+    ensures reply { λ r.
+        let t = lent (now (clauses .entry)) (now (atoms .entry)) (now (deferrals .entry)) (now (scratch .entry)) in
+        let o = Run (now (deck .entry)) t in
+        ⌜ r ≡ replyOf o ⌝ }
+    ensures clauses { λ _.
+        let t = lent (now (clauses .entry)) (now (atoms .entry)) (now (deferrals .entry)) (now (scratch .entry)) in
+        let o = Run (now (deck .entry)) t in
+        ⌜ now (clauses .exit) ≡ clauseTable t o ⌝ }
+    ensures atoms { λ _.
+        let t = lent (now (clauses .entry)) (now (atoms .entry)) (now (deferrals .entry)) (now (scratch .entry)) in
+        let o = Run (now (deck .entry)) t in
+        ⌜ now (atoms .exit) ≡ atomTable t o ⌝ }
+    ensures deferrals { λ _.
+        let t = lent (now (clauses .entry)) (now (atoms .entry)) (now (deferrals .entry)) (now (scratch .entry)) in
+        let o = Run (now (deck .entry)) t in
+        ⌜ now (deferrals .exit) ≡ deferralTable t o ⌝ }
+    ensures scratch { λ _.
+        let t = lent (now (clauses .entry)) (now (atoms .entry)) (now (deferrals .entry)) (now (scratch .entry)) in
+        ⌜ now (scratch .exit) ≡ scratchTable t ⌝ }
     ensures meaning { λ r. ⌜ Meant (now (deck .entry)) (now (clauses .exit)) (now (atoms .exit)) r ⌝ }
 {
     let fit = sizes::sizes_ok(clauses.len(), atoms.len(), deferrals.len(), scratch.len());
@@ -63,12 +75,28 @@ pub fn clausify(
     deferrals: &mut [u8],
     scratch: &mut [u8],
 ) -> Clausified
-    ensures reply { λ r. ⌜ r ≡ countOf (Run (now (deck .entry)) (lent (now (clauses .entry)) (now (atoms .entry)) (now (deferrals .entry)) (now (scratch .entry)))) ⌝ }
-    ensures clauses { λ _. ⌜ now (clauses .exit) ≡ clauseTable (lent (now (clauses .entry)) (now (atoms .entry)) (now (deferrals .entry)) (now (scratch .entry))) (Run (now (deck .entry)) (lent (now (clauses .entry)) (now (atoms .entry)) (now (deferrals .entry)) (now (scratch .entry)))) ⌝ }
-    ensures atoms { λ _. ⌜ now (atoms .exit) ≡ atomTable (lent (now (clauses .entry)) (now (atoms .entry)) (now (deferrals .entry)) (now (scratch .entry))) (Run (now (deck .entry)) (lent (now (clauses .entry)) (now (atoms .entry)) (now (deferrals .entry)) (now (scratch .entry)))) ⌝ }
-    ensures deferrals { λ _. ⌜ now (deferrals .exit) ≡ deferralTable (lent (now (clauses .entry)) (now (atoms .entry)) (now (deferrals .entry)) (now (scratch .entry))) (Run (now (deck .entry)) (lent (now (clauses .entry)) (now (atoms .entry)) (now (deferrals .entry)) (now (scratch .entry)))) ⌝ }
-    ensures scratch { λ _. ⌜ now (scratch .exit) ≡ scratchTable (lent (now (clauses .entry)) (now (atoms .entry)) (now (deferrals .entry)) (now (scratch .entry))) ⌝ }
-    ensures meaning { λ r. ⌜ MeantCount (now (deck .entry)) (lent (now (clauses .entry)) (now (atoms .entry)) (now (deferrals .entry)) (now (scratch .entry))) (now (clauses .exit)) (now (atoms .exit)) r ⌝ }
+    ensures reply { λ r.
+        let t = lent (now (clauses .entry)) (now (atoms .entry)) (now (deferrals .entry)) (now (scratch .entry)) in
+        let o = Run (now (deck .entry)) t in
+        ⌜ r ≡ countOf o ⌝ }
+    ensures clauses { λ _.
+        let t = lent (now (clauses .entry)) (now (atoms .entry)) (now (deferrals .entry)) (now (scratch .entry)) in
+        let o = Run (now (deck .entry)) t in
+        ⌜ now (clauses .exit) ≡ clauseTable t o ⌝ }
+    ensures atoms { λ _.
+        let t = lent (now (clauses .entry)) (now (atoms .entry)) (now (deferrals .entry)) (now (scratch .entry)) in
+        let o = Run (now (deck .entry)) t in
+        ⌜ now (atoms .exit) ≡ atomTable t o ⌝ }
+    ensures deferrals { λ _.
+        let t = lent (now (clauses .entry)) (now (atoms .entry)) (now (deferrals .entry)) (now (scratch .entry)) in
+        let o = Run (now (deck .entry)) t in
+        ⌜ now (deferrals .exit) ≡ deferralTable t o ⌝ }
+    ensures scratch { λ _.
+        let t = lent (now (clauses .entry)) (now (atoms .entry)) (now (deferrals .entry)) (now (scratch .entry)) in
+        ⌜ now (scratch .exit) ≡ scratchTable t ⌝ }
+    ensures meaning { λ r.
+        let t = lent (now (clauses .entry)) (now (atoms .entry)) (now (deferrals .entry)) (now (scratch .entry)) in
+        ⌜ MeantCount (now (deck .entry)) t (now (clauses .exit)) (now (atoms .exit)) r ⌝ }
 {
     let reply = clausify_with_stats(deck, clauses, atoms, deferrals, scratch);
     counted(reply)

@@ -1,17 +1,15 @@
--- A clause in hand, and atoms of a table.
+-- A clause in hand, and atoms of a table or of a part of one.
 use mathlib.Core.Path.{_≡_}
-use mathlib.Core.List.{List, _∷_, _++_}
+use mathlib.Core.List.{List, _++_}
 use Prim.Native.Nat.{ℕ, _+_, _*_, _<_, _≤_}
 use lib.ListN.{length, getD}
 use Rattle.ir.specs.Records.{six, Fits}
 use Rattle.ir.specs.declared.atom.Atom.{Atom}
 use Rattle.rules.specs.Deck.{mostRoles}
 use Rattle.rules.specs.Invariants.{Each}
-use Rattle.rules.specs.Run.{flat}
 use Rattle.rules.specs.State.{Clause, clause}
 use Rattle.hands.specs.Hands.{InHand}
-use Rattle.tables.specs.Tabled.{Tabled}
-use Rattle.tables.specs.TabledLaws.{At}
+use Rattle.tables.specs.Tabled.{At, Run}
 
 -- the first atom in hand, and the bytes of scratch up to the last one that a clause needs
 abbrev pub handAt : ℕ
@@ -37,21 +35,14 @@ pub record AtomThere (w : List ℕ) (i : ℕ) : Type 0 where
   pub there : At w (6 * i) (six atom)
   pub plain : Plain atom
 
+-- these bytes are atoms that can be written, and no more
+pub record PlainRun (s : List ℕ) : Type 0 where
+  pub list : List Atom
+  pub run : Run s list
+  pub plain : Each Plain list
+
 pub record HandThere (w : List ℕ) (nb nh : ℕ) : Type 0 where
   pub clause : Clause
   pub there : ClauseInHand w nb nh clause
   pub short : (nb ≤ 256) × (nh ≤ 256)
   pub plain : Each Plain (clause .body ++ clause .head)
-
--- nb + nh atoms from atom `first` of a table on
-pub record RunThere (w : List ℕ) (first nb nh : ℕ) : Type 0 where
-  pub clause : Clause
-  pub body : nb ≡ length (clause .body)
-  pub head : nh ≡ length (clause .head)
-  pub there : At w (6 * first) (flat (clause .body ++ clause .head))
-  pub short : (nb ≤ 256) × (nh ≤ 256)
-  pub plain : Each Plain (clause .body ++ clause .head)
-
-pub record TableThere (c a : List ℕ) (n : ℕ) : Type 0 where
-  pub list : List Clause
-  pub tabled : Tabled c a n list

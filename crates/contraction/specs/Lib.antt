@@ -1,7 +1,6 @@
 pub mod InHands
-pub mod HandLaws
 pub mod SameLaws
-pub mod Placed
+pub mod PlainLaws
 pub mod PlacedLaws
 pub mod FlagWords
 pub mod Contracting

@@ -10,17 +10,18 @@ use Rattle.ir.specs.declared.atom.Atom.{Atom}
 use Rattle.rules.specs.Base.{any}
 use Rattle.rules.specs.Run.{flat}
 use Rattle.rules.specs.State.{Clause}
-use Rattle.rules.specs.EachLaws.{each-right}
+use Rattle.rules.specs.EachLaws.{each-right, each-nth}
 use Rattle.rules.specs.Reflexive.{containsAtom, isSelfLoop, isTrivial}
 use Rattle.tables.specs.TabledLaws.{At}
+use Rattle.tables.specs.AtomLaws.{noAtom, flat-front, flat-back, flat-nth}
+use Rattle.hands.specs.HandLaws.{hand-at}
 use Rattle.contraction.specs.InHands.{handAt, ClauseInHand, Plain, AtomThere, HandThere}
-use Rattle.contraction.specs.HandLaws.{noAtom, flat-front, flat-back, flat-nth, each-nth, hand-at}
 use Rattle.contraction.specs.SameLaws.{any-found, any-on, any-either}
 
 -- ---- the two runs in hand
 module _ (w : List ℕ) (nb nh : ℕ) (x : Clause) (X : ClauseInHand w nb nh x) (fit : 6 * handAt ≤ length w) where
   atoms-at : At w (6 * handAt) (flat (x .body ++ x .head))
-  atoms-at = hand-at w handAt (nb + nh) (x .body ++ x .head) (X .hand) fit
+  atoms-at = hand-at handAt (nb + nh) w (x .body ++ x .head) (X .hand) fit
 
   pub body-at : At w (6 * handAt) (flat (x .body))
   body-at = flat-front w handAt (x .body) (x .head) atoms-at
@@ -32,7 +33,7 @@ pub head-there : (w : List ℕ) (nb nh j : ℕ) → HandThere w nb nh → 6 * ha
 head-there w nb nh j H fit h = record {
   atom = getD (H .clause .head) j noAtom;
   there = head-at w nb nh (H .clause) (H .there) fit j h;
-  plain = each-nth Plain (H .clause .head) j (each-right Plain (H .clause .body) (H .clause .head) (H .plain)) (omega (arith, h, H .there .head));
+  plain = each-nth Plain (H .clause .head) j noAtom (each-right Plain (H .clause .body) (H .clause .head) (H .plain)) (omega (arith, h, H .there .head));
 }
 
 -- ---- a head atom that is in the body, or a self-loop

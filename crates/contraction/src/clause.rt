@@ -1,11 +1,11 @@
 // Clauses as they stand in the lent tables, and a clause in hand.
 use reflexive::ids::FLAGS;
+use tables::read;
 ghost use mathlib.Core.Path.{_≡_};
-ghost use mathlib.Core.List.{List};
+ghost use mathlib.Core.List.{List, _∷_, _++_};
 ghost use Prim.Native.Nat.{ℕ, _+_, _*_, _/_, _<_, _≤_};
 ghost use lib.ListN.{length, drop};
 ghost use Rattle.words.specs.Words.{words};
-ghost use Rattle.ir.specs.Records.{six};
 ghost use Rattle.ir.specs.Scratch.{alternativesAt};
 ghost use Rattle.ir.specs.declared.atom.Atom.{Atom};
 ghost use Rattle.rules.specs.Base.{contains};
@@ -13,10 +13,8 @@ ghost use Rattle.rules.specs.Deck.{mostRoles};
 ghost use Rattle.rules.specs.State.{Clause};
 ghost use Rattle.rules.specs.Reflexive.{isReflexive, sameClause, containsClause};
 ghost use Rattle.reflexive.specs.Flags.{FlagsHeld};
-ghost use Rattle.tables.specs.Tabled.{Tabled};
-ghost use Rattle.tables.specs.TabledLaws.{At};
-ghost use Rattle.contraction.specs.InHands.{inHandBytes, ClauseInHand, AtomThere, HandThere, TableThere};
-ghost use Rattle.contraction.specs.Placed.{ClauseAt, ClauseThere};
+ghost use Rattle.tables.specs.Tabled.{Run, Tabled, TableThere, ClauseAt, ClauseThere};
+ghost use Rattle.contraction.specs.InHands.{inHandBytes, ClauseInHand, PlainRun, HandThere};
 ghost use Rattle.contraction.specs.SameLaws.{sameRuns};
 
 // The first atom in hand: word HANDS.
@@ -30,15 +28,16 @@ pub fn is_flagged(scratch: &[u8], code: u32) -> bool
     words::get_word(scratch, FLAGS + (code / 2) as usize) != 0
 }
 
-// Atom i of the table is a role atom over a reflexive role.
-pub fn is_reflexive(scratch: &[u8], atoms: &[u8], i: usize) -> bool
-    requires { ⌜ AtomThere (words (now atoms)) i × (4 * alternativesAt ≤ length (now scratch)) ⌝ }
-    ensures { λ r. ⌜ ((set : List ℕ) (x : Atom) → FlagsHeld (words (now (scratch .entry))) set → At (words (now (atoms .entry))) (6 * i) (six x) → r ≡ isReflexive set x) ⌝ }
+// Body atom i is a role atom over a reflexive role.
+pub fn is_reflexive(scratch: &[u8], body: &[u8], i: u32) -> bool
+    requires { ⌜ PlainRun (now body) × (24 * i < length (now body)) × (4 * alternativesAt ≤ length (now scratch)) ⌝ }
+    ensures { λ r. ⌜ ((set : List ℕ) (before after : List Atom) (x : Atom) → FlagsHeld (words (now (scratch .entry))) set → Run (now (body .entry)) (before ++ (x ∷ after)) → i ≡ length before → r ≡ isReflexive set x) ⌝ }
 {
-    if words::get_word(atoms, 6 * i) != 2 {
+    let at = 6 * (i as usize);
+    if words::get_word(body, at) != 2 {
         return false;
     }
-    is_flagged(scratch, words::get_word(atoms, 6 * i + 1))
+    is_flagged(scratch, words::get_word(body, at + 1))
 }
 
 // n words of s from word i on are those of t from word j on.
@@ -61,21 +60,14 @@ fn is_clause(scratch: &[u8], clauses: &[u8], atoms: &[u8], nb: u32, nh: u32, c: 
     requires { ⌜ HandThere (words (now scratch)) nb nh × ClauseThere (words (now clauses)) (words (now atoms)) c × (inHandBytes ≤ length (now scratch)) ⌝ }
     ensures { λ r. ⌜ ((x y : Clause) → ClauseInHand (words (now (scratch .entry))) nb nh x → ClauseAt (words (now (clauses .entry))) (words (now (atoms .entry))) c y → r ≡ sameClause x y) ⌝ }
 {
-    let at = 3 * (c as usize);
-    if words::get_word(clauses, at + 1) != nb {
+    if read::body_count(clauses, c) != nb {
         return false;
     }
-    if words::get_word(clauses, at + 2) != nh {
+    if read::head_count(clauses, c) != nh {
         return false;
     }
-    let first = words::get_word(clauses, at) as usize;
-    same_run(
-        scratch,
-        6 * HAND,
-        atoms,
-        6 * first,
-        6 * (nb as usize + nh as usize),
-    )
+    let run = read::atoms_of(clauses, atoms, c);
+    same_run(scratch, 6 * HAND, run, 0, 6 * (nb as usize + nh as usize))
 }
 
 // It equals one of the clauses from `from` up to `to`; the last are looked at first, where a repeat is likely.

@@ -6,7 +6,7 @@ use ir::record;
 use ir::record::Read;
 ghost use mathlib.Core.Path.{_≡_};
 ghost use mathlib.Core.List.{List, _∷_, _++_};
-ghost use Prim.Native.Nat.{ℕ, _+_, _*_, _-_, _<_, _≤_};
+ghost use Prim.Native.Nat.{ℕ, _+_, _*_, _<_, _≤_};
 ghost use lib.ListN.{length, take};
 ghost use lib.Seq.{sets};
 ghost use Rattle.words.specs.Words.{words};
@@ -20,39 +20,31 @@ ghost use Rattle.rules.specs.Run.{flat};
 ghost use Rattle.rules.specs.State.{Clause};
 ghost use Rattle.rules.specs.Reflexive.{containsAtom, isSelfLoop, keptVar, droppedVar, contracted, isTrivial};
 ghost use Rattle.reflexive.specs.Flags.{FlagsHeld};
-ghost use Rattle.tables.specs.TabledLaws.{At};
-ghost use Rattle.contraction.specs.InHands.{handAt, inHandBytes, ClauseInHand, AtomThere, HandThere, RunThere};
-ghost use Rattle.contraction.specs.Placed.{AtomsThere};
+ghost use Rattle.tables.specs.Tabled.{At, Run};
+ghost use Rattle.contraction.specs.InHands.{handAt, inHandBytes, ClauseInHand, AtomThere, PlainRun, HandThere};
 ghost use Rattle.contraction.specs.Contracting.{Substituted};
 
-// Atom `from` of the table with `keep` for the variable `drop`, as record `to` of scratch.
-fn put_one(scratch: &mut [u8], atoms: &[u8], from: usize, to: usize, drop: u32, keep: u32)
-    requires { ⌜ AtomThere (words (now atoms)) from × (24 * to + 24 ≤ length (now scratch)) ⌝ }
-    ensures { λ _. ⌜ ((x : Atom) → At (words (now (atoms .entry))) (6 * from) (six x) → words (now (scratch .exit)) ≡ sets (words (now (scratch .entry))) (6 * to) (six (substituteAtom x (replaced drop keep)))) ⌝ }
+// Atom i of the run with `keep` for the variable `drop`, as record `to` of scratch.
+fn put_one(scratch: &mut [u8], run: &[u8], i: usize, to: usize, drop: u32, keep: u32)
+    requires { ⌜ AtomThere (words (now run)) i × (24 * to + 24 ≤ length (now scratch)) ⌝ }
+    ensures { λ _. ⌜ ((x : Atom) → At (words (now (run .entry))) (6 * i) (six x) → words (now (scratch .exit)) ≡ sets (words (now (scratch .entry))) (6 * to) (six (substituteAtom x (replaced drop keep)))) ⌝ }
 {
-    let Read::Atom(a) = record::get_atom(atoms, from) else {
+    let Read::Atom(a) = record::get_atom(run, i) else {
         return;
     };
     record::put_atom(scratch, to, atom::substitute_atom(a, drop, keep));
 }
 
-// `count` atoms of the table from atom `from` on, so changed, from record `to` of scratch on.
-fn put_substituted(
-    scratch: &mut [u8],
-    atoms: &[u8],
-    from: usize,
-    count: u32,
-    to: usize,
-    drop: u32,
-    keep: u32,
-)
-    requires { ⌜ AtomsThere (words (now atoms)) from count × (24 * (to + count) ≤ length (now scratch)) ⌝ }
-    ensures { λ _. ⌜ Substituted (words (now (atoms .entry))) from count to drop keep (words (now (scratch .exit))) ⌝ }
+// The atoms of the run, so changed, from record `to` of scratch on.
+fn put_substituted(scratch: &mut [u8], run: &[u8], to: usize, drop: u32, keep: u32)
+    requires { ⌜ PlainRun (now run) × (24 * to + length (now run) ≤ length (now scratch)) ⌝ }
+    ensures { λ _. ⌜ Substituted (now (run .entry)) to drop keep (words (now (scratch .exit))) ⌝ }
     ensures { λ _. ⌜ take (6 * to) (words (now (scratch .exit))) ≡ take (6 * to) (words (now (scratch .entry))) ⌝ }
 {
+    let count = run.len() / 24;
     let mut i: usize = 0;
-    while i < count as usize {
-        put_one(scratch, atoms, from + i, to + i, drop, keep);
+    while i < count {
+        put_one(scratch, run, i, to + i, drop, keep);
         i += 1;
     }
 }
@@ -70,36 +62,23 @@ fn dropped_var(src: u32, tgt: u32) -> u32
     if tgt == 0 { src } else { tgt }
 }
 
-// The clause of nb and nh atoms from atom `first` on, without body atom i: X is kept, or else the role's source.
-pub fn put_contracted(scratch: &mut [u8], atoms: &[u8], first: usize, nb: u32, nh: u32, i: u32)
-    requires { ⌜ RunThere (words (now atoms)) first nb nh × (i < nb) × (inHandBytes ≤ length (now scratch)) ⌝ }
-    ensures { λ _. ⌜ ((before after head : List Atom) (r : Role) (src tgt : ℕ) → At (words (now (atoms .entry))) (6 * first) (flat ((before ++ (Atoms.Role r src tgt ∷ after)) ++ head)) → i ≡ length before → nb ≡ i + 1 + length after → nh ≡ length head → ClauseInHand (words (now (scratch .exit))) (nb - 1) nh (contracted before after head src tgt)) ⌝ }
+// The clause of this body and this head, without body atom i: X is kept, or else the role's source.
+pub fn put_contracted(scratch: &mut [u8], body: &[u8], head: &[u8], i: u32)
+    requires { ⌜ PlainRun (now body) × PlainRun (now head) × (24 * i < length (now body)) × (length (now body) ≤ 24 * 256) × (length (now head) ≤ 24 * 256) × (inHandBytes ≤ length (now scratch)) ⌝ }
+    ensures { λ _. ⌜ ((before after heads : List Atom) (r : Role) (src tgt : ℕ) → Run (now (body .entry)) (before ++ (Atoms.Role r src tgt ∷ after)) → Run (now (head .entry)) heads → i ≡ length before → ClauseInHand (words (now (scratch .exit))) (length before + length after) (length heads) (contracted before after heads src tgt)) ⌝ }
     ensures { λ _. ⌜ take handsAt (words (now (scratch .exit))) ≡ take handsAt (words (now (scratch .entry))) ⌝ }
 {
-    let src = words::get_word(atoms, 6 * (first + i as usize) + 4);
-    let tgt = words::get_word(atoms, 6 * (first + i as usize) + 5);
+    let at = i as usize;
+    let last = body.len() / 24 - 1;
+    let src = words::get_word(body, 6 * at + 4);
+    let tgt = words::get_word(body, 6 * at + 5);
     let keep = kept_var(src, tgt);
     let drop = dropped_var(src, tgt);
-    put_substituted(scratch, atoms, first, i, HAND, drop, keep);
-    let after = first + i as usize + 1;
-    put_substituted(
-        scratch,
-        atoms,
-        after,
-        nb - i - 1,
-        HAND + i as usize,
-        drop,
-        keep,
-    );
-    put_substituted(
-        scratch,
-        atoms,
-        first + nb as usize,
-        nh,
-        HAND + nb as usize - 1,
-        drop,
-        keep,
-    );
+    let from = 24 * at;
+    let to = from + 24;
+    put_substituted(scratch, &body[..from], HAND, drop, keep);
+    put_substituted(scratch, &body[to..], HAND + at, drop, keep);
+    put_substituted(scratch, head, HAND + last, drop, keep);
 }
 
 // Record i is one of the nb in hand.

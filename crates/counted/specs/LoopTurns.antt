@@ -7,7 +7,7 @@ use Prim.Native.Nat.{ℕ, suc, _+_, _*_, _<_, _≤_, _^_}
 use native.Mathlib.Omega.{arith}
 use lib.Dec.{ltb}
 use lib.ListN.{length, getD, drop, drop-of-length-le}
-use lib.Seq.{drop-cons, getD-take}
+use lib.Seq.{drop-cons}
 use Rattle.ir.specs.Roles.{roleId}
 use Rattle.ir.specs.declared.role.Role.{Role}
 use Rattle.ir.specs.declared.counters.Counters.{Counters}
@@ -25,9 +25,10 @@ use Rattle.tables.specs.Drawn.{shown}
 use Rattle.tables.specs.DrawnLaws.{clauses-count}
 use Rattle.tables.specs.Good.{Good}
 use Rattle.hands.specs.Hands.{Four, four}
-use Rattle.tables.specs.Tabled.{Tabled}
+use Rattle.tables.specs.Tabled.{headCount, noClause, Tabled}
 use Rattle.contraction.specs.Passes.{Passed, Standing, StandingBelow, Drawn}
-use Rattle.counted.specs.StandingLaws.{nothing, nth, heads-of}
+use Rattle.tables.specs.ClauseLaws.{clause-at, count-kept}
+use Rattle.counted.specs.StandingLaws.{nth}
 use Rattle.counted.specs.SelfLoops.{pushNew, pushOver, pushOf, pushHead, pushAll, loopAt, loopsAt, Looping, LoopedAfter}
 use Rattle.counted.specs.LoopLaws.{pushed-loops}
 use Rattle.counted.specs.LoopingLaws.{looping-within, looping-start, looping-end}
@@ -89,7 +90,7 @@ module _ (env : Env) (set : List ℕ) (from : ℕ) where
   unfolding pushAll
   clause-step j s t h a =
       let p : j + 1 ≡ suc j = omega arith in
-      let q : drop j (s .clauses) ≡ nth (s .clauses) j ∷ drop (suc j) (s .clauses) = drop-cons (s .clauses) j nothing h in
+      let q : drop j (s .clauses) ≡ nth (s .clauses) j ∷ drop (suc j) (s .clauses) = drop-cons (s .clauses) j noClause h in
       rw (p, q, longer-nth s t j a h) refl
 
   pub clause-end : (j : ℕ) (s t : Out) → length (s .clauses) ≤ j → clausesLeft from j s env set t ≡ ok tt t
@@ -100,23 +101,20 @@ module _ (env : Env) (set : List ℕ) (from : ℕ) where
 abbrev pub HeadsAt : (from i : ℕ) (k : Counters) (w₀ c₀ a₀ w c a : List ℕ) → Counters → ℕ → Type 0
 HeadsAt from i k w₀ c₀ a₀ w c a l j = TurnAt (loopsAt from i) (headsLeft from i) from k w₀ c₀ a₀ w c a l j
 
-module _ (from i nh : ℕ) (k : Counters) (w₀ c₀ a₀ : List ℕ) (L : Looping k c₀ a₀ from) (li : i < from) (en : nh ≡ getD c₀ (3 * i + 2) 0) where
+module _ (from i nh : ℕ) (k : Counters) (w₀ c₀ a₀ : List ℕ) (L : Looping k c₀ a₀ from) (li : i < from) (en : nh ≡ headCount c₀ i) where
   pub heads-start : Good k → HeadsAt from i k w₀ c₀ a₀ w₀ c₀ a₀ k 0
   heads-start g = turn-start (loopsAt from i) (headsLeft from i) from k w₀ c₀ a₀ L g (λ env set s. refl)
 
   heads : (s : Out) → Tabled c₀ a₀ (k .clauses) (s .clauses) → nh ≡ length (nth (s .clauses) i .head)
-  heads s T = en ∙ heads-of c₀ a₀ (k .clauses) (s .clauses) T i (omega (arith, looping-within k c₀ a₀ from L))
+  heads s T = en ∙ clause-at c₀ a₀ (k .clauses) (s .clauses) T i (omega (arith, looping-within k c₀ a₀ from L)) .head
 
   pub heads-end : (w c a : List ℕ) (l : Counters) (j : ℕ) → HeadsAt from i k w₀ c₀ a₀ w c a l j → nh ≤ j → (d : List ℕ) → Passed (loopsAt from i) k (four w₀ c₀ a₀ d) (four w c a d) (Done l 0)
   heads-end w c a l j A h = turn-end (loopsAt from i) (headsLeft from i) from k w₀ c₀ a₀ w c a l j A (λ env set s t T. head-end env set from i j s t (omega (arith, heads s T)))
 
   module _ (w c a : List ℕ) (l : Counters) (j : ℕ) (A : HeadsAt from i k w₀ c₀ a₀ w c a l j) (lt : j < nh) where
     -- clause i has its head atoms still
-    pub heads-there : j < getD c (3 * i + 2) 0
-    heads-there =
-        let e : getD c (3 * i + 2) 0 ≡ getD c₀ (3 * i + 2) 0
-        = sym (getD-take (3 * from) c (3 * i + 2) 0 (omega arith)) ∙ ap (λ (t : List ℕ). getD t (3 * i + 2) 0) (A .looped .rows) ∙ getD-take (3 * from) c₀ (3 * i + 2) 0 (omega arith) in
-        omega arith
+    pub heads-there : j < headCount c i
+    heads-there = omega (arith, count-kept c₀ c from i (A .looped .rows) li)
 
     module _ (lc : length c ≡ length c₀) (la : length a ≡ length a₀) (w' c' a' : List ℕ) (r : Answer) (P : (d : List ℕ) → Passed (loopAt from i j) l (four w c a d) (four w' c' a' d) r) where
       one-grows : (env : Env) (set : List ℕ) (t : Out) → Ends (λ _ u. Longer t u) (loopAt from i j env set t)

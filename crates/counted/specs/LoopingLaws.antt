@@ -11,7 +11,7 @@ use Rattle.ir.specs.declared.answer.Answer.{Answer}
 use Rattle.ir.specs.declared.answer.Answer.the-variants.{Done, Refused}
 use Rattle.rules.specs.Base.{Res}
 use Rattle.rules.specs.State.{Clause, Env, Out, total}
-use Rattle.rules.specs.Run.{clauseRecords}
+use Rattle.rules.specs.Run.{clauseWords, clauseRecords}
 use Rattle.rules.specs.DecodeLaws.{clause-records-long}
 use Rattle.rules.specs.Added.{Added}
 use Rattle.rules.specs.BoundLaws.{clauses-grow}
@@ -23,7 +23,8 @@ use Rattle.tables.specs.DrawnLaws.{atoms-count}
 use Rattle.leaves.specs.StepLaws.{lent-kept}
 use Rattle.tables.specs.Tabled.{Tabled}
 use Rattle.contraction.specs.Passes.{StandingBelow, Standing, Drawn}
-use Rattle.counted.specs.StandingLaws.{clauses-append, show-tabled, show-same, tabled-same}
+use Rattle.tables.specs.ClauseLaws.{clauses-append, show-tabled, tabled-same}
+use Rattle.counted.specs.StandingLaws.{show-same}
 use Rattle.counted.specs.SelfLoops.{Showing, Looping, Looped, LoopedAfter}
 
 showing-tabled : (k : Counters) (c a : List ℕ) (l : List Clause) → Showing k c a l → Tabled c a (k .clauses) l
@@ -72,15 +73,15 @@ looping-end k c a from L =
     }
 
 -- the first rows, of a longer list
-rows-same : (c a c' a' : List ℕ) (n n' from : ℕ) (l m : List Clause) → Tabled c a n l → Tabled c' a' n' (l ++ m) → from ≤ length l → take (3 * from) c' ≡ take (3 * from) c
+rows-same : (c a c' a' : List ℕ) (n n' from : ℕ) (l m : List Clause) → Tabled c a n l → Tabled c' a' n' (l ++ m) → from ≤ length l → take (clauseWords * from) c' ≡ take (clauseWords * from) c
 rows-same c a c' a' n n' from l m T U h =
     let p = length-append l m in
-    let q : length (clauseRecords 0 l) ≡ 3 * length l = clause-records-long 0 l in
-    sym (take-take (3 * from) (3 * n') c' (omega (arith, U .count)))
-    ∙ ap (take (3 * from)) (U .clauses ∙ clauses-append 0 l m)
-    ∙ take-append-le (3 * from) (clauseRecords 0 l) (clauseRecords (0 + total l) m) (omega arith)
-    ∙ ap (take (3 * from)) (sym (T .clauses))
-    ∙ take-take (3 * from) (3 * n) c (omega (arith, T .count))
+    let q : length (clauseRecords 0 l) ≡ clauseWords * length l = clause-records-long 0 l in
+    sym (take-take (clauseWords * from) (clauseWords * n') c' (omega (arith, U .count)))
+    ∙ ap (take (clauseWords * from)) (U .clauses ∙ clauses-append 0 l m)
+    ∙ take-append-le (clauseWords * from) (clauseRecords 0 l) (clauseRecords (0 + total l) m) (omega arith)
+    ∙ ap (take (clauseWords * from)) (sym (T .clauses))
+    ∙ take-take (clauseWords * from) (clauseWords * n) c (omega (arith, T .count))
 
 pub looped-same : (k : Counters) (c a : List ℕ) (from : ℕ) → Looping k c a from → Looped k c c a from
 looped-same k c a from L = record { looping = L; rows = refl }

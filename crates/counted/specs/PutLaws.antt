@@ -1,12 +1,12 @@
--- A loop in hand: a run of the atom table, and two atoms behind it. Assumes nothing.
+-- A loop in hand: a part of the atom table, and two atoms behind it. Assumes nothing.
 use mathlib.Core.Path.{_≡_, refl, sym, ap, subst, _∙_}
 use mathlib.Core.Bool.{Bool, true, false}
 use mathlib.Core.List.{List, [], _∷_, _++_}
-use Prim.Native.Nat.{ℕ, _+_, _*_, _-_, _/_, _%_, _<_, _≤_, _^_}
+use Prim.Native.Nat.{ℕ, _+_, _*_, _/_, _%_, _<_, _≤_, _^_}
 use native.Mathlib.Omega.{arith}
 use lib.Dec.{eqb}
 use lib.ListN.{length, take, drop, length-append}
-use lib.Seq.{sets, sets-eq, length-sets, length-take-le, take-add, take-take, take-at}
+use lib.Seq.{sets, sets-eq, length-sets, length-take-le, take-take, take-at}
 use Rattle.words.specs.Words.{words}
 use Rattle.words.specs.Laws.{length-words}
 use Rattle.ir.specs.Pick.{pick}
@@ -19,15 +19,9 @@ use Rattle.ir.specs.declared.atom.Atom.the-variants.{Role as RoleAtom}
 use Rattle.rules.specs.Run.{flat}
 use Rattle.rules.specs.DecodeLaws.{flat-long}
 use Rattle.hands.specs.Hands.{InHand}
-use Rattle.hands.specs.HandLaws.{put-frame, hand-more, part-length, part-words}
+use Rattle.hands.specs.HandLaws.{put-frame, hand-more}
 use Rattle.contraction.specs.InHands.{handAt}
-use Rattle.tables.specs.TabledLaws.{At}
-
--- a run of a table, as atoms
-pub at-hand : (w : List ℕ) (first n : ℕ) (b : List Atom) → n ≡ length b → At w (6 * first) (flat b) → InHand w first n b
-at-hand w first n b e h =
-    let p : 6 * (first + n) ≡ 6 * first + length (flat b) = omega (arith, flat-long b) in
-    record { long = e; are = rw p (take-add (6 * first) (length (flat b)) w ∙ ap (λ (t : List ℕ). take (6 * first) w ++ t) h) }
+use Rattle.tables.specs.Tabled.{Run, RunThere}
 
 pub hand-put : (w w' : List ℕ) (base n : ℕ) (b : List Atom) → n ≡ length b → w' ≡ sets w (6 * base) (flat b) → 6 * (base + n) ≤ length w → InHand w' base n b
 hand-put w w' base n b en e fit =
@@ -50,30 +44,31 @@ role-half c = by (eqb (c % 2) 0)
 pub role-fits : (c : ℕ) (r : Role) → r ≡ roleOf c → c < 2 ^ 32 → roleId r < 2 ^ 31
 role-fits c r e h = let k : roleId r ≡ c / 2 = ap roleId e ∙ role-half c in omega arith
 
-module _ (s w w1 w2 w3 : List ℕ) (first nb to code v fresh : ℕ) (r : Role) (er : r ≡ roleOf code) (et : to ≡ 24 * (first + nb)) (lt : to ≤ length s) (fit : 6 * (handAt + nb + 2) ≤ length w)
-    (e1 : w1 ≡ sets w (6 * handAt) (words (take (to - 24 * first) (drop (24 * first) s)))) (e2 : w2 ≡ sets w1 (6 * (handAt + nb)) (six (RoleAtom r v fresh))) (e3 : w3 ≡ sets w2 (6 * (handAt + nb + 1)) (six (RoleAtom r v v))) where
+-- ---- the part s, R(v, fresh) and R(v, v)
+module _ (s w w1 w2 w3 : List ℕ) (nb code v fresh : ℕ) (r : Role) (er : r ≡ roleOf code) (en : nb ≡ length s / 24) (fit : 6 * (handAt + nb + 2) ≤ length w)
+    (e1 : w1 ≡ sets w (6 * handAt) (words s)) (e2 : w2 ≡ sets w1 (6 * (handAt + nb)) (six (RoleAtom r v fresh))) (e3 : w3 ≡ sets w2 (6 * (handAt + nb + 1)) (six (RoleAtom r v v))) where
   l1 : length w1 ≡ length w
-  l1 = ap length e1 ∙ length-sets w (6 * handAt) (words (take (to - 24 * first) (drop (24 * first) s)))
+  l1 = ap length e1 ∙ length-sets w (6 * handAt) (words s)
 
   l2 : length w2 ≡ length w
   l2 = ap length e2 ∙ length-sets w1 (6 * (handAt + nb)) (six (RoleAtom r v fresh)) ∙ l1
 
-  pub loop-hand : (b : List Atom) → nb ≡ length b → At (words s) (6 * first) (flat b) → InHand w3 handAt (nb + 1 + 1) ((b ++ (RoleAtom (roleOf code) v fresh ∷ [])) ++ (RoleAtom (roleOf code) v v ∷ []))
-  loop-hand b en h =
+  pub loop-hand : (b : List Atom) → Run s b → InHand w3 handAt (length b + 1 + 1) ((b ++ (RoleAtom (roleOf code) v fresh ∷ [])) ++ (RoleAtom (roleOf code) v v ∷ []))
+  loop-hand b R =
       let x : Atom = RoleAtom r v fresh in
       let y : Atom = RoleAtom r v v in
-      let p : words (take (to - 24 * first) (drop (24 * first) s)) ≡ flat b = part-words first nb s b to et lt (at-hand (words s) first nb b en h) in
-      let a : w1 ≡ sets w (6 * handAt) (flat b) = e1 ∙ ap (sets w (6 * handAt)) p in
-      let i1 : InHand w1 handAt nb b = hand-put w w1 handAt nb b en a (omega arith) in
+      let n : length b ≡ nb = omega (arith, R .long) in
+      let a : w1 ≡ sets w (6 * handAt) (flat b) = e1 ∙ ap (sets w (6 * handAt)) (R .are) in
+      let i1 : InHand w1 handAt nb b = hand-put w w1 handAt nb b (sym n) a (omega arith) in
       let i2 : InHand w2 handAt (nb + 1) (b ++ (x ∷ [])) = hand-more handAt nb w1 w2 b x e2 (omega (arith, l1)) i1 in
       let q : handAt + (nb + 1) ≡ handAt + nb + 1 = omega arith in
-      subst (λ (z : Role). InHand w3 handAt (nb + 1 + 1) ((b ++ (RoleAtom z v fresh ∷ [])) ++ (RoleAtom z v v ∷ []))) er
-      (hand-more handAt (nb + 1) w2 w3 (b ++ (x ∷ [])) y (rw q e3) (omega (arith, l2)) i2)
+      rw n (subst (λ (z : Role). InHand w3 handAt (nb + 1 + 1) ((b ++ (RoleAtom z v fresh ∷ [])) ++ (RoleAtom z v v ∷ []))) er
+      (hand-more handAt (nb + 1) w2 w3 (b ++ (x ∷ [])) y (rw q e3) (omega (arith, l2)) i2))
 
-  pub loop-frame : take (6 * handAt) w3 ≡ take (6 * handAt) w
-  loop-frame =
-      let k : length (words (take (to - 24 * first) (drop (24 * first) s))) ≡ 6 * nb = length-words (take (to - 24 * first) (drop (24 * first) s)) ∙ omega (arith, part-length first nb s to et lt) in
-      let f1 : take (6 * handAt) w1 ≡ take (6 * handAt) w = put-frame handAt nb w w1 (words (take (to - 24 * first) (drop (24 * first) s))) (6 * handAt) e1 (omega arith) in
+  pub loop-frame : RunThere s → take (6 * handAt) w3 ≡ take (6 * handAt) w
+  loop-frame T =
+      let k : length (words s) ≡ 6 * nb = length-words s ∙ omega (arith, T .run .long) in
+      let f1 : take (6 * handAt) w1 ≡ take (6 * handAt) w = put-frame handAt nb w w1 (words s) (6 * handAt) e1 (omega arith) in
       let f2 : take (6 * (handAt + nb)) w2 ≡ take (6 * (handAt + nb)) w1 = put-frame handAt nb w1 w2 (six (RoleAtom r v fresh)) (6 * (handAt + nb)) e2 (omega (arith, l1)) in
       let f3 : take (6 * (handAt + nb + 1)) w3 ≡ take (6 * (handAt + nb + 1)) w2 = put-frame handAt nb w2 w3 (six (RoleAtom r v v)) (6 * (handAt + nb + 1)) e3 (omega (arith, l2)) in
       below (6 * handAt) (6 * (handAt + nb + 1)) w2 w3 (omega arith) f3 ∙ below (6 * handAt) (6 * (handAt + nb)) w1 w2 (omega arith) f2 ∙ f1

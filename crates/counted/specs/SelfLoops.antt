@@ -16,6 +16,7 @@ use Rattle.rules.specs.Base.{Res, ok, _>>=_, _>>_, return, contains}
 use Rattle.rules.specs.Deck.{mostRoles}
 use Rattle.rules.specs.Invariants.{Each, Bounds, ClauseIn}
 use Rattle.rules.specs.State.{Clause, clause, Env, Out, E, with, push}
+use Rattle.rules.specs.Run.{clauseWords}
 use Rattle.rules.specs.Reflexive.{containsClause, nextVarOf}
 use Rattle.contraction.specs.Passes.{Drawn}
 use Rattle.counted.specs.StandingLaws.{nth}
@@ -79,7 +80,7 @@ pub record Looping (k : Counters) (c a : List ℕ) (from : ℕ) : Type 0 where
 -- after a step: the rows of the first clauses are as they were
 pub record Looped (k : Counters) (c c' a' : List ℕ) (from : ℕ) : Type 0 where
   pub looping : Looping k c' a' from
-  pub rows : take (3 * from) c' ≡ take (3 * from) c
+  pub rows : take (clauseWords * from) c' ≡ take (clauseWords * from) c
 
 abbrev pub LoopedAfter : ℕ → (c c' a' : List ℕ) → Answer → Type 0
 LoopedAfter from c c' a' (Done k i) = Looped k c c' a' from

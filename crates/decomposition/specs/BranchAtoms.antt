@@ -11,7 +11,9 @@ use Rattle.ir.specs.declared.atom.Atom.{Atom}
 use Rattle.ir.specs.declared.atom.Atom.the-variants.{Class, Exists, AtMost, AtLeast, Equal, Role as RoleAtom}
 use Rattle.rules.specs.Run.{flat}
 use Rattle.rules.specs.Invariants.{Each}
+use Rattle.rules.specs.EachLaws.{each-nth}
 use Rattle.tables.specs.TabledLaws.{At}
+use Rattle.tables.specs.AtomLaws.{noAtom}
 use Rattle.branches.specs.Memo.{packed, Packable}
 use Rattle.branches.specs.PackLaws.{code-small}
 
@@ -21,10 +23,6 @@ pub record AtomsLeft (w : List ℕ) (p n at name : ℕ) (a₀ a : List ℕ) (j :
   pub left : (l : List Atom) → Each Packable l → n ≡ length l → At w p (map packed l)
       → sets a₀ (6 * at) (flat (l ++ (Class name 0 ∷ []))) ≡ sets a (6 * (at + j)) (flat (drop j l ++ (Class name 0 ∷ [])))
 
--- an atom where there is none
-abbrev noAtom : Atom
-noAtom = Equal 0 0
-
 pub packable-fits : (x : Atom) → Packable x → Fits x
 packable-fits (Class k v) p = omega (arith, p .0)
 packable-fits (RoleAtom r u v) p = code-small r (p .0)
@@ -32,11 +30,6 @@ packable-fits (Exists _ _ _) p = absurd p
 packable-fits (AtMost _ _ _ _) p = absurd p
 packable-fits (AtLeast _ _ _ _) p = absurd p
 packable-fits (Equal _ _) p = absurd p
-
-each-nth : (P : Atom → Type 0) (l : List Atom) (j : ℕ) → Each P l → j < length l → P (getD l j noAtom)
-each-nth P [] j p h = absurd (omega arith)
-each-nth P (x ∷ l) zero p h = p .0
-each-nth P (x ∷ l) (suc j) p h = each-nth P l j (p .1) (omega arith)
 
 packed-nth : (l : List Atom) (j : ℕ) → getD (map packed l) j 0 ≡ packed (getD l j noAtom)
 packed-nth [] j = refl
@@ -66,12 +59,12 @@ module _ (w : List ℕ) (p n at name : ℕ) (a₀ a : List ℕ) (j : ℕ) (A : A
         let m : j < length (map packed l) = omega (arith, length-map l packed) in
         let q : getD w (p + j) 0 ≡ packed (getD l j noAtom) =
         sym (getD-drop p w j 0) ∙ sym (getD-take (length (map packed l)) (drop p w) j 0 m) ∙ ap (λ (u : List ℕ). getD u j 0) h ∙ packed-nth l j in
-        is (getD l j noAtom) (each-nth Packable l j k (omega arith)) q
+        is (getD l j noAtom) (each-nth Packable l j noAtom k (omega arith)) q
 
     pub atom-fits : ((l : List Atom) × Each Packable l × (n ≡ length l) × At w p (map packed l)) → Fits x
     atom-fits t =
         let y = getD (t .0) j noAtom in
-        subst Fits (sym (nth-is (t .0) (t .1) (t .2) (t .3))) (packable-fits y (each-nth Packable (t .0) j (t .1) (omega (arith, t .2))))
+        subst Fits (sym (nth-is (t .0) (t .1) (t .2) (t .3))) (packable-fits y (each-nth Packable (t .0) j noAtom (t .1) (omega (arith, t .2))))
 
     pub atoms-next : (a' : List ℕ) → a' ≡ sets a (6 * (at + j)) (six x) → AtomsLeft w p n at name a₀ a' (j + 1)
     atoms-next a' put = record {

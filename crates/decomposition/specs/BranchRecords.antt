@@ -12,7 +12,9 @@ use Rattle.rules.specs.DecodeLaws.{flat-long}
 use Rattle.rules.specs.Invariants.{Each}
 use Rattle.rules.specs.Branches.{Branch, branchClause}
 use Rattle.rules.specs.Branches as Rules
+use Rattle.tables.specs.Tabled.{clausePut}
 use Rattle.tables.specs.TabledLaws.{At, at-long}
+use Rattle.tables.specs.ClauseLaws.{records-put}
 use Rattle.branches.specs.Layout.{mostNamed}
 use Rattle.branches.specs.Memo.{packed, Packable, namedWords, NamedHeld, NamedThere}
 use Rattle.branches.specs.Found.{Searching}
@@ -31,13 +33,11 @@ pub record BranchesLeft (w : List ℕ) (s : Naming) (c to : ℕ) (k₀ t₀ k t 
   pub atoms : (z : Rules.Naming) → NamedHeld w s z → branchAtomsAt to (z .named) t₀ ≡ branchAtomsAt a (drop i (z .named)) t
 
 -- a branch, and then the others
-row-put : (b : Branch) (m : List Branch) (k : List ℕ) (i a n : ℕ) → n ≡ length (b .body) → branchesAt i a (b ∷ m) k ≡ branchesAt (i + 1) (a + (n + 1)) m (sets k (3 * i) (a ∷ n ∷ 1 ∷ []))
-unfolding clauseRecords
+row-put : (b : Branch) (m : List Branch) (k : List ℕ) (i a n : ℕ) → n ≡ length (b .body) → branchesAt i a (b ∷ m) k ≡ branchesAt (i + 1) (a + (n + 1)) m (clausePut k i a n 1)
 row-put b m k i a n e =
     let h : List Atom = Class (b .name) 0 ∷ [] in
-    let f : 3 * (i + 1) ≡ suc (suc (suc (3 * i))) = omega arith in
     let g : a + length (b .body ++ h) ≡ a + (n + 1) = omega (arith, e, length-append (b .body) h) in
-    rw (f, g, e) refl
+    records-put k i a (branchClause b) (map branchClause m) ∙ rw (g, e) refl
 
 run-put : (b : Branch) (m : List Branch) (t : List ℕ) (a n : ℕ) → n ≡ length (b .body) → branchAtomsAt a (b ∷ m) t ≡ branchAtomsAt (a + (n + 1)) m (sets t (6 * a) (flat (b .body ++ (Class (b .name) 0 ∷ []))))
 unfolding atomRecords
@@ -84,7 +84,7 @@ module _ (w : List ℕ) (s : Naming) (c to : ℕ) (k₀ t₀ k t : List ℕ) (p 
     pub branch-there : (l : List Atom) × Each Packable l × (n ≡ length l) × At w (p + 1) (map packed l)
     branch-there = (here .branch .body, here .packable, en ∙ here .size, here .words)
 
-  pub branches-next : i < s .named → (n : ℕ) → n ≡ getD w p 0 → (k' t' : List ℕ) → k' ≡ sets k (3 * (c + i)) (a ∷ n ∷ 1 ∷ [])
+  pub branches-next : i < s .named → (n : ℕ) → n ≡ getD w p 0 → (k' t' : List ℕ) → k' ≡ clausePut k (c + i) a n 1
       → ((l : List Atom) → Each Packable l → n ≡ length l → At w (p + 1) (map packed l) → t' ≡ sets t (6 * a) (flat (l ++ (Class (s .first + i) 0 ∷ []))))
       → BranchesLeft w s c to k₀ t₀ k' t' (p + (n + 1)) (a + (n + 1)) (i + 1)
   branches-next h n en k' t' row put = record {
@@ -97,7 +97,7 @@ module _ (w : List ℕ) (s : Naming) (c to : ℕ) (k₀ t₀ k t : List ℕ) (p 
         let m = drop (i + 1) (z .named) in
         let e : c + i + 1 ≡ c + (i + 1) = omega arith in
         B .clauses z H ∙ ap (λ (l : List Branch). branchesAt (c + i) a l k) (b .split) ∙ row-put (b .branch) m k (c + i) a n (en ∙ b .size)
-        ∙ ap (λ (j : ℕ). branchesAt j (a + (n + 1)) m (sets k (3 * (c + i)) (a ∷ n ∷ 1 ∷ []))) e ∙ ap (branchesAt (c + (i + 1)) (a + (n + 1)) m) (sym row);
+        ∙ ap (λ (j : ℕ). branchesAt j (a + (n + 1)) m (clausePut k (c + i) a n 1)) e ∙ ap (branchesAt (c + (i + 1)) (a + (n + 1)) m) (sym row);
     atoms = λ z H.
         let b = branch-here z H h in
         let m = drop (i + 1) (z .named) in

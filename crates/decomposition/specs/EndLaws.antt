@@ -7,6 +7,7 @@ use lib.ListN.{length, length-append}
 use lib.Seq.{take-all}
 use Rattle.ir.specs.declared.counters.Counters.{Counters}
 use Rattle.rules.specs.State.{Clause, total}
+use Rattle.rules.specs.Run.{clauseWords}
 use Rattle.rules.specs.Branches.{Branch}
 use Rattle.branches.specs.Memo.{packed, namedWords}
 use Rattle.branches.specs.declared.memo.Naming.{Naming}
@@ -26,7 +27,7 @@ module _ (k : Counters) (w c' a' : List ℕ) (s : Naming) (to n : ℕ) (E : EndT
   pub end-used : s .used ≤ 262144
   end-used = E .passed .held .few
 
-  pub end-clauses : 3 * k .clauses ≤ length c'
+  pub end-clauses : clauseWords * k .clauses ≤ length c'
   end-clauses = omega (arith, clauses-fit k (E .c) (E .a) (E .before), E .passed .half .sameClauses, E .before .lent .clauses)
 
   pub end-atoms : 6 * k .atoms ≤ length a'

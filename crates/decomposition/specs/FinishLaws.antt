@@ -12,13 +12,13 @@ use Rattle.ir.specs.Counts.{counters}
 use Rattle.ir.specs.declared.counters.Counters.{Counters}
 use Rattle.rules.specs.Base.{Res, ok, refused}
 use Rattle.rules.specs.State.{Clause, out, total}
-use Rattle.rules.specs.Run.{clauseRecords, atomRecords}
+use Rattle.rules.specs.Run.{clauseWords, clauseRecords, atomRecords}
 use Rattle.rules.specs.DecodeLaws.{clause-records-long, atom-records-long}
 use Rattle.rules.specs.Added.{total-append}
 use Rattle.rules.specs.Branches.{Branch, Rewritten, branchClause, decomposeFrom, finished, decomposedIn, decomposeWideBodies}
 use Rattle.rules.specs.Branches as Rules
 use Rattle.tables.specs.Drawn.{padded, tables, countersOf, show, shown}
-use Rattle.tables.specs.DrawnLaws.{padded-put}
+use Rattle.tables.specs.DrawnLaws.{counters-is, deferrals-is, padded-put}
 use Rattle.branches.specs.Layout.{mostNamed}
 use Rattle.branches.specs.Memo.{packed, namedWords}
 use Rattle.naming.specs.GoesLaws.{Goes}
@@ -26,9 +26,9 @@ use Rattle.branches.specs.declared.memo.Naming.{Naming}
 use Rattle.decomposition.specs.Decomposing.{Decomposing}
 use Rattle.decomposition.specs.Placing.{branchesAt, branchAtomsAt}
 use Rattle.decomposition.specs.Turning.{noClause, noName, AllPassed}
-use Rattle.decomposition.specs.StoreLaws.{clauses-append, atoms-append}
+use Rattle.tables.specs.ClauseLaws.{clauses-append, atoms-append}
 use Rattle.decomposition.specs.PadLaws.{padded-is, padded-over, padded-cleared}
-use Rattle.decomposition.specs.StartLaws.{counters-is, deferrals-is, clauses-many, atoms-many, clauses-zeros, atoms-zeros, atoms-fit}
+use Rattle.decomposition.specs.StartLaws.{clauses-many, atoms-many, clauses-zeros, atoms-zeros, atoms-fit}
 
 -- a word of a branch for each atom of its clause
 pub branches-total : (l : List Branch) → total (map branchClause l) ≡ length (namedWords l)
@@ -96,13 +96,13 @@ module _ (k : Counters) (c a : List ℕ) (D : Decomposing k c a) where
 
     module _ (inClauses : k .clauses + s .named ≤ D .env .rooms .clauses) (inAtoms : to + s .used ≤ D .env .rooms .atoms) where
       -- ---- the tables
-      pub clauses-end : branchesAt (k .clauses) to (P .state .named) c' ≡ padded (3 * D .env .rooms .clauses) (clauseRecords 0 ended)
+      pub clauses-end : branchesAt (k .clauses) to (P .state .named) c' ≡ padded (clauseWords * D .env .rooms .clauses) (clauseRecords 0 ended)
       clauses-end =
-          let r : ℕ = 3 * D .env .rooms .clauses in
+          let r : ℕ = clauseWords * D .env .rooms .clauses in
           let x : List ℕ = clauseRecords 0 (P .done .clauses) in
           let y : List ℕ = clauseRecords to branches in
-          let lx : length x ≡ 3 * k .clauses = clause-records-long 0 (P .done .clauses) ∙ ap (λ (j : ℕ). 3 * j) (P .half .many) in
-          let z : c' ≡ padded r x = padded-is c' x r (3 * k .clauses) lx (P .half .clauses) (P .half .clausesRest ∙ clauses-zeros k c a D) in
+          let lx : length x ≡ clauseWords * k .clauses = clause-records-long 0 (P .done .clauses) ∙ ap (λ (j : ℕ). clauseWords * j) (P .half .many) in
+          let z : c' ≡ padded r x = padded-is c' x r (clauseWords * k .clauses) lx (P .half .clauses) (P .half .clausesRest ∙ clauses-zeros k c a D) in
           let e : 0 + total (P .done .clauses) ≡ to = omega (arith, P .half .sum) in
           ap₂ (λ (t : List ℕ) (j : ℕ). sets t j y) z (sym lx)
           ∙ padded-put r x y (omega (arith, lx, clause-records-long to branches, length-map (P .state .named) branchClause, P .held .many))
@@ -146,10 +146,10 @@ module _ (k : Counters) (c a : List ℕ) (D : Decomposing k c a) where
       counters-end : endCounters k (k .clauses + s .named) (to + s .used) (s .first + s .named) ≡ countersOf k (out (D .state .visits) (D .state .limit) (D .state .nextVar) (P .state .nextFresh) ended (D .state .deferrals) (D .state .line))
       counters-end =
           rw (many, sum, P .held .next)
-          (ap (λ (j : Counters). endCounters j (k .clauses + s .named) (to + s .used) (s .first + s .named)) (counters-is k c a D))
+          (ap (λ (j : Counters). endCounters j (k .clauses + s .named) (to + s .used) (s .first + s .named)) (counters-is (D .env) k (D .state) c a (D .deferrals) (D .drawn)))
 
       pub ends-shown : (k' : Counters) (c'' a'' : List ℕ) → k' ≡ endCounters k (k .clauses + s .named) (to + s .used) (s .first + s .named) → c'' ≡ branchesAt (k .clauses) to (P .state .named) c'
           → a'' ≡ sets (branchAtomsAt to (P .state .named) a') (6 * (to + s .used)) (replicate (6 * (k .atoms - (to + s .used))) 0) → ok n (tables k' c'' a'' (D .deferrals)) ≡ shown (λ j. j) k (D .env .rooms) (decomposeWideBodies (D .env) (D .state))
       unfolding show
       ends-shown k' c'' a'' ek ec ea =
-          rw (rule-ends, le-leb (length ended) (D .env .rooms .clauses) (omega (arith, many)), le-leb (total ended) (D .env .rooms .atoms) (omega (arith, sum)), ek, counters-end, ec, clauses-end, ea, atoms-end, P .counted, deferrals-is k c a D) refl
+          rw (rule-ends, le-leb (length ended) (D .env .rooms .clauses) (omega (arith, many)), le-leb (total ended) (D .env .rooms .atoms) (omega (arith, sum)), ek, counters-end, ec, clauses-end, ea, atoms-end, P .counted, deferrals-is (D .env) k (D .state) c a (D .deferrals) (D .drawn)) refl

@@ -2,12 +2,13 @@
 use mathlib.Core.Bool.{Bool, true, false, _||_, or-true}
 use mathlib.Core.Path.{_≡_, refl, sym, ap, _∙_}
 use mathlib.Core.List.{List, [], _∷_, _++_}
-use Prim.Native.Nat.{ℕ, _+_, _*_, _≤_, _<_}
+use Prim.Native.Nat.{ℕ, _+_, _*_, _/_, _≤_, _<_}
 use native.Mathlib.Omega.{arith}
 use borrow.Author.Tests.{ne-eqb}
 use lib.ListN.{length, getD, drop, set, length-append, drop-of-length-le}
 use lib.Seq.{getD-set-other}
 use lib.Dec.{eqb}
+use Rattle.words.specs.Words.{words}
 use Rattle.ir.specs.Pick.{pick}
 use Rattle.ir.specs.Records.{wordsOf}
 use Rattle.ir.specs.Atoms.{atomVars}
@@ -15,12 +16,12 @@ use Rattle.ir.specs.declared.atom.Atom.{Atom}
 use Rattle.ir.specs.declared.atom.Atom.the-variants.{Class, Exists, AtMost, AtLeast, Equal, Role as RoleAtom}
 use Rattle.rules.specs.Base.{contains}
 use Rattle.rules.specs.Branches.{addVar, addVars, headVars, headVarsFrom}
+use Rattle.tables.specs.Tabled.{Run}
 use Rattle.branches.specs.Layout.{keepAt}
-use Rattle.branches.specs.Wide.{AtomsAre}
 use Rattle.branches.specs.Edges.{KeepIs}
 use Rattle.branches.specs.Renumbered.{run}
 use Rattle.branches.specs.MetLaws.{run-more}
-use Rattle.branches.specs.AtomsLaws.{atom-at}
+use Rattle.branches.specs.AtomsLaws.{run-atom}
 use Rattle.decomposition.specs.Bodies.{OnlyKeep}
 
 -- ---- one variable more
@@ -95,29 +96,31 @@ pub record Kept (w : List ℕ) (n : ℕ) (l rest : List Atom) : Type 0 where
   pub keep : KeepIs w n vars
   pub left : headVars l ≡ headVarsFrom vars rest
 
--- before atom i: a holds the atoms, w the words at first
-pub record Heading (a w : List ℕ) (first count : ℕ) (w' : List ℕ) (n i : ℕ) : Type 0 where
+-- before atom i of the `count` in the bytes s; w are the words at first
+pub record Heading (s w : List ℕ) (count : ℕ) (w' : List ℕ) (n i : ℕ) : Type 0 where
+  pub all : count ≡ length s / 24
   pub here : i ≤ count
   pub few : n ≤ 2 * i
   pub only : OnlyKeep w w'
-  pub met : (l : List Atom) → AtomsAre a first count l → Kept w' n l (drop i l)
+  pub met : (l : List Atom) → Run s l → Kept w' n l (drop i l)
 
-pub heading-start : (a w : List ℕ) (first count : ℕ) → Heading a w first count w 0 0
-heading-start a w first count = record {
+pub heading-start : (s w : List ℕ) (count : ℕ) → count ≡ length s / 24 → Heading s w count w 0 0
+heading-start s w count e = record {
+  all = e;
   here = omega arith;
   few = omega arith;
   only = only-none w;
-  met = λ l A. record { vars = []; keep = record { long = refl; few = omega arith; are = refl }; left = refl };
+  met = λ l R. record { vars = []; keep = record { long = refl; few = omega arith; are = refl }; left = refl };
 }
 
-module _ (a w : List ℕ) (first count : ℕ) (w' : List ℕ) (n i : ℕ) (H : Heading a w first count w' n i) where
+module _ (s w : List ℕ) (count : ℕ) (w' : List ℕ) (n i : ℕ) (H : Heading s w count w' n i) where
   -- words u and v of atom i, and the words after each
-  module _ (h : i < count) (u v : ℕ) (eu : u ≡ getD a (6 * (first + i) + 4) 0) (ev : v ≡ getD a (6 * (first + i) + 5) 0) (w1 w2 : List ℕ) (n1 n2 : ℕ)
+  module _ (h : i < count) (u v : ℕ) (eu : u ≡ getD (words s) (6 * i + 4) 0) (ev : v ≡ getD (words s) (6 * i + 5) 0) (w1 w2 : List ℕ) (n1 n2 : ℕ)
       (K1 : (kept : List ℕ) → KeepIs w' n kept → KeepIs w1 n1 (addVar kept u)) (K2 : (kept : List ℕ) → KeepIs w1 n1 kept → KeepIs w2 n2 (addVar kept v)) where
-    met-next : (l : List Atom) → AtomsAre a first count l → Kept w2 n2 l (drop (i + 1) l)
-    met-next l A =
-        let N = atom-at a first count i l A h in
-        let k = H .met l A in
+    met-next : (l : List Atom) → Run s l → Kept w2 n2 l (drop (i + 1) l)
+    met-next l R =
+        let N = run-atom s count i (H .all) l R h in
+        let k = H .met l R in
         let x = wordsOf (N .atom) in
         let f : addVar (addVar (k .vars) (x .4)) (x .5) ≡ addVar (addVar (k .vars) u) v =
         ap (λ (t : ℕ). addVar (addVar (k .vars) t) (x .5)) (sym (eu ∙ N .words .var)) ∙ ap (λ (t : ℕ). addVar (addVar (k .vars) u) t) (sym (ev ∙ N .words .other)) in
@@ -127,16 +130,17 @@ module _ (a w : List ℕ) (first count : ℕ) (w' : List ℕ) (n i : ℕ) (H : H
           left = k .left ∙ vars-first (k .vars) (N .atom) (drop i l) (drop (i + 1) l) (N .split) ∙ ap (λ (t : List ℕ). headVarsFrom t (drop (i + 1) l)) f;
         }
 
-    pub heading-on : n1 ≤ n + 1 → n2 ≤ n1 + 1 → OnlyKeep w' w1 → OnlyKeep w1 w2 → Heading a w first count w2 n2 (i + 1)
+    pub heading-on : n1 ≤ n + 1 → n2 ≤ n1 + 1 → OnlyKeep w' w1 → OnlyKeep w1 w2 → Heading s w count w2 n2 (i + 1)
     heading-on f g O Q = record {
+      all = H .all;
       here = omega arith;
       few = omega (arith, H .few);
       only = only-then w w' w2 (H .only) (only-then w' w1 w2 O Q);
       met = met-next;
     }
 
-  pub heading-end : count ≤ i → (l : List Atom) → AtomsAre a first count l → KeepIs w' n (headVars l)
-  heading-end h l A =
-      let z : drop i l ≡ [] = drop-of-length-le l {i = i} (omega (arith, A .long)) in
-      let k = H .met l A in
+  pub heading-end : count ≤ i → (l : List Atom) → Run s l → KeepIs w' n (headVars l)
+  heading-end h l R =
+      let z : drop i l ≡ [] = drop-of-length-le l {i = i} (omega (arith, R .long, H .all)) in
+      let k = H .met l R in
       keep-same w' n (k .vars) (headVars l) (k .left ∙ vars-none (k .vars) (drop i l) z) (k .keep)

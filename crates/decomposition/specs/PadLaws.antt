@@ -1,21 +1,13 @@
 -- Records, then zeros. Assumes nothing.
-use mathlib.Core.Path.{_≡_, refl, sym, ap, ap₂, _∙_}
+use mathlib.Core.Path.{_≡_, sym, ap, ap₂, _∙_}
 use mathlib.Core.List.{List, _++_, append-assoc}
-use Prim.Native.Nat.{ℕ, zero, suc, _+_, _-_, _≤_}
+use Prim.Native.Nat.{ℕ, _+_, _-_, _≤_}
 use native.Mathlib.Omega.{arith}
 use lib.ListN.{length, take, drop, replicate, length-append, length-replicate, take-append-drop, replicate-append-replicate}
-use lib.Seq.{sets, sets-eq, take-at, drop-at, drop-drop}
+use lib.Seq.{sets, sets-eq, drop-at, drop-drop}
+use Rattle.words.specs.Runs.{sets-append}
 use Rattle.tables.specs.Drawn.{padded}
-use Rattle.decomposition.specs.StoreLaws.{store-both}
-
-drop-zeros : (n m : ℕ) → drop m (replicate {A = ℕ} n 0) ≡ replicate {A = ℕ} (n - m) 0
-drop-zeros n zero = let e : n - 0 ≡ n = omega arith in rw e refl
-drop-zeros zero (suc m) = let e : 0 - suc m ≡ 0 = omega arith in rw e refl
-drop-zeros (suc n) (suc m) = let e : suc n - suc m ≡ n - m = omega arith in rw e (drop-zeros n m)
-
-pub padded-front : (n p : ℕ) (x : List ℕ) → length x ≡ p → take p (padded n x) ≡ x
-unfolding padded
-padded-front n p x e = take-at x (replicate (n - length x) 0) p e
+use Rattle.tables.specs.DrawnLaws.{drop-zeros}
 
 pub padded-rest : (n p : ℕ) (x : List ℕ) → length x ≡ p → drop p (padded n x) ≡ replicate (n - p) 0
 unfolding padded
@@ -48,7 +40,7 @@ module _ (w x : List ℕ) (n p q : ℕ) (long : length w ≡ n) (front : length 
       let lx = length-append x y in
       let lt = length-append x (y ++ z) in
       let f : m + (n - length (x ++ (y ++ z))) ≡ n - length (x ++ y) = omega arith in
-      store-both y z w p e ee
+      ap (λ (j : ℕ). sets (sets w p y) j z) ee ∙ sets-append y z w p
       ∙ padded-over (y ++ z) (omega arith) (omega arith)
       ∙ ap (λ (u : List ℕ). u ++ replicate (n - length (x ++ (y ++ z))) 0) (sym (append-assoc x y z))
       ∙ append-assoc (x ++ y) z (replicate (n - length (x ++ (y ++ z))) 0)

@@ -1,13 +1,13 @@
 -- Clauses go down to their new places in the tables, and the named branches behind them.
 use mathlib.Core.Path.{_≡_}
-use mathlib.Core.List.{List, _∷_, [], map}
-use Prim.Native.Nat.{ℕ, _+_, _*_, _≤_}
-use lib.ListN.{length, take, drop, set}
+use mathlib.Core.List.{List, map}
+use Prim.Native.Nat.{ℕ, _*_, _≤_}
+use lib.ListN.{length, take, drop}
 use lib.Seq.{sets}
 use Rattle.rules.specs.State.{Clause, total}
 use Rattle.rules.specs.Branches.{Branch, branchClause}
 use Rattle.rules.specs.Branches as Rules
-use Rattle.rules.specs.Run.{clauseRecords, atomRecords}
+use Rattle.rules.specs.Run.{clauseWords, clauseRecords, atomRecords}
 
 -- n words from `from` on, at `to`
 abbrev pub moved : List ℕ → ℕ → ℕ → ℕ → List ℕ
@@ -19,8 +19,8 @@ pub record Half (l : List Clause) (c a c' a' : List ℕ) (i to : ℕ) (done : Li
   pub among : i ≤ length l
   pub sum : to ≡ total done
   pub low : to ≤ total (take i l)
-  pub clauses : take (3 * i) c' ≡ clauseRecords 0 done
-  pub clausesRest : drop (3 * i) c' ≡ drop (3 * i) c
+  pub clauses : take (clauseWords * i) c' ≡ clauseRecords 0 done
+  pub clausesRest : drop (clauseWords * i) c' ≡ drop (clauseWords * i) c
   pub atoms : take (6 * to) a' ≡ atomRecords done
   pub atomsRest : drop (6 * total (take i l)) a' ≡ drop (6 * total (take i l)) a
   pub sameClauses : length c' ≡ length c
@@ -28,7 +28,7 @@ pub record Half (l : List Clause) (c a c' a' : List ℕ) (i to : ℕ) (done : Li
 
 -- the branches as clauses, from clause i and atom `to` on
 abbrev pub branchesAt : ℕ → ℕ → List Branch → List ℕ → List ℕ
-branchesAt i to l c = sets c (3 * i) (clauseRecords to (map branchClause l))
+branchesAt i to l c = sets c (clauseWords * i) (clauseRecords to (map branchClause l))
 
 abbrev pub branchAtomsAt : ℕ → List Branch → List ℕ → List ℕ
 branchAtomsAt to l a = sets a (6 * to) (atomRecords (map branchClause l))

@@ -3,48 +3,20 @@ use mathlib.Core.Path.{_≡_, refl, sym, ap, _∙_}
 use mathlib.Core.List.{List}
 use Prim.Native.Nat.{ℕ, _*_, _-_, _≤_}
 use native.Mathlib.Omega.{arith}
-use lib.ListN.{length, take, drop, replicate, length-take}
+use lib.ListN.{length, drop, replicate}
 use Rattle.ir.specs.declared.counters.Counters.{Counters}
 use Rattle.rules.specs.State.{total}
-use Rattle.rules.specs.Run.{clauseRecords, atomRecords, deferralRecords}
+use Rattle.rules.specs.Run.{clauseWords, clauseRecords, atomRecords}
 use Rattle.rules.specs.DecodeLaws.{clause-records-long, atom-records-long}
-use Rattle.tables.specs.Drawn.{padded, Tables, tables, countersOf, show}
-use Rattle.tables.specs.DrawnLaws.{clauses-count, atoms-count}
+use Rattle.tables.specs.DrawnLaws.{counters-is, clauses-is, atoms-is, clauses-count, atoms-count}
+use Rattle.tables.specs.ClauseLaws.{tabled-long, show-tabled}
 use Rattle.branches.specs.Memo.{namedWords}
 use Rattle.decomposition.specs.Decomposing.{Decomposing}
 use Rattle.decomposition.specs.Turning.{noClause, noName, Listed, Passed}
 use Rattle.decomposition.specs.HalfLaws.{half-start}
-use Rattle.decomposition.specs.PadLaws.{padded-front, padded-rest}
-
-abbrev countersIn : Tables → Counters
-countersIn (tables k c a d) = k
-
-abbrev clausesIn : Tables → List ℕ
-clausesIn (tables k c a d) = c
-
-abbrev atomsIn : Tables → List ℕ
-atomsIn (tables k c a d) = a
-
-abbrev deferralsIn : Tables → List ℕ
-deferralsIn (tables k c a d) = d
+use Rattle.decomposition.specs.PadLaws.{padded-rest}
 
 module _ (k : Counters) (c a : List ℕ) (D : Decomposing k c a) where
-  pub counters-is : k ≡ countersOf k (D .state)
-  unfolding show
-  counters-is = ap countersIn (D .drawn)
-
-  pub deferrals-is : D .deferrals ≡ padded (2 * D .env .rooms .deferrals) (deferralRecords (D .state .deferrals))
-  unfolding show
-  deferrals-is = ap deferralsIn (D .drawn)
-
-  clauses-is : c ≡ padded (3 * D .env .rooms .clauses) (clauseRecords 0 (D .state .clauses))
-  unfolding show
-  clauses-is = ap clausesIn (D .drawn)
-
-  atoms-is : a ≡ padded (6 * D .env .rooms .atoms) (atomRecords (D .state .clauses))
-  unfolding show
-  atoms-is = ap atomsIn (D .drawn)
-
   pub clauses-many : k .clauses ≡ length (D .state .clauses)
   clauses-many = clauses-count (D .env) k (D .state) c a (D .deferrals) (D .drawn)
 
@@ -52,26 +24,22 @@ module _ (k : Counters) (c a : List ℕ) (D : Decomposing k c a) where
   atoms-many = atoms-count (D .env) k (D .state) c a (D .deferrals) (D .drawn)
 
   pub class-next : k .«next_class» ≡ D .state .nextFresh
-  class-next = ap (λ (x : Counters). x .«next_class») counters-is
+  class-next = ap (λ (x : Counters). x .«next_class») (counters-is (D .env) k (D .state) c a (D .deferrals) (D .drawn))
 
   -- zeros behind the records
-  pub clauses-zeros : drop (3 * k .clauses) c ≡ replicate (3 * D .env .rooms .clauses - 3 * k .clauses) 0
+  pub clauses-zeros : drop (clauseWords * k .clauses) c ≡ replicate (clauseWords * D .env .rooms .clauses - clauseWords * k .clauses) 0
   clauses-zeros =
-      ap (drop (3 * k .clauses)) clauses-is
-      ∙ padded-rest (3 * D .env .rooms .clauses) (3 * k .clauses) (clauseRecords 0 (D .state .clauses)) (clause-records-long 0 (D .state .clauses) ∙ ap (λ (j : ℕ). 3 * j) (sym clauses-many))
+      ap (drop (clauseWords * k .clauses)) (clauses-is (D .env) k (D .state) c a (D .deferrals) (D .drawn))
+      ∙ padded-rest (clauseWords * D .env .rooms .clauses) (clauseWords * k .clauses) (clauseRecords 0 (D .state .clauses)) (clause-records-long 0 (D .state .clauses) ∙ ap (λ (j : ℕ). clauseWords * j) (sym clauses-many))
 
   pub atoms-zeros : drop (6 * k .atoms) a ≡ replicate (6 * D .env .rooms .atoms - 6 * k .atoms) 0
   atoms-zeros =
-      ap (drop (6 * k .atoms)) atoms-is
+      ap (drop (6 * k .atoms)) (atoms-is (D .env) k (D .state) c a (D .deferrals) (D .drawn))
       ∙ padded-rest (6 * D .env .rooms .atoms) (6 * k .atoms) (atomRecords (D .state .clauses)) (atom-records-long (D .state .clauses) ∙ ap (λ (j : ℕ). 6 * j) (sym atoms-many))
 
   pub listed : Listed (D .state .clauses) (D .state .nextFresh) c a
   listed = record {
-    tabled = record {
-      count = refl;
-      clauses = ap (take (3 * length (D .state .clauses))) clauses-is ∙ padded-front (3 * D .env .rooms .clauses) (3 * length (D .state .clauses)) (clauseRecords 0 (D .state .clauses)) (clause-records-long 0 (D .state .clauses));
-      atoms = ap (take (6 * total (D .state .clauses))) atoms-is ∙ padded-front (6 * D .env .rooms .atoms) (6 * total (D .state .clauses)) (atomRecords (D .state .clauses)) (atom-records-long (D .state .clauses));
-    };
+    tabled = rw clauses-many at (show-tabled (D .env) k c a (D .deferrals) (D .state) (D .drawn));
     bounds = D .bounds;
     roles = D .roles;
     vars = D .vars;
@@ -80,10 +48,10 @@ module _ (k : Counters) (c a : List ℕ) (D : Decomposing k c a) where
   }
 
   pub atoms-fit : k .atoms ≤ D .env .rooms .atoms
-  atoms-fit = omega (arith, ap length (listed .tabled .atoms), length-take (6 * total (D .state .clauses)) a, atom-records-long (D .state .clauses), D .lent .atoms, atoms-many)
+  atoms-fit = omega (arith, tabled-long c a (length (D .state .clauses)) (D .state .clauses) (listed .tabled) .1, D .lent .atoms, atoms-many)
 
   pub clauses-fit : k .clauses ≤ D .env .rooms .clauses
-  clauses-fit = omega (arith, ap length (listed .tabled .clauses), length-take (3 * length (D .state .clauses)) c, clause-records-long 0 (D .state .clauses), D .lent .clauses, clauses-many)
+  clauses-fit = omega (arith, tabled-long c a (length (D .state .clauses)) (D .state .clauses) (listed .tabled) .0, D .lent .clauses, clauses-many)
 
   -- before the first clause
   pub passed-start : (w : List ℕ) → Passed (D .state .clauses) (D .state .nextFresh) c a w c a (record { first = k .«next_class»; named = 0; used = 0 }) 0 0 0

@@ -5,6 +5,7 @@ use branches::memo::Naming;
 use branches::vars;
 use naming::name;
 use naming::name::Reduced;
+use tables::read;
 ghost use mathlib.Core.Path.{_≡_};
 ghost use mathlib.Core.Bool.{not};
 ghost use mathlib.Core.List.{List};
@@ -16,20 +17,20 @@ ghost use Rattle.rules.specs.Base.{any};
 ghost use Rattle.rules.specs.State.{Clause};
 ghost use Rattle.rules.specs.Branches.{isTreeAtom, addVar, headVars};
 ghost use Rattle.rules.specs.Branches as Rules;
+ghost use Rattle.tables.specs.Tabled.{Run};
 ghost use Rattle.branches.specs.Layout.{workWords};
-ghost use Rattle.branches.specs.Wide.{AtomsAre, AtomsThere};
 ghost use Rattle.branches.specs.Memo.{NamedHeld, NamedThere};
 ghost use Rattle.branches.specs.Edges.{KeepIs};
-ghost use Rattle.decomposition.specs.Bodies.{reduced, RunIs, RunThere, OneBy, OnlyKeep};
+ghost use Rattle.decomposition.specs.Bodies.{reduced, PartsThere, OneBy, OnlyKeep};
 
-// All `count` atoms from atom `first` on are class and role atoms.
-fn is_plain(atoms: &[u8], first: usize, count: u32) -> bool
-    requires { ⌜ AtomsThere (words (now atoms)) first count ⌝ }
-    ensures { λ r. ⌜ ((l : List Atom) → AtomsAre (words (now (atoms .entry))) first count l → r ≡ not (any (λ a. not (isTreeAtom a)) l)) ⌝ }
+// All atoms of a body are class and role atoms.
+fn is_plain(body: &[u8]) -> bool
+    ensures { λ r. ⌜ ((l : List Atom) → Run (now (body .entry)) l → r ≡ not (any (λ a. not (isTreeAtom a)) l)) ⌝ }
 {
+    let count = read::atom_room(body);
     let mut i: usize = 0;
-    while i < count as usize {
-        if 2 < words::get_word(atoms, 6 * (first + i)) {
+    while i < count {
+        if 2 < words::get_word(body, 6 * i) {
             return false;
         }
         i += 1;
@@ -57,43 +58,36 @@ fn keep_var(scratch: &mut [u8], n: u32, v: u32) -> u32
     n + 1
 }
 
-// head_vars: the variables of the `count` atoms from atom `first` on, but X.
-fn head_vars(scratch: &mut [u8], atoms: &[u8], first: usize, count: u32) -> u32
-    requires { ⌜ AtomsThere (words (now atoms)) first count × (count ≤ 256) × (4 * workWords ≤ length (now scratch)) ⌝ }
-    ensures { λ r. ⌜ ((l : List Atom) → AtomsAre (words (now (atoms .entry))) first count l → KeepIs (words (now (scratch .exit))) r (headVars l)) ⌝ }
+// head_vars: the variables of a head, but X.
+fn head_vars(scratch: &mut [u8], head: &[u8]) -> u32
+    requires { ⌜ (length (now head) ≤ 24 * 256) × (4 * workWords ≤ length (now scratch)) ⌝ }
+    ensures { λ r. ⌜ ((l : List Atom) → Run (now (head .entry)) l → KeepIs (words (now (scratch .exit))) r (headVars l)) ⌝ }
     ensures { λ r. ⌜ (r ≤ 512) × OnlyKeep (words (now (scratch .entry))) (words (now (scratch .exit))) ⌝ }
 {
+    let count = read::atom_room(head);
     let mut n: u32 = 0;
     let mut i: usize = 0;
-    while i < count as usize {
-        n = keep_var(scratch, n, words::get_word(atoms, 6 * (first + i) + 4));
-        n = keep_var(scratch, n, words::get_word(atoms, 6 * (first + i) + 5));
+    while i < count {
+        n = keep_var(scratch, n, words::get_word(head, 6 * i + 4));
+        n = keep_var(scratch, n, words::get_word(head, 6 * i + 5));
         i += 1;
     }
     n
 }
 
-// The clause of nb and nh atoms from atom `first` on: its new body, from record BODY on, if something in it is named.
-pub fn decompose_one(
-    scratch: &mut [u8],
-    atoms: &[u8],
-    s: Naming,
-    first: usize,
-    nb: u32,
-    nh: u32,
-) -> Reduced
-    requires { ⌜ RunThere (words (now atoms)) first nb nh × NamedThere (words (now scratch)) s × (s .first ≤ 1100000) × (4 * workWords ≤ length (now scratch)) ⌝ }
-    ensures { λ r. ⌜ ((x : Clause) (z : Rules.Naming) → RunIs (words (now (atoms .entry))) first nb nh x → NamedHeld (words (now (scratch .entry))) s z → OneBy (words (now (scratch .exit))) nb s (reduced x z) r) ⌝ }
+// The clause of this body and this head: its new body, from record BODY on, if something in it is named.
+pub fn decompose_one(scratch: &mut [u8], body: &[u8], head: &[u8], s: Naming) -> Reduced
+    requires { ⌜ PartsThere (now body) (now head) × NamedThere (words (now scratch)) s × (s .first ≤ 1100000) × (4 * workWords ≤ length (now scratch)) ⌝ }
+    ensures { λ r. ⌜ ((x : Clause) (z : Rules.Naming) → Run (now (body .entry)) (x .body) → Run (now (head .entry)) (x .head) → NamedHeld (words (now (scratch .entry))) s z → OneBy (words (now (scratch .exit))) s x (reduced x z) r) ⌝ }
 {
-    if !vars::is_wide(atoms, first, nb, 0) {
+    if !vars::is_wide(body, 0) {
         return Reduced::None;
     }
-    if !is_plain(atoms, first, nb) {
+    if !is_plain(body) {
         return Reduced::None;
     }
-    let keep = head_vars(scratch, atoms, first + nb as usize, nh);
-    let from = 24 * first;
-    let to = 24 * (first + nb as usize);
-    words::copy_words(scratch, 6 * BODY, &atoms[from..to]);
-    name::name_branches(scratch, s, BODY, nb, 0, keep)
+    let keep = head_vars(scratch, head);
+    words::copy_words(scratch, 6 * BODY, body);
+    let count = read::atom_room(body) as u32;
+    name::name_branches(scratch, s, BODY, count, 0, keep)
 }

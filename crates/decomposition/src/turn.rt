@@ -5,6 +5,7 @@ use branches::memo::Naming;
 use ir::answer::Answer;
 use ir::counters::Counters;
 use naming::name::Reduced;
+use tables::read;
 ghost use mathlib.Core.Path.{_≡_};
 ghost use mathlib.Core.List.{List};
 ghost use Prim.Native.Nat.{ℕ, _*_, _-_, _<_, _≤_};
@@ -36,13 +37,15 @@ pub fn turn(
     requires { ⌜ TurnThere (words (now scratch)) (words (now clauses)) (words (now atoms)) s c to rewritten × (4 * workWords ≤ length (now scratch)) × Sized (length (now clauses)) (length (now atoms)) 0 ⌝ }
     ensures { λ r. ⌜ ((l : List Clause) (fresh : ℕ) (c₀ a₀ : List ℕ) → Listed l fresh c₀ a₀ → c < length l → Passed l fresh c₀ a₀ (words (now (scratch .entry))) (words (now (clauses .entry))) (words (now (atoms .entry))) s c to rewritten → TurnedBy l fresh c₀ a₀ (words (now (scratch .exit))) (words (now (clauses .exit))) (words (now (atoms .exit))) c r) ⌝ }
 {
-    let first = words::get_word(clauses, 3 * (c as usize)) as usize;
-    let nb = words::get_word(clauses, 3 * (c as usize) + 1);
-    let nh = words::get_word(clauses, 3 * (c as usize) + 2);
-    match one::decompose_one(scratch, atoms, s, first, nb, nh) {
+    let first = read::first_atom(clauses, c) as usize;
+    let nb = read::body_count(clauses, c);
+    let nh = read::head_count(clauses, c);
+    let body = read::body_of(clauses, atoms, c);
+    let head = read::head_of(clauses, atoms, c);
+    match one::decompose_one(scratch, body, head, s) {
         Reduced::To(m, n) => {
-            let head = first + nb as usize;
-            place::put_rewritten(scratch, clauses, atoms, c, n, head, nh, to);
+            let from = first + nb as usize;
+            place::put_rewritten(scratch, clauses, atoms, c, n, from, nh, to);
             let body_end = to + n;
             let end = body_end + nh;
             let more = rewritten + 1;
@@ -83,10 +86,10 @@ pub fn finish(
 {
     let last = k.clauses + s.named;
     let end = to + s.used;
-    if clauses.len() / 12 < last as usize {
+    if read::clause_room(clauses) < last as usize {
         return Answer::Refused(12);
     }
-    if atoms.len() / 24 < end as usize {
+    if read::atom_room(atoms) < end as usize {
         return Answer::Refused(12);
     }
     place::put_named(scratch, clauses, atoms, s, k.clauses, to);

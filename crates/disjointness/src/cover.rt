@@ -64,7 +64,10 @@ pub fn cover(
     count: u32,
 ) -> Answer
     requires { ⌜ Reading (now scratch) k × Members (words (now scratch)) k at count × (inHandBytes ≤ length (now scratch)) × (class + 1 < 2 ^ 32) × Sized (length (now clauses)) (length (now atoms)) (length (now deferrals)) × Good k ⌝ }
-    ensures { λ r. ⌜ Did (λ _. 0) 0 (λ env f b s. cover env (poolOf (words (now (scratch .entry))) (k .concepts)) class (run (words (now (scratch .entry))) at count) [] s) k handAt 0 (four (words (now (scratch .entry))) (words (now (clauses .entry))) (words (now (atoms .entry))) (words (now (deferrals .entry)))) (four (words (now (scratch .exit))) (words (now (clauses .exit))) (words (now (atoms .exit))) (words (now (deferrals .exit)))) r ⌝ }
+    ensures { λ r.
+        let old = four (words (now (scratch .entry))) (words (now (clauses .entry))) (words (now (atoms .entry))) (words (now (deferrals .entry))) in
+        let new = four (words (now (scratch .exit))) (words (now (clauses .exit))) (words (now (atoms .exit))) (words (now (deferrals .exit))) in
+        ⌜ Did (λ _. 0) 0 (λ env f b s. cover env (poolOf (old .scratch) (k .concepts)) class (run (old .scratch) at count) [] s) k handAt 0 old new r ⌝ }
 {
     record::put_atom(scratch, HAND, Atom::Class(class, 0));
     match put_heads(scratch, k, at, count) {

@@ -24,7 +24,10 @@ pub fn union_member(
     m: u32,
 ) -> Answer
     requires { ⌜ Encoding (now scratch) k × (m < k .concepts) × (inHandBytes ≤ length (now scratch)) × (class + 1 < 2 ^ 32) × Sized (length (now clauses)) (length (now atoms)) (length (now deferrals)) × Good k ⌝ }
-    ensures { λ r. ⌜ Did (λ _. 0) 0 (λ env f b s. memberRule env (poolOf (words (now (scratch .entry))) (k .concepts)) class m s) k handAt 0 (four (words (now (scratch .entry))) (words (now (clauses .entry))) (words (now (atoms .entry))) (words (now (deferrals .entry)))) (four (words (now (scratch .exit))) (words (now (clauses .exit))) (words (now (atoms .exit))) (words (now (deferrals .exit)))) r ⌝ }
+    ensures { λ r.
+        let old = four (words (now (scratch .entry))) (words (now (clauses .entry))) (words (now (atoms .entry))) (words (now (deferrals .entry))) in
+        let new = four (words (now (scratch .exit))) (words (now (clauses .exit))) (words (now (atoms .exit))) (words (now (deferrals .exit))) in
+        ⌜ Did (λ _. 0) 0 (λ env f b s. memberRule env (poolOf (old .scratch) (k .concepts)) class m s) k handAt 0 old new r ⌝ }
 {
     let l = k.restart_vars();
     match antecedents::encode_antecedent(scratch, l, m) {

@@ -29,7 +29,10 @@ fn push_with(
     y: u32,
 ) -> Answer
     requires { ⌜ Encoding (now scratch) k × (b < k .concepts) × (inHandBytes ≤ length (now scratch)) × (handAt ≤ top) × (top ≤ handAt + 256) × Sized (length (now clauses)) (length (now atoms)) 0 × Good k × Sourced (words (now scratch)) k b y count ⌝ }
-    ensures { λ r. ⌜ ((d : List ℕ) → PushedWith k top b count y (four (words (now (scratch .entry))) (words (now (clauses .entry))) (words (now (atoms .entry))) d) (four (words (now (scratch .exit))) (words (now (clauses .exit))) (words (now (atoms .exit))) d) r) ⌝ }
+    ensures { λ r.
+        let old = four (words (now (scratch .entry))) (words (now (clauses .entry))) (words (now (atoms .entry))) in
+        let new = four (words (now (scratch .exit))) (words (now (clauses .exit))) (words (now (atoms .exit))) in
+        ⌜ ((d : List ℕ) → PushedWith k top b count y (old d) (new d) r) ⌝ }
 {
     let mut l = k;
     let mut j: u32 = 0;
@@ -65,7 +68,10 @@ fn push_pairs(
     y: u32,
 ) -> Answer
     requires { ⌜ Encoding (now scratch) k × (a < k .concepts) × (b < k .concepts) × (inHandBytes ≤ length (now scratch)) × Sized (length (now clauses)) (length (now atoms)) 0 × Good k × Sourced (words (now scratch)) k a 1 count × Sourced (words (now scratch)) k b y others ⌝ }
-    ensures { λ r. ⌜ ((d : List ℕ) → PushedPairs k a count b others y (four (words (now (scratch .entry))) (words (now (clauses .entry))) (words (now (atoms .entry))) d) (four (words (now (scratch .exit))) (words (now (clauses .exit))) (words (now (atoms .exit))) d) r) ⌝ }
+    ensures { λ r.
+        let old = four (words (now (scratch .entry))) (words (now (clauses .entry))) (words (now (atoms .entry))) in
+        let new = four (words (now (scratch .exit))) (words (now (clauses .exit))) (words (now (atoms .exit))) in
+        ⌜ ((d : List ℕ) → PushedPairs k a count b others y (old d) (new d) r) ⌝ }
 {
     let mut l = k;
     let mut i: u32 = 0;
@@ -107,7 +113,10 @@ fn second_of(
     deferred: bool,
 ) -> Answer
     requires { ⌜ First (now scratch) a b first × (inHandBytes ≤ length (now scratch)) × Sized (length (now clauses)) (length (now atoms)) (length (now deferrals)) ⌝ }
-    ensures { λ r. ⌜ ((F : First (now (scratch .entry)) a b first) → Did (λ _. 0) 0 (λ env f h s. pairFrom env (unencoded env deferred) a b (poolOf (words (now (scratch .entry))) (F .counters .concepts)) s) (F .counters) handAt 0 (four (words (now (scratch .entry))) (words (now (clauses .entry))) (words (now (atoms .entry))) (words (now (deferrals .entry)))) (four (words (now (scratch .exit))) (words (now (clauses .exit))) (words (now (atoms .exit))) (words (now (deferrals .exit)))) r) ⌝ }
+    ensures { λ r.
+        let old = four (words (now (scratch .entry))) (words (now (clauses .entry))) (words (now (atoms .entry))) (words (now (deferrals .entry))) in
+        let new = four (words (now (scratch .exit))) (words (now (clauses .exit))) (words (now (atoms .exit))) (words (now (deferrals .exit))) in
+        ⌜ ((F : First (now (scratch .entry)) a b first) → Did (λ _. 0) 0 (λ env f h s. pairFrom env (unencoded env deferred) a b (poolOf (old .scratch) (F .counters .concepts)) s) (F .counters) handAt 0 old new r) ⌝ }
 {
     match first {
         Encoded::Found(l, count, _) => {
@@ -140,7 +149,10 @@ pub fn disjoint_pair(
     deferred: bool,
 ) -> Answer
     requires { ⌜ Encoding (now scratch) k × (a < k .concepts) × (b < k .concepts) × (inHandBytes ≤ length (now scratch)) × Sized (length (now clauses)) (length (now atoms)) (length (now deferrals)) × Good k ⌝ }
-    ensures { λ r. ⌜ Did (λ _. 0) 0 (λ env f h s. pairRule env (unencoded env deferred) a b (poolOf (words (now (scratch .entry))) (k .concepts)) s) k handAt 0 (four (words (now (scratch .entry))) (words (now (clauses .entry))) (words (now (atoms .entry))) (words (now (deferrals .entry)))) (four (words (now (scratch .exit))) (words (now (clauses .exit))) (words (now (atoms .exit))) (words (now (deferrals .exit)))) r ⌝ }
+    ensures { λ r.
+        let old = four (words (now (scratch .entry))) (words (now (clauses .entry))) (words (now (atoms .entry))) (words (now (deferrals .entry))) in
+        let new = four (words (now (scratch .exit))) (words (now (clauses .exit))) (words (now (atoms .exit))) (words (now (deferrals .exit))) in
+        ⌜ Did (λ _. 0) 0 (λ env f h s. pairRule env (unencoded env deferred) a b (poolOf (old .scratch) (k .concepts)) s) k handAt 0 old new r ⌝ }
 {
     let l = k.restart_vars();
     let first = antecedents::encode_antecedent(scratch, l, a);

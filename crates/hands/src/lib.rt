@@ -29,8 +29,9 @@ pub fn push_run(
     ensures { λ r. ⌜ KeptAnswer k r ⌝ }
 {
     let from = 24 * base;
+    let seam = 24 * (base + n as usize);
     let to = 24 * (base + n as usize + m as usize);
-    tables::push_clause(&scratch[from..to], n, clauses, atoms, k)
+    tables::push_clause(clauses, atoms, k, &scratch[from..seam], &scratch[seam..to])
 }
 
 // The body in hand, and no head.
@@ -43,7 +44,10 @@ pub fn push_none(
     n: u32,
 ) -> Answer
     requires { ⌜ (n ≤ 256) × (24 * (base + n) ≤ length (now scratch)) × Sized (length (now clauses)) (length (now atoms)) 0 × Good k ⌝ }
-    ensures { λ r. ⌜ ((d : List ℕ) → Did (λ _. 0) 0 (λ env f b s. push env b [] s) k base n (four (words (now (scratch .entry))) (words (now (clauses .entry))) (words (now (atoms .entry))) d) (four (words (now (scratch .entry))) (words (now (clauses .exit))) (words (now (atoms .exit))) d) r) ⌝ }
+    ensures { λ r.
+        let old = four (words (now (scratch .entry))) (words (now (clauses .entry))) (words (now (atoms .entry))) in
+        let new = four (words (now (scratch .entry))) (words (now (clauses .exit))) (words (now (atoms .exit))) in
+        ⌜ ((d : List ℕ) → Did (λ _. 0) 0 (λ env f b s. push env b [] s) k base n (old d) (new d) r) ⌝ }
 {
     push_run(scratch, clauses, atoms, k, base, n, 0)
 }
@@ -59,7 +63,10 @@ pub fn push_one(
     head: Atom,
 ) -> Answer
     requires { ⌜ (n ≤ 256) × (24 * (base + n + 1) ≤ length (now scratch)) × Sized (length (now clauses)) (length (now atoms)) 0 × Good k × Fits head ⌝ }
-    ensures { λ r. ⌜ ((d : List ℕ) → Did (λ _. 0) 0 (λ env f b s. push env b (head ∷ []) s) k base n (four (words (now (scratch .entry))) (words (now (clauses .entry))) (words (now (atoms .entry))) d) (four (words (now (scratch .exit))) (words (now (clauses .exit))) (words (now (atoms .exit))) d) r) ⌝ }
+    ensures { λ r.
+        let old = four (words (now (scratch .entry))) (words (now (clauses .entry))) (words (now (atoms .entry))) in
+        let new = four (words (now (scratch .exit))) (words (now (clauses .exit))) (words (now (atoms .exit))) in
+        ⌜ ((d : List ℕ) → Did (λ _. 0) 0 (λ env f b s. push env b (head ∷ []) s) k base n (old d) (new d) r) ⌝ }
 {
     let from = 24 * base;
     let to = 24 * (base + n as usize);

@@ -39,7 +39,10 @@ pub fn emit_head(
     v: u32,
 ) -> Answer
     requires { ⌜ Emitting (now scratch) k base n c × Sized (length (now clauses)) (length (now atoms)) (length (now deferrals)) ⌝ }
-    ensures { λ r. ⌜ Did (λ _. 0) (suc c) (λ env f b s. emitBy env (poolOf (words (now (scratch .entry))) (k .concepts)) f b c v s) k base n (four (words (now (scratch .entry))) (words (now (clauses .entry))) (words (now (atoms .entry))) (words (now (deferrals .entry)))) (four (words (now (scratch .exit))) (words (now (clauses .exit))) (words (now (atoms .exit))) (words (now (deferrals .exit)))) r ⌝ }
+    ensures { λ r.
+        let old = four (words (now (scratch .entry))) (words (now (clauses .entry))) (words (now (atoms .entry))) (words (now (deferrals .entry))) in
+        let new = four (words (now (scratch .exit))) (words (now (clauses .exit))) (words (now (atoms .exit))) (words (now (deferrals .exit))) in
+        ⌜ Did (λ _. 0) (suc c) (λ env f b s. emitBy env (poolOf (old .scratch) (k .concepts)) f b c v s) k base n old new r ⌝ }
 {
     let Visit::Begun(l) = k.visit() else {
         return Answer::Refused(10);
@@ -74,7 +77,11 @@ fn emit_under(
     v: u32,
 ) -> Answer
     requires { ⌜ Emitting (now scratch) k base n c × Sized (length (now clauses)) (length (now atoms)) (length (now deferrals)) × (field (words (now scratch)) c 0 ≡ 10) × (k .«next_var» ≤ k .visits + 3) ⌝ }
-    ensures { λ r. ⌜ Did (λ _. 0) c (λ env f b s. emitStep env (poolOf (words (now (scratch .entry))) (k .concepts)) (λ h d u. emitBy env (poolOf (words (now (scratch .entry))) (k .concepts)) f h d u) b v (conceptAt (words (now (scratch .entry))) c) s) k base n (four (words (now (scratch .entry))) (words (now (clauses .entry))) (words (now (atoms .entry))) (words (now (deferrals .entry)))) (four (words (now (scratch .exit))) (words (now (clauses .exit))) (words (now (atoms .exit))) (words (now (deferrals .exit)))) r ⌝ }
+    ensures { λ r.
+        let old = four (words (now (scratch .entry))) (words (now (clauses .entry))) (words (now (atoms .entry))) (words (now (deferrals .entry))) in
+        let new = four (words (now (scratch .exit))) (words (now (clauses .exit))) (words (now (atoms .exit))) (words (now (deferrals .exit))) in
+        let pool = poolOf (old .scratch) (k .concepts) in
+        ⌜ Did (λ _. 0) c (λ env f b s. emitStep env pool (λ h d u. emitBy env pool f h d u) b v (conceptAt (old .scratch) c) s) k base n old new r ⌝ }
 {
     if 256 <= n {
         return Answer::Refused(12);
@@ -102,7 +109,11 @@ fn emit_all(
     v: u32,
 ) -> Answer
     requires { ⌜ Emitting (now scratch) k base n c × Sized (length (now clauses)) (length (now atoms)) (length (now deferrals)) × (field (words (now scratch)) c 0 ≡ 7) ⌝ }
-    ensures { λ r. ⌜ Did (λ _. 0) c (λ env f b s. emitStep env (poolOf (words (now (scratch .entry))) (k .concepts)) (λ h d u. emitBy env (poolOf (words (now (scratch .entry))) (k .concepts)) f h d u) b v (conceptAt (words (now (scratch .entry))) c) s) k base n (four (words (now (scratch .entry))) (words (now (clauses .entry))) (words (now (atoms .entry))) (words (now (deferrals .entry)))) (four (words (now (scratch .exit))) (words (now (clauses .exit))) (words (now (atoms .exit))) (words (now (deferrals .exit)))) r ⌝ }
+    ensures { λ r.
+        let old = four (words (now (scratch .entry))) (words (now (clauses .entry))) (words (now (atoms .entry))) (words (now (deferrals .entry))) in
+        let new = four (words (now (scratch .exit))) (words (now (clauses .exit))) (words (now (atoms .exit))) (words (now (deferrals .exit))) in
+        let pool = poolOf (old .scratch) (k .concepts) in
+        ⌜ Did (λ _. 0) c (λ env f b s. emitStep env pool (λ h d u. emitBy env pool f h d u) b v (conceptAt (old .scratch) c) s) k base n old new r ⌝ }
 {
     let start = concept::child(scratch, c);
     let count = concept::number(scratch, c);
@@ -138,7 +149,11 @@ fn emit_or(
     v: u32,
 ) -> Answer
     requires { ⌜ Emitting (now scratch) k base n c × Sized (length (now clauses)) (length (now atoms)) (length (now deferrals)) × (field (words (now scratch)) c 0 ≡ 8) ⌝ }
-    ensures { λ r. ⌜ Did (λ _. 0) c (λ env f b s. emitStep env (poolOf (words (now (scratch .entry))) (k .concepts)) (λ h d u. emitBy env (poolOf (words (now (scratch .entry))) (k .concepts)) f h d u) b v (conceptAt (words (now (scratch .entry))) c) s) k base n (four (words (now (scratch .entry))) (words (now (clauses .entry))) (words (now (atoms .entry))) (words (now (deferrals .entry)))) (four (words (now (scratch .exit))) (words (now (clauses .exit))) (words (now (atoms .exit))) (words (now (deferrals .exit)))) r ⌝ }
+    ensures { λ r.
+        let old = four (words (now (scratch .entry))) (words (now (clauses .entry))) (words (now (atoms .entry))) (words (now (deferrals .entry))) in
+        let new = four (words (now (scratch .exit))) (words (now (clauses .exit))) (words (now (atoms .exit))) (words (now (deferrals .exit))) in
+        let pool = poolOf (old .scratch) (k .concepts) in
+        ⌜ Did (λ _. 0) c (λ env f b s. emitStep env pool (λ h d u. emitBy env pool f h d u) b v (conceptAt (old .scratch) c) s) k base n old new r ⌝ }
 {
     let start = concept::child(scratch, c);
     let count = concept::number(scratch, c);
@@ -181,7 +196,11 @@ pub fn head_atom_for(
     v: u32,
 ) -> Headed
     requires { ⌜ Emitting (now scratch) k base 1 c × Sized (length (now clauses)) (length (now atoms)) (length (now deferrals)) ⌝ }
-    ensures { λ r. ⌜ DidAtom (suc c) (λ env f s. headAtomFor env (poolOf (words (now (scratch .entry))) (k .concepts)) (λ h d u. emitBy env (poolOf (words (now (scratch .entry))) (k .concepts)) f h d u) c v s) k base (four (words (now (scratch .entry))) (words (now (clauses .entry))) (words (now (atoms .entry))) (words (now (deferrals .entry)))) (four (words (now (scratch .exit))) (words (now (clauses .exit))) (words (now (atoms .exit))) (words (now (deferrals .exit)))) r ⌝ }
+    ensures { λ r.
+        let old = four (words (now (scratch .entry))) (words (now (clauses .entry))) (words (now (atoms .entry))) (words (now (deferrals .entry))) in
+        let new = four (words (now (scratch .exit))) (words (now (clauses .exit))) (words (now (atoms .exit))) (words (now (deferrals .exit))) in
+        let pool = poolOf (old .scratch) (k .concepts) in
+        ⌜ DidAtom (suc c) (λ env f s. headAtomFor env pool (λ h d u. emitBy env pool f h d u) c v s) k base old new r ⌝ }
 {
     let Visit::Begun(l) = k.visit() else {
         return Headed::Refused(10);
@@ -213,7 +232,11 @@ pub fn atomic_name_of(
     c: u32,
 ) -> Answer
     requires { ⌜ Emitting (now scratch) k base 1 c × Sized (length (now clauses)) (length (now atoms)) (length (now deferrals)) ⌝ }
-    ensures { λ r. ⌜ Did (λ q. q) (suc c) (λ env f b s. atomicNameOf env (poolOf (words (now (scratch .entry))) (k .concepts)) (λ h d u. emitBy env (poolOf (words (now (scratch .entry))) (k .concepts)) f h d u) c s) k base 0 (four (words (now (scratch .entry))) (words (now (clauses .entry))) (words (now (atoms .entry))) (words (now (deferrals .entry)))) (four (words (now (scratch .exit))) (words (now (clauses .exit))) (words (now (atoms .exit))) (words (now (deferrals .exit)))) r × Small r ⌝ }
+    ensures { λ r.
+        let old = four (words (now (scratch .entry))) (words (now (clauses .entry))) (words (now (atoms .entry))) (words (now (deferrals .entry))) in
+        let new = four (words (now (scratch .exit))) (words (now (clauses .exit))) (words (now (atoms .exit))) (words (now (deferrals .exit))) in
+        let pool = poolOf (old .scratch) (k .concepts) in
+        ⌜ Did (λ q. q) (suc c) (λ env f b s. atomicNameOf env pool (λ h d u. emitBy env pool f h d u) c s) k base 0 old new r × Small r ⌝ }
 {
     let Visit::Begun(l) = k.visit() else {
         return Answer::Refused(10);
@@ -235,7 +258,11 @@ fn name_new(
     c: u32,
 ) -> Answer
     requires { ⌜ Emitting (now scratch) k base 1 c × Sized (length (now clauses)) (length (now atoms)) (length (now deferrals)) × (k .«next_class» ≤ k .visits + 8191) ⌝ }
-    ensures { λ r. ⌜ Did (λ q. q) (suc c) (λ env f b s. nameOr env (poolOf (words (now (scratch .entry))) (k .concepts)) (λ h d u. emitBy env (poolOf (words (now (scratch .entry))) (k .concepts)) f h d u) c none s) k base 0 (four (words (now (scratch .entry))) (words (now (clauses .entry))) (words (now (atoms .entry))) (words (now (deferrals .entry)))) (four (words (now (scratch .exit))) (words (now (clauses .exit))) (words (now (atoms .exit))) (words (now (deferrals .exit)))) r × Small r ⌝ }
+    ensures { λ r.
+        let old = four (words (now (scratch .entry))) (words (now (clauses .entry))) (words (now (atoms .entry))) (words (now (deferrals .entry))) in
+        let new = four (words (now (scratch .exit))) (words (now (clauses .exit))) (words (now (atoms .exit))) (words (now (deferrals .exit))) in
+        let pool = poolOf (old .scratch) (k .concepts) in
+        ⌜ Did (λ q. q) (suc c) (λ env f b s. nameOr env pool (λ h d u. emitBy env pool f h d u) c none s) k base 0 old new r × Small r ⌝ }
 {
     let q = k.next_class;
     let l = k.fresh_class();

@@ -31,7 +31,10 @@ fn absorb_none(
     sup: u32,
 ) -> Answer
     requires { ⌜ Clausifying (now scratch) k × (sub < k .concepts) × (sup < k .concepts) × Sized (length (now clauses)) (length (now atoms)) (length (now deferrals)) ⌝ }
-    ensures { λ r. ⌜ Clausified (λ env. absorbNone env sub sup) k (four (words (now (scratch .entry))) (words (now (clauses .entry))) (words (now (atoms .entry))) (words (now (deferrals .entry)))) (four (words (now (scratch .exit))) (words (now (clauses .exit))) (words (now (atoms .exit))) (words (now (deferrals .exit)))) r ⌝ }
+    ensures { λ r.
+        let old = four (words (now (scratch .entry))) (words (now (clauses .entry))) (words (now (atoms .entry))) (words (now (deferrals .entry))) in
+        let new = four (words (now (scratch .exit))) (words (now (clauses .exit))) (words (now (atoms .exit))) (words (now (deferrals .exit))) in
+        ⌜ Clausified (λ env. absorbNone env sub sup) k old new r ⌝ }
     ensures { λ r. ⌜ ClausifyingAfter (now (scratch .exit)) r ⌝ }
 {
     match parts::head_alone(scratch, k, sub, sup) {
@@ -55,7 +58,10 @@ fn emit_soft(
     head: u32,
 ) -> Answer
     requires { ⌜ Clausifying (now scratch) k × (g < k .concepts) × (head < k .concepts) × Sized (length (now clauses)) (length (now atoms)) (length (now deferrals)) ⌝ }
-    ensures { λ r. ⌜ Did (λ _. 0) 0 (λ env f b s. givesHead env g head (poolOf (words (now (scratch .entry))) (k .concepts)) s) k handAt 0 (four (words (now (scratch .entry))) (words (now (clauses .entry))) (words (now (atoms .entry))) (words (now (deferrals .entry)))) (four (words (now (scratch .exit))) (words (now (clauses .exit))) (words (now (atoms .exit))) (words (now (deferrals .exit)))) r ⌝ }
+    ensures { λ r.
+        let old = four (words (now (scratch .entry))) (words (now (clauses .entry))) (words (now (atoms .entry))) (words (now (deferrals .entry))) in
+        let new = four (words (now (scratch .exit))) (words (now (clauses .exit))) (words (now (atoms .exit))) (words (now (deferrals .exit))) in
+        ⌜ Did (λ _. 0) 0 (λ env f b s. givesHead env g head (poolOf (old .scratch) (k .concepts)) s) k handAt 0 old new r ⌝ }
 {
     let l = k.restart_vars();
     match antecedents::encode_antecedent(scratch, l, g) {
@@ -80,7 +86,10 @@ fn absorb_some(
     sup: u32,
 ) -> Answer
     requires { ⌜ Clausifying (now scratch) k × (sub < k .concepts) × (sup < k .concepts) × Divided (now scratch) k sub soft hard × Sized (length (now clauses)) (length (now atoms)) (length (now deferrals)) ⌝ }
-    ensures { λ r. ⌜ Clausified (λ env. absorbSome env sup (run (words (now (scratch .entry))) softAt soft) (run (words (now (scratch .entry))) hardAt hard)) k (four (words (now (scratch .entry))) (words (now (clauses .entry))) (words (now (atoms .entry))) (words (now (deferrals .entry)))) (four (words (now (scratch .exit))) (words (now (clauses .exit))) (words (now (atoms .exit))) (words (now (deferrals .exit)))) r ⌝ }
+    ensures { λ r.
+        let old = four (words (now (scratch .entry))) (words (now (clauses .entry))) (words (now (atoms .entry))) (words (now (deferrals .entry))) in
+        let new = four (words (now (scratch .exit))) (words (now (clauses .exit))) (words (now (atoms .exit))) (words (now (deferrals .exit))) in
+        ⌜ Clausified (λ env. absorbSome env sup (run (old .scratch) softAt soft) (run (old .scratch) hardAt hard)) k old new r ⌝ }
     ensures { λ r. ⌜ ClausifyingAfter (now (scratch .exit)) r ⌝ }
 {
     match parts::head_over(scratch, k, hard, sub, sup) {
@@ -105,7 +114,10 @@ pub fn absorb_hard_antecedent(
     sup: u32,
 ) -> Answer
     requires { ⌜ Clausifying (now scratch) k × (sub < k .concepts) × (sup < k .concepts) × Sized (length (now clauses)) (length (now atoms)) (length (now deferrals)) ⌝ }
-    ensures { λ r. ⌜ Clausified (λ env. absorbHardAntecedent env sub sup) k (four (words (now (scratch .entry))) (words (now (clauses .entry))) (words (now (atoms .entry))) (words (now (deferrals .entry)))) (four (words (now (scratch .exit))) (words (now (clauses .exit))) (words (now (atoms .exit))) (words (now (deferrals .exit)))) r ⌝ }
+    ensures { λ r.
+        let old = four (words (now (scratch .entry))) (words (now (clauses .entry))) (words (now (atoms .entry))) (words (now (deferrals .entry))) in
+        let new = four (words (now (scratch .exit))) (words (now (clauses .exit))) (words (now (atoms .exit))) (words (now (deferrals .exit))) in
+        ⌜ Clausified (λ env. absorbHardAntecedent env sub sup) k old new r ⌝ }
     ensures { λ r. ⌜ ClausifyingAfter (now (scratch .exit)) r ⌝ }
 {
     match parts::partition(scratch, k, sub) {

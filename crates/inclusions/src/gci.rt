@@ -31,7 +31,10 @@ fn clausify_alternatives(
     sup: u32,
 ) -> Answer
     requires { ⌜ Clausifying (now scratch) k × (sub < k .concepts) × (sup < k .concepts) × Sized (length (now clauses)) (length (now atoms)) (length (now deferrals)) ⌝ }
-    ensures { λ r. ⌜ Clausified (λ env. clausifyGci env sub sup) k (four (words (now (scratch .entry))) (words (now (clauses .entry))) (words (now (atoms .entry))) (words (now (deferrals .entry)))) (four (words (now (scratch .exit))) (words (now (clauses .exit))) (words (now (atoms .exit))) (words (now (deferrals .exit)))) r ⌝ }
+    ensures { λ r.
+        let old = four (words (now (scratch .entry))) (words (now (clauses .entry))) (words (now (atoms .entry))) (words (now (deferrals .entry))) in
+        let new = four (words (now (scratch .exit))) (words (now (clauses .exit))) (words (now (atoms .exit))) (words (now (deferrals .exit))) in
+        ⌜ Clausified (λ env. clausifyGci env sub sup) k old new r ⌝ }
     ensures { λ r. ⌜ ClausifyingAfter (now (scratch .exit)) r ⌝ }
 {
     let l = k.restart_vars();
@@ -57,7 +60,10 @@ fn clausify_class(
     sup: u32,
 ) -> Answer
     requires { ⌜ Clausifying (now scratch) k × (sub < k .concepts) × (sup < k .concepts) × Sized (length (now clauses)) (length (now atoms)) (length (now deferrals)) × (field (words (now scratch)) sub 0 ≡ 3) ⌝ }
-    ensures { λ r. ⌜ Clausified (λ env. clausifyGci env sub sup) k (four (words (now (scratch .entry))) (words (now (clauses .entry))) (words (now (atoms .entry))) (words (now (deferrals .entry)))) (four (words (now (scratch .exit))) (words (now (clauses .exit))) (words (now (atoms .exit))) (words (now (deferrals .exit)))) r ⌝ }
+    ensures { λ r.
+        let old = four (words (now (scratch .entry))) (words (now (clauses .entry))) (words (now (atoms .entry))) (words (now (deferrals .entry))) in
+        let new = four (words (now (scratch .exit))) (words (now (clauses .exit))) (words (now (atoms .exit))) (words (now (deferrals .exit))) in
+        ⌜ Clausified (λ env. clausifyGci env sub sup) k old new r ⌝ }
     ensures { λ r. ⌜ ClausifyingAfter (now (scratch .exit)) r ⌝ }
 {
     let l = k.restart_vars();
@@ -79,7 +85,10 @@ pub fn clausify_gci(
     sup: u32,
 ) -> Answer
     requires { ⌜ Clausifying (now scratch) k × (sub < k .concepts) × (sup < k .concepts) × Sized (length (now clauses)) (length (now atoms)) (length (now deferrals)) ⌝ }
-    ensures { λ r. ⌜ Clausified (λ env. clausifyGci env sub sup) k (four (words (now (scratch .entry))) (words (now (clauses .entry))) (words (now (atoms .entry))) (words (now (deferrals .entry)))) (four (words (now (scratch .exit))) (words (now (clauses .exit))) (words (now (atoms .exit))) (words (now (deferrals .exit)))) r ⌝ }
+    ensures { λ r.
+        let old = four (words (now (scratch .entry))) (words (now (clauses .entry))) (words (now (atoms .entry))) (words (now (deferrals .entry))) in
+        let new = four (words (now (scratch .exit))) (words (now (clauses .exit))) (words (now (atoms .exit))) (words (now (deferrals .exit))) in
+        ⌜ Clausified (λ env. clausifyGci env sub sup) k old new r ⌝ }
     ensures { λ r. ⌜ ClausifyingAfter (now (scratch .exit)) r ⌝ }
 {
     if concept::kind(scratch, sub) == 3 {

@@ -15,10 +15,11 @@ use Rattle.rules.specs.Concept.{Axiom, InverseObjectProperties}
 use Rattle.rules.specs.Deck.{mostRoles, sectionOf, fixedOf, isListKind, fieldsOk, axiomOf}
 use Rattle.rules.specs.Inverse.{InverseCanon, declared, inverseOf, buildFrom}
 use Rattle.rules.specs.Invariants.{Bounds, RoleIn, AxiomIn}
-use Rattle.pool.specs.Layout.{tab, run}
-use Rattle.pool.specs.Tabs.{getD-tab, tab-each, tab-same}
+use Rattle.pool.specs.Layout.{tab}
+use Rattle.pool.specs.Tabs.{getD-tab, tab-each}
 use Rattle.deck.proofs.KindLaws.{axiom-kinds}
 use Rattle.ontology.specs.Layout.{axiomStart, axiomCount, axiomNumber, axiomRow, axiomAt, axiomsOf, AxiomsHeld}
+use Rattle.ontology.specs.KeptAxioms.{axiom-kept, axioms-kept, held-axioms}
 use Rattle.inverse.specs.Layout.{Mapped, Beside, Building}
 use Rattle.inverse.specs.BuildLaws.{beside-refl, beside-trans}
 
@@ -104,41 +105,21 @@ module _ (s : List ℕ) (n i : ℕ) (A : Building s n) (h : i < n) where
         ap (λ (x : ℕ). InverseObjectProperties (roleOf x) (roleOf t)) er ∙ ap (λ (x : ℕ). InverseObjectProperties (roleOf (axiomNumber (words s) i 1)) (roleOf x)) et ∙ sym (inverse-axiom (words s) n i (A .held) h k) in
         subst (λ (a : Axiom). Mapped w' (inverseOf m a) mostRoles) e (D m M)
 
--- ---- a write to the map leaves the axioms as they are
-module _ (s₀ s : List ℕ) (n : ℕ) (A : Building s₀ n) (B : Beside (words s₀) (words s)) (l : length s ≡ length s₀) where
-  start-kept : (i : ℕ) → axiomStart (words s) i ≡ axiomStart (words s₀) i
-  start-kept i = B .above (axiomsAt + 2 * i) (omega arith)
-
-  count-kept : (i : ℕ) → axiomCount (words s) i ≡ axiomCount (words s₀) i
-  count-kept i = B .above (axiomsAt + 2 * i + 1) (omega arith)
-
-  number-kept : (i j : ℕ) → axiomNumber (words s) i j ≡ axiomNumber (words s₀) i j
-  number-kept i j = rw (start-kept i) (B .above (numbersAt + axiomStart (words s₀) i + j) (omega arith))
-
-  axiom-kept : (i : ℕ) → axiomAt (words s) i ≡ axiomAt (words s₀) i
-  axiom-kept i =
-      let r : axiomRow (words s) i ≡ axiomRow (words s₀) i = ap (λ (x : ℕ). run (words s) (numbersAt + x) (axiomCount (words s) i)) (start-kept i) ∙ ap (run (words s) (numbersAt + axiomStart (words s₀) i)) (count-kept i)
-      ∙ tab-same (λ x. getD (words s) x 0) (λ x. getD (words s₀) x 0) _ _ (axiomCount (words s₀) i) (λ k h. B .above (numbersAt + axiomStart (words s₀) i + k) (omega arith)) in
-      ap (λ (x : ℕ). axiomOf x (axiomRow (words s) i)) (number-kept i 0) ∙ ap (axiomOf (axiomNumber (words s₀) i 0)) r
-
-  pub axioms-kept : axiomsOf (words s) n ≡ axiomsOf (words s₀) n
-  axioms-kept = tab-same (axiomAt (words s)) (axiomAt (words s₀)) 0 0 n (λ k h. axiom-kept (0 + k))
-
+-- ---- a write elsewhere leaves the axioms as they are
+module _ (s₀ s : List ℕ) (n : ℕ) (A : Building s₀ n) (K : (j : ℕ) → axiomsAt ≤ j → j < linesAt → getD (words s) j 0 ≡ getD (words s₀) j 0) (l : length s ≡ length s₀) where
   pub building-kept : Building s n
   building-kept = record {
     space = omega (arith, A .space);
-    held = record {
-      few = A .held .few;
-      within = λ i h. rw (start-kept i, count-kept i) (A .held .within i h);
-      apart = λ i j h k. rw (start-kept i, count-kept i, start-kept j) (A .held .apart i j h k);
-      kinds = λ i h. rw (number-kept i 0) (A .held .kinds i h);
-      fields = λ i h. rw (number-kept i 0, count-kept i) (A .held .fields i h);
-    };
+    held = held-axioms (words s₀) (words s) n (A .held) K;
     bounds = A .bounds;
     few = A .few;
     concepts = A .concepts;
-    inside = rw axioms-kept (A .inside);
+    inside = rw (axioms-kept (words s₀) (words s) n (A .held) K) (A .inside);
   }
+
+-- so does one to the map
+pub beside-axioms : (w w' : List ℕ) → Beside w w' → (j : ℕ) → axiomsAt ≤ j → j < linesAt → getD w' j 0 ≡ getD w j 0
+beside-axioms w w' B j h k = B .above j (omega arith)
 
 -- ---- the loop: of scratch's bytes s₀ before it and s now, i axioms are read
 pub record Reading (s₀ s : List ℕ) (n i : ℕ) : Type 0 where
@@ -163,7 +144,7 @@ reading-first s n A M = record {
 
 module _ (s₀ s : List ℕ) (n i : ℕ) (R : Reading s₀ s n i) where
   pub reading-asks : Building s n
-  reading-asks = building-kept s₀ s n (R .asked) (R .beside) (R .long)
+  reading-asks = building-kept s₀ s n (R .asked) (beside-axioms (words s₀) (words s) (R .beside)) (R .long)
 
   pub reading-next : i < n → (s' : List ℕ) → ((m : InverseCanon) → Mapped (words s) m mostRoles → Mapped (words s') (inverseOf m (axiomAt (words s) i)) mostRoles) → Beside (words s) (words s') → length s' ≡ length s → Reading s₀ s' n (i + 1)
   unfolding buildFrom tab
@@ -171,7 +152,7 @@ module _ (s₀ s : List ℕ) (n i : ℕ) (R : Reading s₀ s n i) where
     asked = R .asked;
     within = omega arith;
     map = inverseOf (R .map) (axiomAt (words s₀) i);
-    mapped = subst (λ (a : Axiom). Mapped (words s') (inverseOf (R .map) a) mostRoles) (axiom-kept s₀ s n (R .asked) (R .beside) (R .long) i) (M (R .map) (R .mapped));
+    mapped = subst (λ (a : Axiom). Mapped (words s') (inverseOf (R .map) a) mostRoles) (axiom-kept (words s₀) (words s) n (R .asked .held) (beside-axioms (words s₀) (words s) (R .beside)) i h) (M (R .map) (R .mapped));
     beside = beside-trans (words s₀) (words s) (words s') (R .beside) B;
     long = l ∙ R .long;
     rest = R .rest ∙ (let e : n - i ≡ suc (n - (i + 1)) = omega arith in rw e refl);

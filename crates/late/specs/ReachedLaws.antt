@@ -10,7 +10,7 @@ use Rattle.ir.specs.declared.answer.Answer.the-variants.{Done, Refused}
 use Rattle.rules.specs.Base.{Res, ok, refused}
 use Rattle.rules.specs.State.{Rooms, Out}
 use Rattle.rules.specs.Ends.{Ends, ends}
-use Rattle.tables.specs.Drawn.{Tables, tables, show, shown, after}
+use Rattle.tables.specs.Drawn.{Tables, tables, show, shown, after, countersIn}
 use Rattle.tables.specs.Good.{Alike}
 
 -- the rule's answer X is a state that stands in the tables
@@ -34,10 +34,6 @@ reached-not k rooms (ok u t) r n c a d e h =
 reached-not k rooms (refused m) r n c a d e h =
     let q : _≡_ {A = Res Tables ℕ} (refused n) (refused m) = subst (λ (z : Answer). after z c a d ≡ refused m) e h in
     cc
-
--- its counters
-abbrev countersIn : Tables → Counters
-countersIn (tables k c a d) = k
 
 pub drawn-like : (k l : Counters) (rooms : Rooms) (t : Out) (c a d : List ℕ) → tables l c a d ≡ show k rooms t → Alike k l
 unfolding show

@@ -26,7 +26,7 @@ use Rattle.ir.specs.declared.deferral.Deferral.the-variants.{HeadNotNonatomic}
 use Rattle.rules.specs.Base.{Res, ok, refused, then}
 use Rattle.rules.specs.State.{Env, Out, out, Rooms, push, with, defer, freshClass as newClass}
 use Rattle.rules.specs.Run.{flat}
-use Rattle.tables.specs.Drawn.{Tables, tables, show, shown, after, Lent}
+use Rattle.tables.specs.Drawn.{Tables, tables, show, shown, after, Lent, countersIn, clausesIn, atomsIn, deferralsIn}
 use Rattle.tables.specs.Good.{Good, GoodAnswer, Alike, KeptAnswer}
 use Rattle.hands.specs.Hands.{InHand, Four, four, EnvIn, EnvHeld, Did}
 use Rattle.hands.specs.HandLaws.{put-frame, hand-more}
@@ -156,18 +156,6 @@ vared s = out (s .visits) (s .limit) (s .nextVar + 1) (s .nextFresh) (s .clauses
 
 abbrev pub classed : Out → Out
 classed s = out (s .visits) (s .limit) (s .nextVar) (s .nextFresh + 1) (s .clauses) (s .deferrals) (s .line)
-
-abbrev countersIn : Tables → Counters
-countersIn (tables k c a d) = k
-
-abbrev clausesIn : Tables → List ℕ
-clausesIn (tables k c a d) = c
-
-abbrev atomsIn : Tables → List ℕ
-atomsIn (tables k c a d) = a
-
-abbrev deferralsIn : Tables → List ℕ
-deferralsIn (tables k c a d) = d
 
 module _ (k : Counters) (rooms : Rooms) (s : Out) (c a d : List ℕ) (e : tables k c a d ≡ show k rooms s) where
   pub drawn-tick : tables (tick k) c a d ≡ show k rooms (ticked s)

@@ -36,7 +36,11 @@ pub fn emit_named(
     v: u32,
 ) -> Answer
     requires { ⌜ Reading (now scratch) k × (c < k .concepts) × Restricts (conceptAt (words (now scratch)) c) × GoodAnswer named × KeptAnswer k named × Small named × (n ≤ 256) × (24 * (base + n + 1) ≤ length (now scratch)) × Sized (length (now clauses)) (length (now atoms)) 0 ⌝ }
-    ensures { λ r. ⌜ ((d : List ℕ) → DidAfter (λ env b q s. emitNamed env (poolOf (words (now (scratch .entry))) (k .concepts)) v (conceptAt (words (now (scratch .entry))) c) b q s) k named base n (four (words (now (scratch .entry))) (words (now (clauses .entry))) (words (now (atoms .entry))) d) (four (words (now (scratch .exit))) (words (now (clauses .exit))) (words (now (atoms .exit))) d) r) ⌝ }
+    ensures { λ r.
+        let w = words (now (scratch .entry)) in
+        let old = four w (words (now (clauses .entry))) (words (now (atoms .entry))) in
+        let new = four (words (now (scratch .exit))) (words (now (clauses .exit))) (words (now (atoms .exit))) in
+        ⌜ ((d : List ℕ) → DidAfter (λ env b q s. emitNamed env (poolOf w (k .concepts)) v (conceptAt w c) b q s) k named base n (old d) (new d) r) ⌝ }
 {
     let Answer::Done(l, q) = named else {
         return named;

@@ -132,7 +132,10 @@ pub fn name_negated(
     v: u32,
 ) -> Headed
     requires { ⌜ (handsAt ≤ 6 * base) × (24 * (base + 2) ≤ length (now scratch)) × Sized (length (now clauses)) (length (now atoms)) 0 × Good k × (k .«next_class» ≤ k .visits + 8191) × Fits a ⌝ }
-    ensures { λ r. ⌜ ((d : List ℕ) → DidAtom 0 (λ env f s. nameNegated env [] v a s) k base (four (words (now (scratch .entry))) (words (now (clauses .entry))) (words (now (atoms .entry))) d) (four (words (now (scratch .exit))) (words (now (clauses .exit))) (words (now (atoms .exit))) d) r) ⌝ }
+    ensures { λ r.
+        let old = four (words (now (scratch .entry))) (words (now (clauses .entry))) (words (now (atoms .entry))) in
+        let new = four (words (now (scratch .exit))) (words (now (clauses .exit))) (words (now (atoms .exit))) in
+        ⌜ ((d : List ℕ) → DidAtom 0 (λ env f s. nameNegated env [] v a s) k base (old d) (new d) r) ⌝ }
 {
     let q = k.next_class;
     let named = k.fresh_class();

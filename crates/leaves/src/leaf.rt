@@ -111,7 +111,10 @@ pub fn emit_leaf(
     leaf: Leaf,
 ) -> Answer
     requires { ⌜ (n ≤ 256) × (handsAt ≤ 6 * base) × (24 * (base + n + 1) ≤ length (now scratch)) × Sized (length (now clauses)) (length (now atoms)) (length (now deferrals)) × Good k × LeafFits leaf ⌝ }
-    ensures { λ r. ⌜ Did (λ _. 0) 0 (λ env f b s. emitLeaf env [] b leaf s) k base n (four (words (now (scratch .entry))) (words (now (clauses .entry))) (words (now (atoms .entry))) (words (now (deferrals .entry)))) (four (words (now (scratch .exit))) (words (now (clauses .exit))) (words (now (atoms .exit))) (words (now (deferrals .exit)))) r ⌝ }
+    ensures { λ r.
+        let old = four (words (now (scratch .entry))) (words (now (clauses .entry))) (words (now (atoms .entry))) (words (now (deferrals .entry))) in
+        let new = four (words (now (scratch .exit))) (words (now (clauses .exit))) (words (now (atoms .exit))) (words (now (deferrals .exit))) in
+        ⌜ Did (λ _. 0) 0 (λ env f b s. emitLeaf env [] b leaf s) k base n old new r ⌝ }
 {
     match leaf {
         Leaf::Nothing => Answer::Done(k, 0),

@@ -10,7 +10,7 @@ use Rattle.words.specs.Bytes.{Words}
 use Rattle.rules.specs.State.{total}
 use Rattle.rules.specs.Deck.{Known, fine, readDeck}
 use Rattle.rules.specs.DeckLaws.{boundsOf, read-in}
-use Rattle.rules.specs.Run.{Lengths, Accepted, Outcome, accepted, refused, Run, scratchBytes, visitLimit, firstFresh, roomsOf, tenNumbers, clauseRecords, atomRecords, clauseTable, atomTable}
+use Rattle.rules.specs.Run.{Lengths, Accepted, Outcome, accepted, refused, Run, scratchBytes, visitLimit, firstFresh, roomsOf, tenNumbers, clauseWords, atomWords, clauseRecords, atomRecords, clauseTable, atomTable}
 use Rattle.rules.specs.RunLaws.{Sized, AcceptedIn, run-outcome, run-accepted}
 use Rattle.rules.specs.DecodeLaws.{clause-records-long, atom-records-long, words-table, fits-words}
 use Rattle.rules.specs.Lister.{fieldsText, clausesText, outcomeText, listerLengths, listing}
@@ -73,8 +73,8 @@ module _ (deck : List ℕ) (t : Lengths) (x : Accepted) (q : Run deck t ≡ acce
       let n : x .stats .total ≡ length (x .clauses) = run-within .1 .counted in
       record {
         count = n;
-        clauses = ap (λ (w : List ℕ). take (3 * x .stats .total) w) (words-table (t .clauses) c (run-words .0)) ∙ take-at c (words (replicate (t .clauses - 4 * length c) 0)) (3 * x .stats .total) (omega (arith, n, clause-records-long 0 (x .clauses)));
-        atoms = ap (λ (w : List ℕ). take (6 * total (x .clauses)) w) (words-table (t .atoms) a (run-words .1)) ∙ take-at a (words (replicate (t .atoms - 4 * length a) 0)) (6 * total (x .clauses)) (atom-records-long (x .clauses));
+        clauses = ap (λ (w : List ℕ). take (clauseWords * x .stats .total) w) (words-table (t .clauses) c (run-words .0)) ∙ take-at c (words (replicate (t .clauses - 4 * length c) 0)) (clauseWords * x .stats .total) (omega (arith, n, clause-records-long 0 (x .clauses)));
+        atoms = ap (λ (w : List ℕ). take (atomWords * total (x .clauses)) w) (words-table (t .atoms) a (run-words .1)) ∙ take-at a (words (replicate (t .atoms - 4 * length a) 0)) (atomWords * total (x .clauses)) (atom-records-long (x .clauses));
       }
 
   run-fits : t ≡ listerLengths → 45 * length (x .clauses) + 78 * total (x .clauses) ≤ mostRows
@@ -126,8 +126,8 @@ module _ (deck : List ℕ) where
             list = x .clauses;
             tabled = record {
               count = R .count ∙ T .count;
-              clauses = ap₂ (λ (n : ℕ) (w : List ℕ). take (3 * n) (words w)) (R .count) c' ∙ T .clauses;
-              atoms = ap (λ (w : List ℕ). take (6 * total (x .clauses)) (words w)) a' ∙ T .atoms;
+              clauses = ap₂ (λ (n : ℕ) (w : List ℕ). take (clauseWords * n) (words w)) (R .count) c' ∙ T .clauses;
+              atoms = ap (λ (w : List ℕ). take (atomWords * total (x .clauses)) (words w)) a' ∙ T .atoms;
             };
             fits = omega (arith, R .count, T .count, run-fits deck t x (R .is) same);
           };

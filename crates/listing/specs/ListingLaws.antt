@@ -1,147 +1,105 @@
--- Laws of clauses in their tables: their text, its length, and a state's tables. Assumes nothing.
-use mathlib.Core.Path.{_≡_, refl, sym, ap, ap₂, _∙_}
+-- Laws of the text of clauses: its pieces and its length. Assumes nothing.
+use mathlib.Core.Path.{_≡_, refl, sym, ap, ap₂, subst, _∙_}
 use mathlib.Core.List.{List, [], _∷_, _++_, append-assoc}
-use Prim.Native.Nat.{ℕ, zero, suc, _+_, _*_, _-_, _<_, _≤_}
+use Prim.Native.Nat.{ℕ, zero, suc, _+_, _*_, _/_, _<_, _≤_}
 use native.Mathlib.Omega.{arith}
-use lib.ListN.{length, getD, take, drop, replicate, length-append, length-take, length-drop}
-use lib.Seq.{take-at}
+use lib.ListN.{length, getD, take, drop, length-append, length-take, length-drop, drop-of-length-le}
+use Rattle.words.specs.Words.{words}
 use Rattle.ir.specs.Records.{six}
-use Rattle.ir.specs.declared.counters.Counters.{Counters}
 use Rattle.ir.specs.declared.atom.Atom.{Atom}
-use Rattle.rules.specs.State.{Clause, Rooms, Out, total}
-use Rattle.rules.specs.Run.{flat, clauseRecords, atomRecords}
-use Rattle.rules.specs.DecodeLaws.{flat-long, atom-records-long, clause-records-long}
-use Rattle.rules.specs.Lister.{fieldText, fieldsText, atomsText, clausesText}
-use Rattle.tables.specs.Drawn.{padded, Tables, tables, show}
+use Rattle.rules.specs.State.{Clause, total}
+use Rattle.rules.specs.Run.{atomWords, flat}
+use Rattle.rules.specs.Lister.{fieldsText, atomsText, clausesText}
+use Rattle.tables.specs.Tabled.{At, Run, noClause, ClauseAt, Tabled, atomCount}
+use Rattle.tables.specs.TabledLaws.{at-front, at-back}
+use Rattle.tables.specs.AtomLaws.{run-at}
+use Rattle.tables.specs.ClauseLaws.{clause-at, clause-split}
 use Rattle.rows.specs.Rows.{Put, textsOf}
-use Rattle.rows.specs.RowLaws.{length-line, put-then, put-field-first}
-use Rattle.tables.specs.Tabled.{Tabled, firstAtom, atomCount}
-use Rattle.tables.specs.TabledLaws.{At, at-front, at-back, at-long, first-is, row-is, count-is, rest-is}
-use Rattle.listing.specs.Listing.{atomText, clauseText}
+use Rattle.rows.specs.RowLaws.{Left, left-all, left-more, left-fits, left-none, length-line, put-then}
+use Rattle.listing.specs.Listing.{Listable, atomText, clauseText, ListedTo}
 
-atoms-text : (m : List Atom) (a : List ℕ) (j : ℕ) → At a (6 * j) (flat m) → textsOf (atomText a) j (length m) ≡ atomsText m
+-- ---- the atoms of a run
+atoms-from : (m : List Atom) (w : List ℕ) (j : ℕ) → At w (atomWords * j) (flat m) → textsOf (atomText w) j (length m) ≡ atomsText m
 unfolding textsOf atomsText flat
-atoms-text [] a j e = refl
-atoms-text (x ∷ m) a j e =
-    let f : take 6 (drop (6 * j) a) ≡ six x = at-front a (6 * j) (six x) (flat m) e in
-    let g : At a (6 * (j + 1)) (flat m) = at-back a (6 * j) (six x) (flat m) e (6 * (j + 1)) (omega arith) in
-    ap₂ (λ (r t : List ℕ). fieldsText (42 ∷ r) ++ t) f (atoms-text m a (j + 1) g)
+atoms-from [] w j e = refl
+atoms-from (x ∷ m) w j e =
+    let f : take atomWords (drop (atomWords * j) w) ≡ six x = at-front w (atomWords * j) (six x) (flat m) e in
+    let g : At w (atomWords * (j + 1)) (flat m) = at-back w (atomWords * j) (six x) (flat m) e (atomWords * (j + 1)) (omega arith) in
+    ap₂ (λ (r t : List ℕ). fieldsText (42 ∷ r) ++ t) f (atoms-from m w (j + 1) g)
 
--- the clauses l stand from clause i on, their atoms from atom `first` on
-clauses-text : (l : List Clause) (c a : List ℕ) (i first : ℕ) → At c (3 * i) (clauseRecords first l) → At a (6 * first) (atomRecords l) → textsOf (clauseText c a) i (length l) ≡ clausesText i l
-unfolding textsOf clausesText clauseRecords atomRecords
-clauses-text [] c a i first e f = refl
-clauses-text (x ∷ l) c a i first e f =
-    let b = length (x .body) in
-    let h = length (x .head) in
-    let m = x .body ++ x .head in
-    let r = clauseRecords (first + length m) l in
-    let n : atomCount c i ≡ length m = count-is c i first b h r e ∙ sym (length-append (x .body) (x .head)) in
-    let t : textsOf (atomText a) (firstAtom c i) (atomCount c i) ≡ atomsText m = ap₂ (λ (j k : ℕ). textsOf (atomText a) j k) (first-is c i first b h r e) n ∙ atoms-text m a first (at-front a (6 * first) (flat m) (atomRecords l) f) in
-    let g : At a (6 * (first + length m)) (atomRecords l) = at-back a (6 * first) (flat m) (atomRecords l) f (6 * (first + length m)) (omega (arith, flat-long m)) in
-    let u : textsOf (clauseText c a) (i + 1) (length l) ≡ clausesText (i + 1) l = clauses-text l c a (i + 1) (first + length m) (rest-is c i first b h r e) g in
-    rw (row-is c i first b h r e, t, u) (append-assoc (fieldsText (41 ∷ i ∷ b ∷ h ∷ [])) (atomsText m) (clausesText (i + 1) l))
+pub run-text : (s : List ℕ) (n : ℕ) (l : List Atom) → n ≡ length s / (4 * atomWords) → Run s l → textsOf (atomText (words s)) 0 n ≡ atomsText l
+run-text s n l e R = let m : n ≡ length l = omega (arith, R .long) in rw m (atoms-from l (words s) 0 (run-at s l R))
 
--- the atoms of each of them lie within the l's
-clause-within : (l : List Clause) (c : List ℕ) (i first j : ℕ) → At c (3 * i) (clauseRecords first l) → j < length l → firstAtom c (i + j) + atomCount c (i + j) ≤ first + total l
-unfolding clauseRecords total
-clause-within [] c i first j e h = absurd (omega arith)
-clause-within (x ∷ l) c i first zero e h =
-    let m = x .body ++ x .head in
-    let r = clauseRecords (first + length m) l in
-    let z : i + 0 ≡ i = omega arith in
-    rw z (omega (arith, first-is c i first (length (x .body)) (length (x .head)) r e, count-is c i first (length (x .body)) (length (x .head)) r e, length-append (x .body) (x .head)))
-clause-within (x ∷ l) c i first (suc j) e h =
-    let m = x .body ++ x .head in
-    let r = clauseRecords (first + length m) l in
-    let z : i + suc j ≡ i + 1 + j = omega arith in
-    rw z (omega (arith, clause-within l c (i + 1) (first + length m) j (rest-is c i first (length (x .body)) (length (x .head)) r e) (omega arith)))
+module _ (w : List ℕ) where
+  pub atom-long : (j : ℕ) → atomWords * (j + 1) ≤ length w → length (atomText w j) ≡ 78
+  atom-long j h = rw (length-line (42 ∷ take atomWords (drop (atomWords * j) w))) (omega (arith, length-take atomWords (drop (atomWords * j) w), length-drop (atomWords * j) w))
 
--- ---- the text's length
-pub atoms-long : (m : List Atom) → length (atomsText m) ≡ 78 * length m
+  pub atom-texts-long : (n j : ℕ) → atomWords * (j + n) ≤ length w → length (textsOf (atomText w) j n) ≡ 78 * n
+  unfolding textsOf
+  atom-texts-long zero j h = refl
+  atom-texts-long (suc n) j h = omega (arith, length-append (atomText w j) (textsOf (atomText w) (j + 1) n), atom-long j (omega arith), atom-texts-long n (j + 1) (omega arith))
+
+-- ---- lengths
+atoms-long : (m : List Atom) → length (atomsText m) ≡ 78 * length m
 unfolding atomsText
 atoms-long [] = refl
 atoms-long (x ∷ m) = omega (arith, length-append (fieldsText (42 ∷ six x)) (atomsText m), length-line (42 ∷ six x), atoms-long m)
 
-pub clauses-long : (i : ℕ) (l : List Clause) → length (clausesText i l) ≡ 45 * length l + 78 * total l
-unfolding clausesText total
-clauses-long i [] = refl
-clauses-long i (x ∷ l) =
-    let t = fieldsText (41 ∷ i ∷ length (x .body) ∷ length (x .head) ∷ []) in
+text-long : (i : ℕ) (x : Clause) → length (clauseText i x) ≡ 45 + 78 * length (x .body ++ x .head)
+text-long i x =
+    let r : List ℕ = 41 ∷ i ∷ length (x .body) ∷ length (x .head) ∷ [] in
     let m = x .body ++ x .head in
-    omega (arith, length-append t (atomsText m ++ clausesText (i + 1) l), length-append (atomsText m) (clausesText (i + 1) l), length-line (41 ∷ i ∷ length (x .body) ∷ length (x .head) ∷ []), atoms-long m, clauses-long (i + 1) l)
+    omega (arith, length-append (fieldsText r) (atomsText m), length-line r, atoms-long m)
 
--- ---- clauses that stand in their tables
-module _ (c a : List ℕ) (n : ℕ) (l : List Clause) (T : Tabled c a n l) where
-  clauses-at : At c (3 * 0) (clauseRecords 0 l)
-  clauses-at = let e : length (clauseRecords 0 l) ≡ 3 * n = omega (arith, clause-records-long 0 l, T .count) in rw e (T .clauses)
+-- ---- the clauses one by one
+-- the two pieces of a clause's text
+pub clause-put : (i : ℕ) (x : Clause) (b h : ℕ) {s s' s'' : List ℕ} {at p q : ℕ} → b ≡ length (x .body) → h ≡ length (x .head)
+    → Put s at (fieldsText (41 ∷ i ∷ b ∷ h ∷ [])) s' p → Put s' p (atomsText (x .body ++ x .head)) s'' q → Put s at (clauseText i x) s'' q
+clause-put i x b h e f P Q = put-then (rw (e, f) at P) Q
 
-  atoms-at : At a (6 * 0) (atomRecords l)
-  atoms-at = rw (atom-records-long l) (T .atoms)
+text-first : (i : ℕ) (x : Clause) (l : List Clause) → clausesText i (x ∷ l) ≡ clauseText i x ++ clausesText (i + 1) l
+unfolding clausesText
+text-first i x l = sym (append-assoc (fieldsText (41 ∷ i ∷ length (x .body) ∷ length (x .head) ∷ [])) (atomsText (x .body ++ x .head)) (clausesText (i + 1) l))
 
-  pub tabled-text : textsOf (clauseText c a) 0 n ≡ clausesText 0 l
-  tabled-text = rw (T .count) (clauses-text l c a 0 0 clauses-at atoms-at)
+text-none : (i : ℕ) → clausesText i [] ≡ []
+unfolding clausesText
+text-none i = refl
 
-  pub tabled-long : length (textsOf (clauseText c a) 0 n) ≡ 45 * n + 78 * total l
-  tabled-long = rw (tabled-text, T .count) (clauses-long 0 l)
+pub clauses-long : (i : ℕ) (l : List Clause) → length (clausesText i l) ≡ 45 * length l + 78 * total l
+unfolding total
+clauses-long i [] = ap length (text-none i)
+clauses-long i (x ∷ l) = omega (arith, ap length (text-first i x l), length-append (clauseText i x) (clausesText (i + 1) l), text-long i x, clauses-long (i + 1) l)
 
-  pub tabled-clauses : 3 * n ≤ length c
-  tabled-clauses = omega (arith, at-long c (3 * 0) (clauseRecords 0 l) clauses-at, clause-records-long 0 l, T .count)
+-- ---- the clauses of the tables
+module _ (c a : List ℕ) (n : ℕ) (s : List ℕ) (at : ℕ) where
+  pub listed-none : ListedTo c a n s at s at 0
+  listed-none = record { here = omega arith; left = λ l _. left-all s at (clausesText 0 l) }
 
-  pub tabled-total : 6 * total l ≤ length a
-  tabled-total = omega (arith, at-long a (6 * 0) (atomRecords l) atoms-at, atom-records-long l)
+  module _ (s' : List ℕ) (p i : ℕ) (L : ListedTo c a n s at s' p i) where
+    pub listed-same : Listable c a n at (length s) → length s' ≡ length s
+    listed-same A = L .left (A .list) (A .tabled) .long
 
-  pub tabled-atoms : (i : ℕ) → i < n → 6 * (firstAtom c i + atomCount c i) ≤ length a
-  tabled-atoms i h =
-      let z : 0 + i ≡ i = omega arith in
-      let w = rw z at (clause-within l c 0 0 i clauses-at (omega (arith, T .count))) in
-      omega (arith, w, tabled-total)
+    next : i < n → (l : List Clause) → Tabled c a n l → Left s at (clausesText 0 l) s' p (clauseText i (getD l i noClause) ++ clausesText (i + 1) (drop (i + 1) l))
+    next h l T =
+        let x = getD l i noClause in
+        subst (Left s at (clausesText 0 l) s' p) (ap (clausesText i) (clause-split c a n l T i h) ∙ text-first i x (drop (i + 1) l)) (L .left l T)
 
--- a state's clauses stand in its tables
-module _ (k k' : Counters) (rooms : Rooms) (s : Out) (c a d : List ℕ) (e : tables k c a d ≡ show k' rooms s) where
-  pub shown-tabled : Tabled c a (k .clauses) (s .clauses)
-  unfolding show padded
-  shown-tabled =
-      let n : k .clauses ≡ length (s .clauses) = ap (λ (t : Tables). countsIn t) e in
-      let r = clauseRecords 0 (s .clauses) in
-      let q = atomRecords (s .clauses) in
-      record {
-        count = n;
-        clauses = ap (λ (t : Tables). take (3 * k .clauses) (clausesIn t)) e ∙ take-at r (replicate (3 * rooms .clauses - length r) 0) (3 * k .clauses) (omega (arith, clause-records-long 0 (s .clauses)));
-        atoms = ap (λ (t : Tables). take (6 * total (s .clauses)) (atomsIn t)) e ∙ take-at q (replicate (6 * rooms .atoms - length q) 0) (6 * total (s .clauses)) (atom-records-long (s .clauses));
-      }
-    where
-      countsIn : Tables → ℕ
-      countsIn (tables k c a d) = k .clauses
+    -- there is room for the next
+    pub listed-fits : Listable c a n at (length s) → i < n → p + 45 + 78 * atomCount c i ≤ length s'
+    listed-fits A h =
+        let l = A .list in
+        let x = getD l i noClause in
+        let C = clause-at c a n l (A .tabled) i h in
+        let f = left-fits s at (clausesText 0 l) s' p (clauseText i x) (clausesText (i + 1) (drop (i + 1) l)) (next h l (A .tabled)) (omega (arith, A .fits, clauses-long 0 l, A .tabled .count)) in
+        omega (arith, f, text-long i x, length-append (x .body) (x .head), C .body, C .head)
 
-      clausesIn : Tables → List ℕ
-      clausesIn (tables k c a d) = c
+    pub listed-next : i < n → (s'' : List ℕ) (q : ℕ) → ((x : Clause) → ClauseAt c a i x → Put s' p (clauseText i x) s'' q) → ListedTo c a n s at s'' q (i + 1)
+    listed-next h s'' q P = record {
+      here = omega arith;
+      left = λ l T. let x = getD l i noClause in left-more s at (clausesText 0 l) s' p (clauseText i x) (clausesText (i + 1) (drop (i + 1) l)) s'' q (next h l T) (P x (clause-at c a n l T i h));
+    }
 
-      atomsIn : Tables → List ℕ
-      atomsIn (tables k c a d) = a
-
--- ---- the lengths of texts from the tables
-module _ (a : List ℕ) where
-  pub atom-long : (j : ℕ) → 6 * (j + 1) ≤ length a → length (atomText a j) ≡ 78
-  atom-long j h = rw (length-line (42 ∷ take 6 (drop (6 * j) a))) (omega (arith, length-take 6 (drop (6 * j) a), length-drop (6 * j) a))
-
-  pub atom-texts-long : (n j : ℕ) → 6 * (j + n) ≤ length a → length (textsOf (atomText a) j n) ≡ 78 * n
-  unfolding textsOf
-  atom-texts-long zero j h = refl
-  atom-texts-long (suc n) j h = omega (arith, length-append (atomText a j) (textsOf (atomText a) (j + 1) n), atom-long j (omega arith), atom-texts-long n (j + 1) (omega arith))
-
-pub row-long : (c : List ℕ) (i : ℕ) → 3 * (i + 1) ≤ length c → length (fieldsText (i ∷ take 2 (drop (3 * i + 1) c))) ≡ 34
-row-long c i h = rw (length-line (i ∷ take 2 (drop (3 * i + 1) c))) (omega (arith, length-take 2 (drop (3 * i + 1) c), length-drop (3 * i + 1) c))
-
-pub clause-long : (c a : List ℕ) (i : ℕ) → 3 * (i + 1) ≤ length c → 6 * (firstAtom c i + atomCount c i) ≤ length a → length (clauseText c a i) ≡ 45 + 78 * atomCount c i
-clause-long c a i h k =
-    let t : List ℕ = 41 ∷ i ∷ take 2 (drop (3 * i + 1) c) in
-    omega (arith, length-append (fieldsText t) (textsOf (atomText a) (firstAtom c i) (atomCount c i)), length-line t, length-take 2 (drop (3 * i + 1) c), length-drop (3 * i + 1) c, atom-texts-long a (atomCount c i) (firstAtom c i) k)
-
--- the three pieces of a clause's text
-pub clause-put : (c a : List ℕ) (i first bodies heads : ℕ) {s s' s'' s''' : List ℕ} {at p q r : ℕ}
-    → first ≡ getD c (3 * i) 0 → bodies ≡ getD c (3 * i + 1) 0 → heads ≡ getD c (3 * i + 2) 0
-    → Put s at (fieldText 41) s' p → Put s' p (fieldsText (i ∷ take 2 (drop (3 * i + 1) c))) s'' q → Put s'' q (textsOf (atomText a) first (bodies + heads)) s''' r
-    → Put s at (clauseText c a i) s''' r
-clause-put c a i first bodies heads {s} {s'} {s''} {s'''} {at} {p} {q} {r} e f g x y z =
-    put-then (put-field-first 41 (i ∷ take 2 (drop (3 * i + 1) c)) x y) (rw (e, f, g) at z)
+    pub listed-end : n ≤ i → (l : List Clause) → Tabled c a n l → Put s at (clausesText 0 l) s' p
+    listed-end h l T =
+        let z : length l ≤ i = omega (arith, T .count) in
+        left-none s at (clausesText 0 l) s' p (subst (Left s at (clausesText 0 l) s' p) (ap (clausesText i) (drop-of-length-le l z) ∙ text-none i) (L .left l T))

@@ -28,7 +28,10 @@ fn disjoint_with(
     deferred: bool,
 ) -> Answer
     requires { ⌜ Clausifying (now scratch) k × Listed (words (now scratch)) k at count × (i < count) × Sized (length (now clauses)) (length (now atoms)) (length (now deferrals)) ⌝ }
-    ensures { λ r. ⌜ Clausified (λ env. forEach (disjointPair env (unencoded env deferred)) (paired (getD (words (now (scratch .entry))) (at + i) 0) (run (words (now (scratch .entry))) (at + i + 1) (count - (i + 1))) [])) k (four (words (now (scratch .entry))) (words (now (clauses .entry))) (words (now (atoms .entry))) (words (now (deferrals .entry)))) (four (words (now (scratch .exit))) (words (now (clauses .exit))) (words (now (atoms .exit))) (words (now (deferrals .exit)))) r ⌝ }
+    ensures { λ r.
+        let old = four (words (now (scratch .entry))) (words (now (clauses .entry))) (words (now (atoms .entry))) (words (now (deferrals .entry))) in
+        let new = four (words (now (scratch .exit))) (words (now (clauses .exit))) (words (now (atoms .exit))) (words (now (deferrals .exit))) in
+        ⌜ Clausified (λ env. forEach (disjointPair env (unencoded env deferred)) (paired (getD (old .scratch) (at + i) 0) (run (old .scratch) (at + i + 1) (count - (i + 1))) [])) k old new r ⌝ }
     ensures { λ r. ⌜ ClausifyingAfter (now (scratch .exit)) r ⌝ }
 {
     let mut l = k;
@@ -61,7 +64,10 @@ pub fn disjoint(
     deferred: bool,
 ) -> Answer
     requires { ⌜ Clausifying (now scratch) k × Listed (words (now scratch)) k at count × Sized (length (now clauses)) (length (now atoms)) (length (now deferrals)) ⌝ }
-    ensures { λ r. ⌜ Clausified (λ env. forEach (disjointPair env (unencoded env deferred)) (laterPairs (run (words (now (scratch .entry))) at count))) k (four (words (now (scratch .entry))) (words (now (clauses .entry))) (words (now (atoms .entry))) (words (now (deferrals .entry)))) (four (words (now (scratch .exit))) (words (now (clauses .exit))) (words (now (atoms .exit))) (words (now (deferrals .exit)))) r ⌝ }
+    ensures { λ r.
+        let old = four (words (now (scratch .entry))) (words (now (clauses .entry))) (words (now (atoms .entry))) (words (now (deferrals .entry))) in
+        let new = four (words (now (scratch .exit))) (words (now (clauses .exit))) (words (now (atoms .exit))) (words (now (deferrals .exit))) in
+        ⌜ Clausified (λ env. forEach (disjointPair env (unencoded env deferred)) (laterPairs (run (old .scratch) at count))) k old new r ⌝ }
     ensures { λ r. ⌜ ClausifyingAfter (now (scratch .exit)) r ⌝ }
 {
     let mut l = k;

@@ -26,7 +26,10 @@ fn equivalent_to(
     i: u32,
 ) -> Answer
     requires { ⌜ Clausifying (now scratch) k × Listed (words (now scratch)) k at count × (i < count) × Sized (length (now clauses)) (length (now atoms)) (length (now deferrals)) ⌝ }
-    ensures { λ r. ⌜ Clausified (λ env. forEach (λ p. clausifyGci env (p .0) (p .1)) (withOthers (i, getD (words (now (scratch .entry))) (at + i) 0) (numbered 0 (run (words (now (scratch .entry))) at count)) [])) k (four (words (now (scratch .entry))) (words (now (clauses .entry))) (words (now (atoms .entry))) (words (now (deferrals .entry)))) (four (words (now (scratch .exit))) (words (now (clauses .exit))) (words (now (atoms .exit))) (words (now (deferrals .exit)))) r ⌝ }
+    ensures { λ r.
+        let old = four (words (now (scratch .entry))) (words (now (clauses .entry))) (words (now (atoms .entry))) (words (now (deferrals .entry))) in
+        let new = four (words (now (scratch .exit))) (words (now (clauses .exit))) (words (now (atoms .exit))) (words (now (deferrals .exit))) in
+        ⌜ Clausified (λ env. forEach (λ p. clausifyGci env (p .0) (p .1)) (withOthers (i, getD (old .scratch) (at + i) 0) (numbered 0 (run (old .scratch) at count)) [])) k old new r ⌝ }
     ensures { λ r. ⌜ ClausifyingAfter (now (scratch .exit)) r ⌝ }
 {
     let mut l = k;
@@ -60,7 +63,10 @@ pub fn equivalent(
     count: u32,
 ) -> Answer
     requires { ⌜ Clausifying (now scratch) k × Listed (words (now scratch)) k at count × Sized (length (now clauses)) (length (now atoms)) (length (now deferrals)) ⌝ }
-    ensures { λ r. ⌜ Clausified (λ env. forEach (λ p. clausifyGci env (p .0) (p .1)) (orderedPairs (run (words (now (scratch .entry))) at count))) k (four (words (now (scratch .entry))) (words (now (clauses .entry))) (words (now (atoms .entry))) (words (now (deferrals .entry)))) (four (words (now (scratch .exit))) (words (now (clauses .exit))) (words (now (atoms .exit))) (words (now (deferrals .exit)))) r ⌝ }
+    ensures { λ r.
+        let old = four (words (now (scratch .entry))) (words (now (clauses .entry))) (words (now (atoms .entry))) (words (now (deferrals .entry))) in
+        let new = four (words (now (scratch .exit))) (words (now (clauses .exit))) (words (now (atoms .exit))) (words (now (deferrals .exit))) in
+        ⌜ Clausified (λ env. forEach (λ p. clausifyGci env (p .0) (p .1)) (orderedPairs (run (old .scratch) at count))) k old new r ⌝ }
     ensures { λ r. ⌜ ClausifyingAfter (now (scratch .exit)) r ⌝ }
 {
     let mut l = k;

@@ -26,7 +26,11 @@ fn disjoint_roles_with(
     i: u32,
 ) -> Answer
     requires { ⌜ Clausifying (now scratch) k × RolesListed (words (now scratch)) at count × (i < count) × Sized (length (now clauses)) (length (now atoms)) 0 ⌝ }
-    ensures { λ r. ⌜ ((d : List ℕ) → Clausified (λ env. forEach (pairDisjoint env) (paired (roleOf (getD (words (now (scratch .entry))) (at + i) 0)) (map roleOf (run (words (now (scratch .entry))) (at + i + 1) (count - (i + 1)))) [])) k (four (words (now (scratch .entry))) (words (now (clauses .entry))) (words (now (atoms .entry))) d) (four (words (now (scratch .exit))) (words (now (clauses .exit))) (words (now (atoms .exit))) d) r) ⌝ }
+    ensures { λ r.
+        let w = words (now (scratch .entry)) in
+        let old = four w (words (now (clauses .entry))) (words (now (atoms .entry))) in
+        let new = four (words (now (scratch .exit))) (words (now (clauses .exit))) (words (now (atoms .exit))) in
+        ⌜ ((d : List ℕ) → Clausified (λ env. forEach (pairDisjoint env) (paired (roleOf (getD w (at + i) 0)) (map roleOf (run w (at + i + 1) (count - (i + 1)))) [])) k (old d) (new d) r) ⌝ }
     ensures { λ r. ⌜ ClausifyingAfter (now (scratch .exit)) r ⌝ }
 {
     let mut l = k;
@@ -59,7 +63,11 @@ pub fn disjoint_roles(
     count: u32,
 ) -> Answer
     requires { ⌜ Clausifying (now scratch) k × RolesListed (words (now scratch)) at count × Sized (length (now clauses)) (length (now atoms)) 0 ⌝ }
-    ensures { λ r. ⌜ ((d : List ℕ) → Clausified (λ env. forEach (pairDisjoint env) (laterPairs (map roleOf (run (words (now (scratch .entry))) at count)))) k (four (words (now (scratch .entry))) (words (now (clauses .entry))) (words (now (atoms .entry))) d) (four (words (now (scratch .exit))) (words (now (clauses .exit))) (words (now (atoms .exit))) d) r) ⌝ }
+    ensures { λ r.
+        let w = words (now (scratch .entry)) in
+        let old = four w (words (now (clauses .entry))) (words (now (atoms .entry))) in
+        let new = four (words (now (scratch .exit))) (words (now (clauses .exit))) (words (now (atoms .exit))) in
+        ⌜ ((d : List ℕ) → Clausified (λ env. forEach (pairDisjoint env) (laterPairs (map roleOf (run w at count)))) k (old d) (new d) r) ⌝ }
     ensures { λ r. ⌜ ClausifyingAfter (now (scratch .exit)) r ⌝ }
 {
     let mut l = k;

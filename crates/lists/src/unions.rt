@@ -28,7 +28,10 @@ fn union_members(
     count: u32,
 ) -> Answer
     requires { ⌜ Clausifying (now scratch) k × Listed (words (now scratch)) k at count × (class + 1 < 2 ^ 32) × Sized (length (now clauses)) (length (now atoms)) (length (now deferrals)) ⌝ }
-    ensures { λ r. ⌜ Clausified (λ env. forEach (unionMember env class) (run (words (now (scratch .entry))) at count)) k (four (words (now (scratch .entry))) (words (now (clauses .entry))) (words (now (atoms .entry))) (words (now (deferrals .entry)))) (four (words (now (scratch .exit))) (words (now (clauses .exit))) (words (now (atoms .exit))) (words (now (deferrals .exit)))) r ⌝ }
+    ensures { λ r.
+        let old = four (words (now (scratch .entry))) (words (now (clauses .entry))) (words (now (atoms .entry))) (words (now (deferrals .entry))) in
+        let new = four (words (now (scratch .exit))) (words (now (clauses .exit))) (words (now (atoms .exit))) (words (now (deferrals .exit))) in
+        ⌜ Clausified (λ env. forEach (unionMember env class) (run (old .scratch) at count)) k old new r ⌝ }
     ensures { λ r. ⌜ ClausifyingAfter (now (scratch .exit)) r ⌝ }
 {
     let mut l = k;
@@ -60,7 +63,10 @@ pub fn union(
     count: u32,
 ) -> Answer
     requires { ⌜ Clausifying (now scratch) k × Listed (words (now scratch)) k at count × (class + 1 < 2 ^ 32) × Sized (length (now clauses)) (length (now atoms)) (length (now deferrals)) ⌝ }
-    ensures { λ r. ⌜ Clausified (λ env. clausifyAxiom env (DisjointUnion class (run (words (now (scratch .entry))) at count))) k (four (words (now (scratch .entry))) (words (now (clauses .entry))) (words (now (atoms .entry))) (words (now (deferrals .entry)))) (four (words (now (scratch .exit))) (words (now (clauses .exit))) (words (now (atoms .exit))) (words (now (deferrals .exit)))) r ⌝ }
+    ensures { λ r.
+        let old = four (words (now (scratch .entry))) (words (now (clauses .entry))) (words (now (atoms .entry))) (words (now (deferrals .entry))) in
+        let new = four (words (now (scratch .exit))) (words (now (clauses .exit))) (words (now (atoms .exit))) (words (now (deferrals .exit))) in
+        ⌜ Clausified (λ env. clausifyAxiom env (DisjointUnion class (run (old .scratch) at count))) k old new r ⌝ }
     ensures { λ r. ⌜ ClausifyingAfter (now (scratch .exit)) r ⌝ }
 {
     match disjoints::disjoint(scratch, clauses, atoms, deferrals, k, at, count, false) {

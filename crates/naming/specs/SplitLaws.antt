@@ -7,6 +7,7 @@ use Prim.Native.Nat.{ℕ, zero, suc, _+_, _*_, _-_, _≤_, _<_}
 use native.Mathlib.Omega.{arith}
 use lib.ListN.{length, getD, take, drop}
 use lib.Dec.{ltb}
+use Rattle.words.specs.Words.{words}
 use Rattle.ir.specs.Records.{six}
 use Rattle.ir.specs.declared.atom.Atom.{Atom}
 use Rattle.rules.specs.Base.{Res, ok, refused, then}
@@ -14,18 +15,20 @@ use Rattle.rules.specs.Run.{flat}
 use Rattle.rules.specs.Invariants.{Each}
 use Rattle.rules.specs.Branches.{maxBodyVars, bodyVarCountFrom, reducedTo, nameBy}
 use Rattle.rules.specs.Branches as Rules
+use Rattle.tables.specs.Tabled.{Run}
 use Rattle.tables.specs.TabledLaws.{At, at-front, at-back}
-use Rattle.branches.specs.Layout.{bodyAt}
+use Rattle.tables.specs.AtomLaws.{part-run}
+use Rattle.branches.specs.Layout.{bodyAt, copyAt, workWords}
 use Rattle.branches.specs.Wide.{AtomsAre, AtomsThere}
 use Rattle.branches.specs.Memo.{Tame, TameThere, NamedHeld, NamedThere}
 use Rattle.branches.specs.Edges.{KeepIs, EdgeIs, anyAtom, fronted, splits}
 use Rattle.branches.specs.Grouped.{OnlyRecords}
-use Rattle.naming.specs.Names.{To, ReducedBy, OnlyNames}
-use Rattle.naming.specs.Splits.{splitRule, SplitBy}
 use Rattle.branches.specs.NameLaws.{atoms-same}
 use Rattle.branches.specs.InsertLaws.{at-join}
-use Rattle.naming.specs.AgreeLaws.{at-stay, named-stay, named-there-stay}
 use Rattle.branches.specs.declared.memo.Naming.{Naming}
+use Rattle.naming.specs.Names.{To, ReducedBy, OnlyNames}
+use Rattle.naming.specs.Splits.{splitRule, SplitBy}
+use Rattle.naming.specs.AgreeLaws.{at-stay, named-stay, named-there-stay}
 use Rattle.naming.specs.declared.name.Reduced.the-variants as Reduceds
 
 pub keep-none : (w : List ℕ) → KeepIs w 0 []
@@ -36,6 +39,11 @@ there-of w base count T = record { list = T .list; are = T .are }
 
 pub tame-of : (w : List ℕ) (base count : ℕ) (l : List Atom) → TameThere w base count → AtomsAre w base count l → Each Tame l
 tame-of w base count l T A = subst (Each Tame) (atoms-same w base count (T .list) l (T .are) A) (T .tame)
+
+-- the atoms as a part of scratch's bytes s
+pub part-of : (s : List ℕ) (base count : ℕ) (l : List Atom) → base + count ≤ copyAt → 4 * workWords ≤ length s → AtomsAre (words s) base count l
+    → Run (take (24 * (base + count) - 24 * base) (drop (24 * base) s)) l
+part-of s base count l h k A = part-run s base count (24 * (base + count)) l refl (omega arith) (A .long) (A .there)
 
 -- ---- a child that is not split
 module _ (w : List ℕ) (base count : ℕ) (s : Naming) (l : List Atom) (root t : ℕ) (z : Rules.Naming) (f : ℕ) (A : AtomsAre w base count l) (p : Each Tame l) (H : NamedHeld w s z) where

@@ -42,7 +42,9 @@ fn split_group(scratch: &mut [u8], s: Naming, base: usize, count: u32, root: u32
     ensures { λ r. ⌜ ((l : List Atom) (z : Rules.Naming) (f : ℕ) → AtomsAre (words (now (scratch .entry))) base count l → NamedHeld (words (now (scratch .entry))) s z → count ≤ f → SplitBy (words (now (scratch .exit))) base count s (splitRule f l root t z) r) ⌝ }
     ensures { λ _. ⌜ OnlyNames base count (words (now (scratch .entry))) (words (now (scratch .exit))) ⌝ }
 {
-    if !vars::is_wide(scratch, base, count, root) {
+    let from = 24 * base;
+    let to = 24 * (base + count as usize);
+    if !vars::is_wide(&scratch[from..to], root) {
         return Reduced::To(s, count);
     }
     let e = edges::only_edge(scratch, base, count, root, t);

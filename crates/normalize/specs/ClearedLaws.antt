@@ -19,7 +19,7 @@ use Rattle.normalize.specs.Axioms.{afterAxioms, toldLined, HeldLined, No
 use Rattle.normalize.specs.Known.{Known}
 use Rattle.normalize.specs.KnownLaws.{known-nothing}
 use Rattle.normalize.specs.KeptLaws.{Under, under-sets}
-use Rattle.normalize.specs.KeptAxioms.{axioms-kept, held-axioms}
+use Rattle.ontology.specs.KeptAxioms.{axioms-kept, held-axioms}
 
 module _ (s s' : List ℕ) (k : Counters) (n : ℕ) (A : NormalizingAxioms s k n) (e : words s' ≡ sets (words s) normalFormsAt (replicate 4096 0)) (l : length s' ≡ length s) where
   abbrev zeros : List ℕ

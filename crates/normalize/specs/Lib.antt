@@ -9,7 +9,6 @@ pub mod KeptLaws
 pub mod KnownLaws
 pub mod AxiomRows
 pub mod AxiomLaws
-pub mod KeptAxioms
 pub mod AxiomTurns
 pub mod ClearedLaws
 pub mod Loaded

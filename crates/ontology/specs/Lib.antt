@@ -1,3 +1,4 @@
 pub mod Layout
 pub mod Lines
 pub mod Loads
+pub mod KeptAxioms

@@ -6,7 +6,7 @@ use Prim.Native.Nat.{ℕ, zero, suc, _+_, _*_, _-_, _<_, _≤_}
 use native.Mathlib.Omega.{arith}
 use native.Mathlib.Nat.{zero-add}
 use borrow.Author.Tests.{eqb-true, leb-true}
-use lib.ListN.{length, getD, drop}
+use lib.ListN.{getD, drop}
 use Rattle.words.specs.Words.{words}
 use Rattle.ir.specs.Scratch.{axiomsAt, numbersAt, linesAt}
 use Rattle.ir.specs.Roles.{roleOf}
@@ -18,7 +18,7 @@ use Rattle.rules.specs.Reflexive.{canonId, declaredReflexive, edgesAmong, roleE
 use Rattle.deck.proofs.KindLaws.{axiom-kinds}
 use Rattle.pool.specs.Layout.{tab, run}
 use Rattle.pool.specs.Tabs.{getD-tab, tab-each, tab-same}
-use Rattle.ontology.specs.Layout.{axiomStart, axiomCount, axiomNumber, axiomRow, axiomAt, axiomsOf}
+use Rattle.ontology.specs.Layout.{axiomStart, axiomCount, axiomNumber, axiomRow, axiomAt}
 use Rattle.inverse.specs.Layout.{RolesHeld, Building}
 use Rattle.inverse.specs.AxiomLaws.{code-small}
 use Rattle.reflexive.specs.Flags.{OnlyFlags}
@@ -146,37 +146,5 @@ module _ (s : List ℕ) (n i : ℕ) (A : Building s n) (h : i < n) where
           sym (ap (roleEdges env) e ∙ ap (λ (x : List ℕ). edgesAmong env x x) p)
 
 -- ---- flags leave the axioms as they are
-module _ (s₀ s : List ℕ) (n : ℕ) (A : Building s₀ n) (O : OnlyFlags (words s₀) (words s)) (l : length s ≡ length s₀) where
-  start-kept : (i : ℕ) → axiomStart (words s) i ≡ axiomStart (words s₀) i
-  start-kept i = O .behind (axiomsAt + 2 * i) (omega arith)
-
-  count-kept : (i : ℕ) → axiomCount (words s) i ≡ axiomCount (words s₀) i
-  count-kept i = O .behind (axiomsAt + 2 * i + 1) (omega arith)
-
-  number-kept : (i j : ℕ) → axiomNumber (words s) i j ≡ axiomNumber (words s₀) i j
-  number-kept i j = rw (start-kept i) (O .behind (numbersAt + axiomStart (words s₀) i + j) (omega arith))
-
-  pub axiom-kept : (i : ℕ) → axiomAt (words s) i ≡ axiomAt (words s₀) i
-  axiom-kept i =
-      let r : axiomRow (words s) i ≡ axiomRow (words s₀) i = ap (λ (x : ℕ). run (words s) (numbersAt + x) (axiomCount (words s) i)) (start-kept i) ∙ ap (run (words s) (numbersAt + axiomStart (words s₀) i)) (count-kept i)
-      ∙ tab-same (λ x. getD (words s) x 0) (λ x. getD (words s₀) x 0) _ _ (axiomCount (words s₀) i) (λ k h. O .behind (numbersAt + axiomStart (words s₀) i + k) (omega arith)) in
-      ap (λ (x : ℕ). axiomOf x (axiomRow (words s) i)) (number-kept i 0) ∙ ap (axiomOf (axiomNumber (words s₀) i 0)) r
-
-  pub axioms-kept : axiomsOf (words s) n ≡ axiomsOf (words s₀) n
-  axioms-kept = tab-same (axiomAt (words s)) (axiomAt (words s₀)) 0 0 n (λ k h. axiom-kept (0 + k))
-
-  pub building-kept : Building s n
-  building-kept = record {
-    space = omega (arith, A .space);
-    held = record {
-      few = A .held .few;
-      within = λ i h. rw (start-kept i, count-kept i) (A .held .within i h);
-      apart = λ i j h k. rw (start-kept i, count-kept i, start-kept j) (A .held .apart i j h k);
-      kinds = λ i h. rw (number-kept i 0) (A .held .kinds i h);
-      fields = λ i h. rw (number-kept i 0, count-kept i) (A .held .fields i h);
-    };
-    bounds = A .bounds;
-    few = A .few;
-    concepts = A .concepts;
-    inside = rw axioms-kept (A .inside);
-  }
+pub flags-axioms : (w w' : List ℕ) → OnlyFlags w w' → (j : ℕ) → axiomsAt ≤ j → j < linesAt → getD w' j 0 ≡ getD w j 0
+flags-axioms w w' O j h k = O .behind j (omega arith)

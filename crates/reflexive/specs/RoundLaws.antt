@@ -15,7 +15,9 @@ use Rattle.inverse.specs.Layout.{RolesHeld, Building}
 use Rattle.reflexive.specs.Flags.{FlagsHeld, MapWithin}
 use Rattle.reflexive.specs.Steps.{axiomsEdges, declaredIds, Ready, Step, Begun, Left, Closing}
 use Rattle.reflexive.specs.FlagLaws.{only-refl, only-trans, only-sym, roles-kept, map-kept}
-use Rattle.reflexive.specs.AxiomLaws.{axioms-kept, building-kept}
+use Rattle.ontology.specs.KeptAxioms.{axioms-kept}
+use Rattle.inverse.specs.AxiomLaws.{building-kept}
+use Rattle.reflexive.specs.AxiomLaws.{flags-axioms}
 
 -- the fuel after a round
 less : ℕ → ℕ
@@ -44,7 +46,7 @@ module _ (s₀ s : List ℕ) (n r : ℕ) (A : Building s₀ n) (B : Begun (words
   closing-first = record {
     left = λ env R.
         let m = B .made env (roles-kept (words s) (words s₀) (only-sym (words s₀) (words s) (B .only)) (env .inverseCanon) R) in
-        subst (λ (k : List Axiom). Left (words s) r (allEdges env k) (reflexiveRoleIds env k)) (sym (axioms-kept s₀ s n A (B .only) l))
+        subst (λ (k : List Axiom). Left (words s) r (allEdges env k) (reflexiveRoleIds env k)) (sym (axioms-kept (words s₀) (words s) n (A .held) (flags-axioms (words s₀) (words s) (B .only))))
         (record { set = declaredIds (words s₀) n env []; fuel = suc (length (allEdges env (axiomsOf (words s₀) n))); held = m .0; count = m .1; same = refl });
     only = only-refl (words s);
     sized = B .sized;
@@ -55,12 +57,12 @@ module _ (s₀ s : List ℕ) (n r : ℕ) (A : Building s₀ n) (B : Begun (words
   pub closing-back : (w' : List ℕ) (t : ℕ)
       → ((env : Env) → RolesHeld (words s) (env .inverseCanon) → FlagsHeld w' (reflexiveRoleIds env (axiomsOf (words s) n)) × (t ≡ length (reflexiveRoleIds env (axiomsOf (words s) n))))
       → (env : Env) → RolesHeld (words s₀) (env .inverseCanon) → FlagsHeld w' (reflexiveRoleIds env (axiomsOf (words s₀) n)) × (t ≡ length (reflexiveRoleIds env (axiomsOf (words s₀) n)))
-  closing-back w' t f env R = subst (λ (k : List Axiom). FlagsHeld w' (reflexiveRoleIds env k) × (t ≡ length (reflexiveRoleIds env k))) (axioms-kept s₀ s n A (B .only) l)
+  closing-back w' t f env R = subst (λ (k : List Axiom). FlagsHeld w' (reflexiveRoleIds env k) × (t ≡ length (reflexiveRoleIds env k))) (axioms-kept (words s₀) (words s) n (A .held) (flags-axioms (words s₀) (words s) (B .only)))
       (f env (roles-kept (words s₀) (words s) (B .only) (env .inverseCanon) R))
 
 module _ (s₀ s : List ℕ) (n size : ℕ) (K : Closing s₀ s n size) (A : Building s₀ n) where
   pub closing-building : Building s n
-  closing-building = building-kept s₀ s n A (K .only) (K .long)
+  closing-building = building-kept s₀ s n A (flags-axioms (words s₀) (words s) (K .only)) (K .long)
 
   pub closing-ready : MapWithin (words s₀) → Ready s size
   closing-ready M = record { space = omega (arith, A .space, K .long); map = map-kept (words s₀) (words s) (K .only) M; sized = K .sized }
@@ -68,7 +70,7 @@ module _ (s₀ s : List ℕ) (n size : ℕ) (K : Closing s₀ s n size) (A : Bui
   module _ (s' : List ℕ) (r : ℕ) (S : Step (words s) (words s') size r (axiomsEdges (words s) n)) (l : length s' ≡ length s) where
     -- the set after a round
     after : (env : Env) → RolesHeld (words s₀) (env .inverseCanon) → (set : List ℕ) → FlagsHeld (words s) set → size ≡ length set → FlagsHeld (words s') (axiomsEdges (words s₀) n env set) × (r ≡ length (axiomsEdges (words s₀) n env set))
-    after env R set H c = subst (λ (x : List Axiom). FlagsHeld (words s') (round (allEdges env x) set) × (r ≡ length (round (allEdges env x) set))) (axioms-kept s₀ s n A (K .only) (K .long))
+    after env R set H c = subst (λ (x : List Axiom). FlagsHeld (words s') (round (allEdges env x) set) × (r ≡ length (round (allEdges env x) set))) (axioms-kept (words s₀) (words s) n (A .held) (flags-axioms (words s₀) (words s) (K .only)))
         (S .moved env (roles-kept (words s₀) (words s) (K .only) (env .inverseCanon) R) set H c)
 
     pub closing-next : (r ≡ size → ⊥) → Closing s₀ s' n r

@@ -20,13 +20,15 @@ use Rattle.reflexive.specs.Steps.{idAt, idsAt, flagged, insertion, edge,
 use Rattle.reflexive.specs.FlagLaws.{roles-kept, map-kept, id-kept, id-small, codes-kept, ready-after, step-none, step-as, begun-then, begun-as, walk-first, walk-next}
 use Rattle.reflexive.specs.IdLaws.{mapped-id}
 use Rattle.reflexive.specs.EdgeLaws.{from-next, from-same, among-next, all-next, declared-next}
-use Rattle.reflexive.specs.AxiomLaws.{no-edges, undeclared, sub-edges, reflexive-small, reflexive-id, equal-edges, axiom-kept, axioms-kept, building-kept}
+use Rattle.ontology.specs.KeptAxioms.{axiom-kept, axioms-kept}
+use Rattle.inverse.specs.AxiomLaws.{building-kept}
+use Rattle.reflexive.specs.AxiomLaws.{no-edges, undeclared, sub-edges, reflexive-small, reflexive-id, equal-edges, flags-axioms}
 
 pub walk-ready : (s₀ s : List ℕ) (size r i n : ℕ) (f : ℕ → Env → List ℕ → List ℕ) → Ready s₀ size → Walk s₀ s size r i n f → Ready s r
 walk-ready s₀ s size r i n f A W = ready-after s₀ s size r A (W .step .only) (W .step .sized) (W .long)
 
 pub walk-building : (s₀ s : List ℕ) (size r i n : ℕ) (f : ℕ → Env → List ℕ → List ℕ) → Building s₀ n → Walk s₀ s size r i n f → Building s n
-walk-building s₀ s size r i n f A W = building-kept s₀ s n A (W .step .only) (W .long)
+walk-building s₀ s size r i n f A W = building-kept s₀ s n A (flags-axioms (words s₀) (words s) (W .step .only)) (W .long)
 
 -- ---- codes
 module _ (w w' : List ℕ) (at n : ℕ) (C : Codes w at n) (O : OnlyFlags w w') where
@@ -104,7 +106,7 @@ round-first s n size A = walk-first s size n (axiomsEdges (words s)) (A .sized) 
 pub round-turn : (s₀ s s' : List ℕ) (size r t i n : ℕ) → Walk s₀ s size r i n (axiomsEdges (words s₀)) → Building s₀ n → i < n → Step (words s) (words s') r t (axiomEdges (words s) i) → length s' ≡ length s
     → Walk s₀ s' size t (i + 1) n (axiomsEdges (words s₀))
 round-turn s₀ s s' size r t i n W A h S l = walk-next s₀ s s' size r t i n (axiomsEdges (words s₀)) (axiomEdges (words s) i) W h S
-    (λ env R set. ap (λ (a : Axiom). round (roleEdges env a) (axiomsEdges (words s₀) i env set)) (axiom-kept s₀ s n A (W .step .only) (W .long) i) ∙ all-next env (axiomAt (words s₀)) i set) l
+    (λ env R set. ap (λ (a : Axiom). round (roleEdges env a) (axiomsEdges (words s₀) i env set)) (axiom-kept (words s₀) (words s) n (A .held) (flags-axioms (words s₀) (words s) (W .step .only)) i h) ∙ all-next env (axiomAt (words s₀)) i set) l
 
 -- ---- the roles declared reflexive
 pub declared-first : (s : List ℕ) (n size : ℕ) → Ready s size → Walk s s size size 0 n (declaredIds (words s))
@@ -116,7 +118,7 @@ module _ (s₀ s : List ℕ) (size r i n : ℕ) (W : Walk s₀ s size r i n (dec
   building = walk-building s₀ s size r i n (declaredIds (words s₀)) A W
 
   declared-kept : (env : Env) (set : List ℕ) → declaredReflexive env (declaredIds (words s₀) i env set) (axiomAt (words s) i) ≡ declaredIds (words s₀) (i + 1) env set
-  declared-kept env set = ap (declaredReflexive env (declaredIds (words s₀) i env set)) (axiom-kept s₀ s n A (W .step .only) (W .long) i) ∙ declared-next env (axiomAt (words s₀)) i set
+  declared-kept env set = ap (declaredReflexive env (declaredIds (words s₀) i env set)) (axiom-kept (words s₀) (words s) n (A .held) (flags-axioms (words s₀) (words s) (W .step .only)) i h) ∙ declared-next env (axiomAt (words s₀)) i set
 
   pub declared-skip : (k : ℕ) → k ≡ axiomNumber (words s) i 0 → (k ≡ 35 → ⊥) → Walk s₀ s size r (i + 1) n (declaredIds (words s₀))
   declared-skip k e d = walk-next s₀ s s size r r i n (declaredIds (words s₀)) (λ env set. set) W h (step-none (words s) r (W .step .sized))
@@ -132,11 +134,11 @@ module _ (s₀ s : List ℕ) (size r i n : ℕ) (W : Walk s₀ s size r i n (dec
 -- from cleared flags on
 module _ (s₀ s : List ℕ) (n : ℕ) (A : Building s₀ n) (M : MapWithin (words s₀)) (B : Begun (words s₀) (words s) 0 (λ env. [])) (l : length s ≡ length s₀) where
   pub cleared-building : Building s n
-  cleared-building = building-kept s₀ s n A (B .only) l
+  cleared-building = building-kept s₀ s n A (flags-axioms (words s₀) (words s) (B .only)) l
 
   pub cleared-ready : Ready s 0
   cleared-ready = record { space = omega (arith, A .space, l); map = map-kept (words s₀) (words s) (B .only) M; sized = B .sized }
 
   pub declared-end : (w' : List ℕ) (r : ℕ) → Step (words s) w' 0 r (declaredIds (words s) n) → Begun (words s₀) w' r (λ env. declaredIds (words s₀) n env [])
   declared-end w' r S = begun-as (words s₀) w' r (λ env. declaredIds (words s) n env []) (λ env. declaredIds (words s₀) n env [])
-      (λ env R. ap (reflexiveFrom env []) (axioms-kept s₀ s n A (B .only) l)) (begun-then (words s₀) (words s) w' 0 r (λ env. []) (declaredIds (words s) n) B S)
+      (λ env R. ap (reflexiveFrom env []) (axioms-kept (words s₀) (words s) n (A .held) (flags-axioms (words s₀) (words s) (B .only)))) (begun-then (words s₀) (words s) w' 0 r (λ env. []) (declaredIds (words s) n) B S)

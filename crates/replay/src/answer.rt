@@ -2,6 +2,7 @@
 use crate::data;
 use statistics::ClauseStats;
 use std::num;
+use tables::read;
 
 // How far the data is read, and whether all of it was met.
 pub struct Met {
@@ -59,12 +60,18 @@ struct Walk {
     first: u32,
 }
 
-// Clause i's record.
+// Clause i's record, which is not met where the table has none.
 fn meet_clause(data: &[u8], clauses: &[u8], i: u32, w: Walk) -> Walk {
-    let at = 3 * (i as usize);
-    let body = word(clauses, at + 1);
-    let head = word(clauses, at + 2);
-    let same = w.same && word(clauses, at) == w.first;
+    if read::clause_room(clauses) <= i as usize {
+        return Walk {
+            at: w.at,
+            same: false,
+            first: w.first,
+        };
+    }
+    let body = read::body_count(clauses, i);
+    let head = read::head_count(clauses, i);
+    let same = w.same && read::first_atom(clauses, i) == w.first;
     let m = meet(data, Met { at: w.at, same }, body);
     let n = meet(data, m, head);
     let first = num::wrapping_add_u32(num::wrapping_add_u32(w.first, body), head);
@@ -153,13 +160,23 @@ fn meet_atoms(data: &[u8], atoms: &[u8], n: u32, from: Met) -> Met {
     m
 }
 
+// Deferral i's record, likewise.
+fn meet_deferral(data: &[u8], deferrals: &[u8], i: u32, m: Met) -> Met {
+    if read::deferral_room(deferrals) <= i as usize {
+        return Met {
+            at: m.at,
+            same: false,
+        };
+    }
+    let n = meet(data, m, read::deferral_line(deferrals, i));
+    meet(data, n, read::deferral_kind(deferrals, i))
+}
+
 fn meet_deferrals(data: &[u8], deferrals: &[u8], n: u32, from: Met) -> Met {
     let mut m = from;
     let mut i: u32 = 0;
     while i < n {
-        let at = 2 * (i as usize);
-        let line = meet(data, m, word(deferrals, at));
-        m = meet(data, line, word(deferrals, at + 1));
+        m = meet_deferral(data, deferrals, i, m);
         i += 1;
     }
     m
@@ -198,9 +215,9 @@ pub fn is_accepted(
     let e = meet_deferrals(data, deferrals, s.deferred, d);
     e.same
         && e.at == end
-        && is_clear(clauses, 3 * (s.total as usize))
+        && is_clear(clauses, read::CLAUSE * (s.total as usize))
         && is_clear(atoms, 6 * (c.first as usize))
-        && is_clear(deferrals, 2 * (s.deferred as usize))
+        && is_clear(deferrals, read::DEFERRAL * (s.deferred as usize))
 }
 
 // It says that the deck is refused so; the tables are zeros.

@@ -1,6 +1,9 @@
 -- What holds of each element of a list. Assumes nothing.
-use mathlib.Core.Path.{sym, subst}
+use mathlib.Core.Path.{_≡_, sym, subst}
 use mathlib.Core.List.{List, [], _∷_, _++_, map, List·Memᴰ, List·Memᴰ·head, List·Memᴰ·tail}
+use Prim.Native.Nat.{ℕ, zero, suc, _<_}
+use native.Mathlib.Omega.{arith}
+use lib.ListN.{length, getD, drop}
 use Rattle.rules.specs.Invariants.{Each}
 
 module _ {A : Type 0} where
@@ -38,6 +41,18 @@ module _ {A : Type 0} where
   pub each-member : (P : A → Type 0) {x : A} {l : List A} → Each P l → List·Memᴰ x l → P x
   each-member P p (List·Memᴰ·head e) = subst P (sym e) (p .0)
   each-member P p (List·Memᴰ·tail m) = each-member P (p .1) m
+
+  -- element i; the first of those from element i on
+  pub each-nth : (P : A → Type 0) (l : List A) (i : ℕ) (d : A) → Each P l → i < length l → P (getD l i d)
+  each-nth P [] i d p h = absurd (omega arith)
+  each-nth P (x ∷ l) zero d p h = p .0
+  each-nth P (x ∷ l) (suc i) d p h = each-nth P l i d (p .1) (omega arith)
+
+  pub each-drop : (P : A → Type 0) (l : List A) (i : ℕ) (x : A) (m : List A) → Each P l → drop i l ≡ x ∷ m → P x
+  each-drop P [] zero x m p e = absurd (let z : _≡_ {A = ℕ} 0 1 = cc in omega arith)
+  each-drop P [] (suc i) x m p e = absurd (let z : _≡_ {A = ℕ} 0 1 = cc in omega arith)
+  each-drop P (y ∷ l) zero x m p e = let f : y ≡ x = cc in subst P f (p .0)
+  each-drop P (y ∷ l) (suc i) x m p e = each-drop P l i x m (p .1) e
 
 pub each-mapped : {A B : Type 0} (P : A → Type 0) (Q : B → Type 0) (f : A → B) → ((x : A) → P x → Q (f x)) → (l : List A) → Each P l → Each Q (map f l)
 each-mapped P Q f g [] p = tt

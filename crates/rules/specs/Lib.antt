@@ -22,6 +22,7 @@ pub mod PoolLaws
 pub mod DepthLaws
 pub mod NormalizeLaws
 pub mod EmitLaws
+pub mod EncodeKeeps
 pub mod AntecedentLaws
 pub mod ShapeLaws
 pub mod HeadLaws

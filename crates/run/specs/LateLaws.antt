@@ -9,25 +9,13 @@ use Rattle.ir.specs.declared.counters.Counters.{Counters}
 use Rattle.rules.specs.State.{Rooms, Out}
 use Rattle.rules.specs.DeckLaws.{boundsOf}
 use Rattle.rules.specs.Run.{atLine as lineAt, envOf, scratchBytes}
-use Rattle.tables.specs.Drawn.{Tables, tables, show}
+use Rattle.tables.specs.Drawn.{Tables, tables, show, countersIn, clausesIn, atomsIn, deferralsIn}
 use Rattle.tables.specs.Good.{Alike, good-same}
 use Rattle.leaves.specs.StepLaws.{show-alike}
 use Rattle.clausifier.specs.Prepare.{Preparing}
 use Rattle.staging.specs.Stage.{Staged}
 use Rattle.run.specs.Before.{Before}
 use Rattle.late.specs.Later.{Later}
-
-abbrev pub countersIn : Tables → Counters
-countersIn (tables k c a d) = k
-
-abbrev pub clausesIn : Tables → List ℕ
-clausesIn (tables k c a d) = c
-
-abbrev pub atomsIn : Tables → List ℕ
-atomsIn (tables k c a d) = a
-
-abbrev pub deferralsIn : Tables → List ℕ
-deferralsIn (tables k c a d) = d
 
 -- ---- a state that is drawn by other counters, at another line
 module _ (b k : Counters) (rooms : Rooms) (s : Out) (c a d : List ℕ) (e : tables k c a d ≡ show b rooms s) where

@@ -20,14 +20,14 @@ use Rattle.rules.specs.LinedPost.{LinedPost, done-post}
 use Rattle.rules.specs.Run.{Lined, done, stopped, lined, linedThen, atLine as lineAt, clausifyAxioms, latePasses, Outcome, refused, firstFresh, envOf, acceptedOf, outcomeOf, start, clausifyNormal, runDeck, runRead}
 use Rattle.rules.specs.RunLaws.{RunIn, deckRun, run-in}
 use Rattle.normalize.specs.Loaded.{normalized}
-use Rattle.tables.specs.Drawn.{Tables, tables, show, shown, after}
+use Rattle.tables.specs.Drawn.{Tables, tables, countersIn, clausesIn, atomsIn, deferralsIn, show, shown, after}
 use Rattle.staging.specs.Stage.{staged}
 use Rattle.run.specs.declared.Ran.{Ran}
 use Rattle.run.specs.declared.Ran.the-variants as Rans
 use Rattle.run.specs.Ran.{Left, RanAs}
 use Rattle.run.specs.Before.{Before}
 use Rattle.late.specs.Later.{Later}
-use Rattle.run.specs.LateLaws.{countersIn, clausesIn, atomsIn, deferralsIn, later}
+use Rattle.run.specs.LateLaws.{later}
 
 -- ---- the rules' run
 -- refused before the later passes

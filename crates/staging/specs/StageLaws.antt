@@ -30,7 +30,7 @@ use Rattle.hands.specs.Hands.{four, EnvHeld}
 use Rattle.axioms.specs.Wholes.{standing, Clausifying, Onward}
 use Rattle.axioms.specs.OnwardLaws.{roles-untouched}
 use Rattle.clausifier.specs.Arms.{AxiomsOf}
-use Rattle.normalize.specs.KeptAxioms.{axioms-kept}
+use Rattle.ontology.specs.KeptAxioms.{axioms-kept}
 use Rattle.clausifier.specs.KeptLaws.{axioms-of-kept}
 use Rattle.clausifier.specs.All.{shownLined, afterLined, ClausifyingLined, OnwardLined, ClausifiedAll}
 use Rattle.clausifier.specs.Prepare.{Preparing, Prepared, PreparedAs}

@@ -1,5 +1,6 @@
 // clause.rs: ClauseStats.
 use branches::vars;
+use tables::read;
 ghost use mathlib.Core.Path.{_≡_};
 ghost use mathlib.Core.List.{List};
 ghost use Prim.Native.Nat.{_≤_};
@@ -11,10 +12,8 @@ ghost use Rattle.rules.specs.State.{Clause};
 ghost use Rattle.rules.specs.Run.{mostClauses};
 ghost use Rattle.rules.specs.Stats.{clauseStats, isExists, one as oneIf};
 ghost use Rattle.tables.specs.Drawn.{Sized};
-ghost use Rattle.tables.specs.Tabled.{Tabled};
-ghost use Rattle.branches.specs.Wide.{AtomsAre, AtomsThere};
-ghost use Rattle.branches.specs.Clauses.{ClauseIs, ClauseThere};
-ghost use Rattle.statistics.specs.Counted.{statsOf, TableThere};
+ghost use Rattle.tables.specs.Tabled.{Tabled, TableThere, Run};
+ghost use Rattle.statistics.specs.Counted.{statsOf};
 ghost use Rattle.statistics.specs.Counting.{counted, Within};
 
 // In the Rust's order.
@@ -29,14 +28,14 @@ pub struct ClauseStats {
     pub refused: u32,
 }
 
-// One of the `count` atoms from atom `first` on is Exists.
-fn has_exists(atoms: &[u8], first: usize, count: u32) -> bool
-    requires { ⌜ AtomsThere (words (now atoms)) first count ⌝ }
-    ensures { λ r. ⌜ ((l : List Atom) → AtomsAre (words (now (atoms .entry))) first count l → r ≡ any isExists l) ⌝ }
+// One of the atoms is Exists.
+fn has_exists(head: &[u8]) -> bool
+    ensures { λ r. ⌜ ((l : List Atom) → Run (now (head .entry)) l → r ≡ any isExists l) ⌝ }
 {
+    let n = read::atom_room(head);
     let mut i: usize = 0;
-    while i < count as usize {
-        if words::get_word(atoms, 6 * (first + i)) == 3 {
+    while i < n {
+        if words::get_word(head, 6 * i) == 3 {
             return true;
         }
         i += 1;
@@ -51,16 +50,14 @@ fn one(b: bool) -> u32
 }
 
 impl ClauseStats {
-    // Clause i more.
-    fn add(mut self, clauses: &[u8], atoms: &[u8], i: u32) -> ClauseStats
-        requires { ⌜ ClauseThere (words (now clauses)) (words (now atoms)) i × Within mostClauses self ⌝ }
-        ensures { λ r. ⌜ ((x : Clause) → ClauseIs (words (now (clauses .entry))) (words (now (atoms .entry))) i x → statsOf r ≡ counted x (statsOf self)) ⌝ }
+    // A clause more.
+    fn add(mut self, body: &[u8], head: &[u8]) -> ClauseStats
+        requires { ⌜ Within mostClauses self ⌝ }
+        ensures { λ r. ⌜ ((x : Clause) → Run (now (body .entry)) (x .body) → Run (now (head .entry)) (x .head) → statsOf r ≡ counted x (statsOf self)) ⌝ }
     {
-        let first = words::get_word(clauses, 3 * (i as usize)) as usize;
-        let nb = words::get_word(clauses, 3 * (i as usize) + 1);
-        let nh = words::get_word(clauses, 3 * (i as usize) + 2);
-        let exists = has_exists(atoms, first + nb as usize, nh);
-        let wide = vars::is_wide(atoms, first, nb, 0);
+        let nh = read::atom_room(head);
+        let exists = has_exists(head);
+        let wide = vars::is_wide(body, 0);
         self.total += 1;
         self.horn += one(nh <= 1);
         self.disjunctive += one(1 < nh);
@@ -94,7 +91,9 @@ pub fn clause_stats(
     };
     let mut i: u32 = 0;
     while i < n {
-        s = s.add(clauses, atoms, i);
+        let body = read::body_of(clauses, atoms, i);
+        let head = read::head_of(clauses, atoms, i);
+        s = s.add(body, head);
         i += 1;
     }
     s

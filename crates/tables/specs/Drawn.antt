@@ -9,7 +9,7 @@ use Rattle.ir.specs.declared.answer.Answer.{Answer}
 use Rattle.ir.specs.declared.answer.Answer.the-variants.{Done, Refused}
 use Rattle.rules.specs.Base.{Res, ok, refused}
 use Rattle.rules.specs.State.{Rooms, Out, total}
-use Rattle.rules.specs.Run.{clauseRecords, atomRecords, deferralRecords, mostClauses, mostAtoms, mostDeferrals}
+use Rattle.rules.specs.Run.{clauseWords, atomWords, deferralWords, clauseRecords, atomRecords, deferralRecords, mostClauses, mostAtoms, mostDeferrals}
 
 -- n words: these, then zeros
 unfoldable pub padded : ℕ → List ℕ → List ℕ
@@ -19,12 +19,24 @@ padded n l = l ++ replicate (n - length l) 0
 pub data Tables : Type 0 where
   tables : Counters → List ℕ → List ℕ → List ℕ → Tables
 
+abbrev pub countersIn : Tables → Counters
+countersIn (tables k c a d) = k
+
+abbrev pub clausesIn : Tables → List ℕ
+clausesIn (tables k c a d) = c
+
+abbrev pub atomsIn : Tables → List ℕ
+atomsIn (tables k c a d) = a
+
+abbrev pub deferralsIn : Tables → List ℕ
+deferralsIn (tables k c a d) = d
+
 -- the counters of a state; what a state does not have is k's
 abbrev pub countersOf : Counters → Out → Counters
 countersOf k s = counters (s .visits) (s .limit) (k .concepts) (k .members) (s .nextVar) (s .nextFresh) (length (s .clauses)) (total (s .clauses)) (length (s .deferrals)) (s .line) (k .«nominal_base») (k .options)
 
 unfoldable pub show : Counters → Rooms → Out → Tables
-show k rooms s = tables (countersOf k s) (padded (3 * rooms .clauses) (clauseRecords 0 (s .clauses))) (padded (6 * rooms .atoms) (atomRecords (s .clauses))) (padded (2 * rooms .deferrals) (deferralRecords (s .deferrals)))
+show k rooms s = tables (countersOf k s) (padded (clauseWords * rooms .clauses) (clauseRecords 0 (s .clauses))) (padded (atomWords * rooms .atoms) (atomRecords (s .clauses))) (padded (deferralWords * rooms .deferrals) (deferralRecords (s .deferrals)))
 
 -- a rule's answer, drawn; n: the number that the code answers with
 abbrev pub shown : {A : Type 0} → (A → ℕ) → Counters → Rooms → Res Out A → Res Tables ℕ
@@ -38,12 +50,12 @@ after (Refused e) c a d = refused e
 
 -- tables of these words have these rooms
 pub record Lent (rooms : Rooms) (c a d : List ℕ) : Type 0 where
-  pub clauses : length c ≡ 3 * rooms .clauses
-  pub atoms : length a ≡ 6 * rooms .atoms
-  pub deferrals : length d ≡ 2 * rooms .deferrals
+  pub clauses : length c ≡ clauseWords * rooms .clauses
+  pub atoms : length a ≡ atomWords * rooms .atoms
+  pub deferrals : length d ≡ deferralWords * rooms .deferrals
 
 -- tables of so many bytes, and no more records than document 01 allows
 pub record Sized (c a d : ℕ) : Type 0 where
-  pub clauses : c ≤ 12 * mostClauses
-  pub atoms : a ≤ 24 * mostAtoms
-  pub deferrals : d ≤ 8 * mostDeferrals
+  pub clauses : c ≤ 4 * clauseWords * mostClauses
+  pub atoms : a ≤ 4 * atomWords * mostAtoms
+  pub deferrals : d ≤ 4 * deferralWords * mostDeferrals

@@ -1,17 +1,15 @@
 -- Words that stand in a table, and a clause's own. Assumes nothing.
 use mathlib.Core.Path.{_≡_, refl, sym, ap, ap₂, _∙_}
 use mathlib.Core.List.{List, [], _∷_, _++_}
-use Prim.Native.Nat.{ℕ, suc, _+_, _*_, _-_, _≤_}
+use Prim.Native.Nat.{ℕ, suc, _+_, _*_, _-_, _<_, _≤_}
 use native.Mathlib.Omega.{arith}
 use lib.ListN.{length, getD, take, drop, length-append, length-take, length-drop}
 use lib.Seq.{getD-take, getD-drop, drop-drop}
+use Rattle.rules.specs.Run.{clauseWords}
 use Rattle.tables.specs.Tabled.{firstAtom, atomCount}
+pub use Rattle.tables.specs.Tabled.{At}
 
 -- ---- words that stand in a table
--- xs, from word i on
-abbrev pub At : List ℕ → ℕ → List ℕ → Type 0
-At w i xs = take (length xs) (drop i w) ≡ xs
-
 cons : (xs : List ℕ) (n : ℕ) → suc (length xs) + n ≡ suc (length xs + n)
 cons xs n = omega arith
 
@@ -42,23 +40,23 @@ at-get w i x xs h =
     let f : getD (take (length (x ∷ xs)) (drop i w)) 0 0 ≡ x = ap (λ (l : List ℕ). getD l 0 0) h in
     sym (getD-drop i w 0 0 ∙ ap (λ (j : ℕ). getD w j 0) z) ∙ sym (getD-take (length (x ∷ xs)) (drop i w) 0 0 (omega arith)) ∙ f
 
+pub at-word : (w : List ℕ) (i : ℕ) (xs : List ℕ) (k : ℕ) → At w i xs → k < length xs → getD w (i + k) 0 ≡ getD xs k 0
+at-word w i xs k h l = sym (getD-drop i w k 0) ∙ sym (getD-take (length xs) (drop i w) k 0 l) ∙ ap (λ (u : List ℕ). getD u k 0) h
+
 pub at-long : (w : List ℕ) (i : ℕ) (xs : List ℕ) → At w i xs → length xs ≤ length w - i
 at-long w i xs h = omega (arith, ap length h, length-take (length xs) (drop i w), length-drop i w)
 
 -- ---- a clause and its atoms
 -- the first three words of a clause table from clause i on
-module _ (c : List ℕ) (i first b h : ℕ) (r : List ℕ) (e : At c (3 * i) (first ∷ b ∷ h ∷ r)) where
-  tail : At c (3 * i + 1) (b ∷ h ∷ r)
-  tail = at-back c (3 * i) (first ∷ []) (b ∷ h ∷ r) e (3 * i + 1) refl
+module _ (c : List ℕ) (i first b h : ℕ) (r : List ℕ) (e : At c (clauseWords * i) (first ∷ b ∷ h ∷ r)) where
+  tail : At c (clauseWords * i + 1) (b ∷ h ∷ r)
+  tail = at-back c (clauseWords * i) (first ∷ []) (b ∷ h ∷ r) e (clauseWords * i + 1) refl
 
   pub first-is : firstAtom c i ≡ first
-  first-is = at-get c (3 * i) first (b ∷ h ∷ r) e
-
-  pub row-is : take 2 (drop (3 * i + 1) c) ≡ b ∷ h ∷ []
-  row-is = at-front c (3 * i + 1) (b ∷ h ∷ []) r tail
+  first-is = at-get c (clauseWords * i) first (b ∷ h ∷ r) e
 
   pub count-is : atomCount c i ≡ b + h
-  count-is = ap₂ (λ (x y : ℕ). x + y) (at-get c (3 * i + 1) b (h ∷ r) tail) (at-get c (3 * i + 2) h r (at-back c (3 * i + 1) (b ∷ []) (h ∷ r) tail (3 * i + 2) (omega arith)))
+  count-is = ap₂ (λ (x y : ℕ). x + y) (at-get c (clauseWords * i + 1) b (h ∷ r) tail) (at-get c (clauseWords * i + 2) h r (at-back c (clauseWords * i + 1) (b ∷ []) (h ∷ r) tail (clauseWords * i + 2) (omega arith)))
 
-  pub rest-is : At c (3 * (i + 1)) r
-  rest-is = at-back c (3 * i) (first ∷ b ∷ h ∷ []) r e (3 * (i + 1)) (omega arith)
+  pub rest-is : At c (clauseWords * (i + 1)) r
+  rest-is = at-back c (clauseWords * i) (first ∷ b ∷ h ∷ []) r e (clauseWords * (i + 1)) (omega arith)

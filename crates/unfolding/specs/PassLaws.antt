@@ -2,7 +2,7 @@
 use mathlib.Core.Path.{_≡_, refl, sym, ap, subst, _∙_}
 use mathlib.Core.List.{List, [], _∷_, _++_}
 use Prim.{Unit, tt}
-use Prim.Native.Nat.{ℕ, zero, suc, _+_, _*_, _<_, _≤_}
+use Prim.Native.Nat.{ℕ, zero, suc, _+_, _<_, _≤_}
 use native.Mathlib.Omega.{arith}
 use lib.ListN.{length, getD}
 use Rattle.ir.specs.declared.counters.Counters.{Counters}
@@ -21,7 +21,7 @@ use Rattle.unfolding.specs.declared.unfold.Unfolded.{Unfolded}
 use Rattle.unfolding.specs.declared.unfold.Unfolded.the-variants.{More, Capped, Refused as Refusal}
 use Rattle.reflexive.specs.Flags.{FlagsHeld}
 use Rattle.contraction.specs.Passes.{Standing, Drawn, Passed}
-use Rattle.contraction.specs.PlacedLaws.{noClause}
+use Rattle.tables.specs.Tabled.{bodyCount, noClause}
 use Rattle.unfolding.specs.Unfolding.{waiting, unfoldOne, Stands, Unfolds, GoodUnfolded, KeptUnfolded, Between, Answered}
 use Rattle.unfolding.specs.Passing.{Turn, Turning, Popped, Poised, Partway, Unrolling}
 use Rattle.unfolding.specs.DeriveLaws.{seen-long}
@@ -68,7 +68,7 @@ module _ (k : Counters) (x : Four) (S : Standing k (x .clauses) (x .atoms)) (W :
 
   -- ---- in the body of clause `number`; z: at the body's first atom, y: now
   module _ (originals all : ℕ) (k₁ : Counters) (m₁ : ℕ) (z : Four) (T : Turning originals all k x k₁ m₁ z) (same₁ : SameSizes x z) (left m number : ℕ) (Z : Poised originals all m₁ k x k₁ left m number z)
-      (l : Counters) (n i : ℕ) (y : Four) (U : Unrolling originals left number k₁ m z l n i y) (nb : ℕ) (eb : nb ≡ getD (z .clauses) (3 * number + 1) 0) where
+      (l : Counters) (n i : ℕ) (y : Four) (U : Unrolling originals left number k₁ m z l n i y) (nb : ℕ) (eb : nb ≡ bodyCount (z .clauses) number) where
     module _ (env : Env) (roles : List ℕ) (s : Out) (F : FlagsHeld (x .scratch) roles) (L : Lent (env .rooms) (x .clauses) (x .atoms) (x .deferrals)) (D : tables k (x .clauses) (x .atoms) (x .deferrals) ≡ show k (env .rooms) s) where
       popt : Popped env roles originals left k₁ m number z s
       popt = Z .so env roles s F L D
@@ -106,7 +106,7 @@ module _ (k : Counters) (x : Four) (S : Standing k (x .clauses) (x .atoms)) (W :
         let Q = part (W .env) (flagSet (x .scratch)) (W .state) w-flags (W .lent) (W .drawn) in
         stands-after k x W S l (y .clauses) (y .atoms) (y .deferrals) (Q .state) (Q .stands .drawn) (λ B fresh vars I. Q .moves .inside B fresh vars (P .inside B fresh vars I))
 
-    pub pass-body : i < nb → i < getD (y .clauses) (3 * number + 1) 0
+    pub pass-body : i < nb → i < bodyCount (y .clauses) number
     pass-body lt =
         let P = popt (W .env) (flagSet (x .scratch)) (W .state) w-flags (W .lent) (W .drawn) in
         body-left originals left number k₁ m z l n i y U (Z .there) nb eb (W .env) (flagSet (x .scratch)) (P .derived) (P .state)

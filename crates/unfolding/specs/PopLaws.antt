@@ -11,6 +11,7 @@ use Rattle.ir.specs.declared.counters.Counters.{Counters}
 use Rattle.rules.specs.Base.{then, any}
 use Rattle.rules.specs.State.{Env, Out, Clause}
 use Rattle.rules.specs.Invariants.{Each, ClauseIn}
+use Rattle.rules.specs.Run.{clauseWords}
 use Rattle.rules.specs.Reflexive.{reflexiveDerivedCap, Derived, isReflexive, queued, unfoldBody, finish, popped, unfoldBy, stacked, applyReflexiveRoles}
 use Rattle.tables.specs.Drawn.{tables, show}
 use Rattle.tables.specs.DrawnLaws.{clauses-count, atoms-count}
@@ -18,10 +19,10 @@ use Rattle.tables.specs.Good.{Good}
 use Rattle.hands.specs.Hands.{Four}
 use Rattle.leaves.specs.StepLaws.{alike-same}
 use Rattle.contraction.specs.Passes.{Standing, Drawn}
-use Rattle.contraction.specs.PlacedLaws.{noClause}
+use Rattle.tables.specs.Tabled.{noClause}
 use Rattle.unfolding.specs.Unfolding.{waiting, queueOf, Inside}
 use Rattle.unfolding.specs.Passing.{ForDrawn, Enough, Turn, Turning, Poised}
-use Rattle.unfolding.specs.ClauseLaws.{show-tabled, tabled-same, tabled-long}
+use Rattle.tables.specs.ClauseLaws.{show-tabled, tabled-same, tabled-long}
 use Rattle.unfolding.specs.QueueLaws.{queue-first, queue-short, body-none}
 use Rattle.unfolding.specs.DeriveLaws.{seen-long}
 use Rattle.unfolding.specs.FlagSet.{flagSet, flag-set}
@@ -109,7 +110,7 @@ module _ (env : Env) (roles : List ℕ) (f : ℕ) (v : Derived) (c : Clause) (q 
 
 -- a derived clause, the last word of the queue; or the last of the first clauses that are left
 module _ (originals all m : ℕ) (k : Counters) (x : Four) (l : Counters) (y : Four) (T : Turning originals all k x l m y) (left n number : ℕ) where
-  pub turn-long : Drawn k (x .clauses) (x .atoms) (x .deferrals) → 3 * l .clauses ≤ length (y .clauses)
+  pub turn-long : Drawn k (x .clauses) (x .atoms) (x .deferrals) → clauseWords * l .clauses ≤ length (y .clauses)
   turn-long W =
       let t = at-drawn k x W (λ env roles s. Turn env roles originals all l m y s) (T .so) in
       tabled-long (y .clauses) (y .atoms) (l .clauses) (t .state .clauses) (show-tabled (W .env) l (y .clauses) (y .atoms) (y .deferrals) (t .state) (t .stands .drawn)) .0

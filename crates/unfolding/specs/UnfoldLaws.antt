@@ -1,13 +1,12 @@
 -- One body atom of a clause of the tables: contracted along it, if that is new. Assumes nothing.
 use mathlib.Core.Path.{_≡_, refl, sym, ap, subst, _∙_}
-use mathlib.Core.Bool.{Bool, true, false, not, _||_}
+use mathlib.Core.Bool.{Bool, true, false, _||_}
 use mathlib.Core.List.{List, _∷_, _++_}
-use Prim.Native.Nat.{ℕ, suc, _+_, _*_, _-_, _<_}
+use Prim.Native.Nat.{ℕ, suc, _+_, _*_, _-_, _<_, _≤_}
 use native.Mathlib.Omega.{arith}
 use lib.Dec.{eqb}
 use lib.ListN.{length, getD, take, drop, length-append}
 use lib.Seq.{split-at, length-take-le}
-use Rattle.ir.specs.Records.{six}
 use Rattle.ir.specs.Roles.{roleId}
 use Rattle.ir.specs.Scratch.{handsAt}
 use Rattle.ir.specs.declared.counters.Counters.{Counters}
@@ -17,35 +16,27 @@ use Rattle.ir.specs.declared.atom.Atom.the-variants.{Class, Exists, AtMost, AtL
 use Rattle.rules.specs.Base.{Res, contains}
 use Rattle.rules.specs.State.{Env, Out, Clause, clause}
 use Rattle.rules.specs.Invariants.{Bounds, ClauseIn}
-use Rattle.rules.specs.Run.{flat}
 use Rattle.rules.specs.Reflexive.{reflexiveDerivedCap, Derived, isReflexive, contracted, isTrivial, containsClause, derive, deriveNew, contract}
 use Rattle.rules.specs.Reflexive.{Unfolded as Turned}
 use Rattle.rules.specs.ReflexiveLaws.{contracted-in}
+use Rattle.rules.specs.EachLaws.{each-nth}
 use Rattle.tables.specs.Good.{Good}
+use Rattle.tables.specs.Tabled.{bodyCount, headCount, Run, noClause, Tabled}
+use Rattle.tables.specs.AtomLaws.{noAtom}
+use Rattle.tables.specs.ClauseLaws.{show-tabled, tabled-same}
+use Rattle.reflexive.specs.Flags.{FlagsHeld}
 use Rattle.hands.specs.Hands.{Four, four}
 use Rattle.leaves.specs.StepLaws.{alike-same}
+use Rattle.contraction.specs.InHands.{ClauseInHand, HandThere}
+use Rattle.contraction.specs.Passes.{Standing}
+use Rattle.contraction.specs.PlainLaws.{plain-clause}
 use Rattle.unfolding.specs.declared.unfold.Unfolded.{Unfolded}
 use Rattle.unfolding.specs.declared.unfold.Unfolded.the-variants.{More}
-use Rattle.reflexive.specs.Flags.{FlagsHeld}
-use Rattle.tables.specs.Tabled.{Tabled, firstAtom}
-use Rattle.tables.specs.TabledLaws.{At}
-use Rattle.contraction.specs.InHands.{ClauseInHand, AtomThere, HandThere, RunThere}
-use Rattle.contraction.specs.HandLaws.{noAtom}
-use Rattle.contraction.specs.Passes.{Standing}
-use Rattle.contraction.specs.PlacedLaws.{noClause, body-word, head-word}
 use Rattle.unfolding.specs.Unfolding.{unfoldOne, Counted, Stands, Follows, Moved, Unfolds, Between, Answered}
-use Rattle.unfolding.specs.ClauseLaws.{show-tabled, tabled-same, plain-clause, each-at, standingAt, standing-in, standing-placed, standing-run, run-there, atom-at}
+use Rattle.unfolding.specs.ClauseLaws.{standingAt, standing-in, standing-placed}
 use Rattle.unfolding.specs.QueueLaws.{one-other}
 use Rattle.unfolding.specs.DeriveLaws.{below-hand, stands-kept, stays}
 use Rattle.unfolding.specs.FlagSet.{flagSet, flag-set, flags-kept}
-
-pub not-true : (b : Bool) → not b ≡ true → b ≡ false
-not-true true e = sym e
-not-true false e = refl
-
-pub not-false : (b : Bool) → not b ≡ false → b ≡ true
-not-false true e = refl
-not-false false e = sym e
 
 -- a role atom over a reflexive role
 record Roled (roles : List ℕ) (x : Atom) : Type 0 where
@@ -66,16 +57,19 @@ roled roles (Equal u v) e = absurd (let z : _≡_ {A = ℕ} 0 1 = cc in omega ar
 between-hand : (w w' : List ℕ) → take handsAt w' ≡ take handsAt w → Between w w'
 between-hand w w' e j h l = below-hand w w' e j l
 
--- ---- clause `number` of the tables, its first atom and its counts, and body atom i
-module _ (k : Counters) (c a : List ℕ) (S : Standing k c a) (number : ℕ) (h : number < k .clauses) (i first nb nh : ℕ) (ef : first ≡ firstAtom c number) (eb : nb ≡ getD c (3 * number + 1) 0) (eh : nh ≡ getD c (3 * number + 2) 0) (lt : i < nb) where
+-- ---- clause `number` of the tables, the part bs that its body is, and body atom i
+module _ (k : Counters) (c a : List ℕ) (S : Standing k c a) (number : ℕ) (h : number < k .clauses) (bs : List ℕ) (B : Run bs (standingAt k c a S number h .body)) (i : ℕ) (lt : i < bodyCount c number) where
   abbrev here : Clause
   here = standingAt k c a S number h
 
-  body-long : nb ≡ length (here .body)
-  body-long = eb ∙ body-word c a number here (standing-placed k c a S number h)
+  body-long : bodyCount c number ≡ length (here .body)
+  body-long = standing-placed k c a S number h .body
 
-  head-long : nh ≡ length (here .head)
-  head-long = eh ∙ head-word c a number here (standing-placed k c a S number h)
+  head-long : headCount c number ≡ length (here .head)
+  head-long = standing-placed k c a S number h .head
+
+  pub atom-in : 24 * i < length bs
+  atom-in = omega (arith, body-long, lt, B .long)
 
   pub record Split (before after head : List Atom) (x : Atom) : Type 0 where
     pub is : here ≡ clause (before ++ (x ∷ after)) head
@@ -87,17 +81,8 @@ module _ (k : Counters) (c a : List ℕ) (S : Standing k c a) (number : ℕ) (h 
       let l : i < length (here .body) = omega (arith, body-long) in
       record { is = ap (λ (b : List Atom). clause b (here .head)) (split-at (here .body) i noAtom l); at = sym (length-take-le i (here .body) (omega arith)) }
 
-  split-there : (before after head : List Atom) (x : Atom) → Split before after head x → At a (6 * (first + i)) (six x)
-  split-there before after head x P = rw ef (atom-at k c a S number h before after head x i (P .is) (P .at) .0)
-
-  pub run-is : RunThere a first nb nh
-  run-is = rw (ef, eb, eh) (run-there k c a S number h)
-
-  pub atom-is : AtomThere a (first + i)
-  atom-is =
-      let P = split in
-      let x : Atom = getD (here .body) i noAtom in
-      record { atom = x; there = split-there (take i (here .body)) (drop (suc i) (here .body)) (here .head) x P; plain = atom-at k c a S number h (take i (here .body)) (drop (suc i) (here .body)) (here .head) x i (P .is) (P .at) .1 }
+  split-run : (before after head : List Atom) (x : Atom) → Split before after head x → Run bs (before ++ (x ∷ after))
+  split-run before after head x P = subst (λ (z : Clause). Run bs (z .body)) (P .is) B
 
   -- a split of a drawn state's clause
   module _ (env : Env) (roles : List ℕ) (originals left n : ℕ) (w d : List ℕ) (v : Derived) (s : Out) (T : Stands env roles originals left k (four w c a d) n v s) (C : Counted originals k n)
@@ -109,35 +94,39 @@ module _ (k : Counters) (c a : List ℕ) (S : Standing k c a) (number : ℕ) (h 
     drawn-split = record { is = ap (λ (l : List Clause). getD l number noClause) (sym same-list) ∙ es; at = ei }
 
     -- an atom along which nothing is contracted
-    pub unfold-other : (b : Bool) → ((set : List ℕ) (y : Atom) → FlagsHeld w set → At a (6 * (first + i)) (six y) → b ≡ isReflexive set y) → b ≡ false → FlagsHeld w roles
+    pub unfold-other : (b : Bool) → ((set : List ℕ) (f l : List Atom) (y : Atom) → FlagsHeld w set → Run bs (f ++ (y ∷ l)) → i ≡ length f → b ≡ isReflexive set y) → b ≡ false → FlagsHeld w roles
         → Moved env roles originals left k n (four w c a d) v s (unfoldOne env roles before after head x v s) k n
     unfold-other b R e F =
-        let q : isReflexive roles x ≡ false = sym (R roles x F (split-there before after head x drawn-split)) ∙ e in
+        let q : isReflexive roles x ≡ false = sym (R roles before after x F (split-run before after head x drawn-split) ei) ∙ e in
         stays env roles originals left k n w c a d v s T C w (λ j l. refl) (unfoldOne env roles before after head x v s) (one-other env roles before after head x v s q)
 
-  -- ---- contracted along it
-  module _ (w : List ℕ) (b : Bool) (R : (set : List ℕ) (y : Atom) → FlagsHeld w set → At a (6 * (first + i)) (six y) → b ≡ isReflexive set y) (yes : b ≡ true) (w1 : List ℕ)
-      (P : (before after head : List Atom) (r : Role) (src tgt : ℕ) → At a (6 * first) (flat ((before ++ (RoleAtom r src tgt ∷ after)) ++ head)) → i ≡ length before → nb ≡ i + 1 + length after → nh ≡ length head → ClauseInHand w1 (nb - 1) nh (contracted before after head src tgt))
-      (fr : take handsAt w1 ≡ take handsAt w) where
+  -- ---- contracted along it; hs: the part that its head is
+  module _ (w : List ℕ) (b : Bool) (R : (set : List ℕ) (f l : List Atom) (y : Atom) → FlagsHeld w set → Run bs (f ++ (y ∷ l)) → i ≡ length f → b ≡ isReflexive set y) (yes : b ≡ true) (hs : List ℕ) (H : Run hs (here .head)) (w1 : List ℕ)
+      (P : (f l m : List Atom) (r : Role) (src tgt : ℕ) → Run bs (f ++ (RoleAtom r src tgt ∷ l)) → Run hs m → i ≡ length f → ClauseInHand w1 (length f + length l) (length m) (contracted f l m src tgt))
+      (fr : take handsAt w1 ≡ take handsAt w) (nb nh : ℕ) (eb : nb ≡ bodyCount c number) (eh : nh ≡ headCount c number) where
     record Made (roles : List ℕ) (before after head : List Atom) (x : Atom) : Type 0 where
       roled : Roled roles x
       hand : ClauseInHand w1 (nb - 1) nh (contracted before after head (roled .src) (roled .tgt))
 
     made : (roles : List ℕ) (before after head : List Atom) (x : Atom) → FlagsHeld w roles → Split before after head x → Made roles before after head x
     made roles before after head x F Q =
-        let q : isReflexive roles x ≡ true = sym (R roles x F (split-there before after head x Q)) ∙ yes in
+        let q : isReflexive roles x ≡ true = sym (R roles before after x F (split-run before after head x Q) (Q .at)) ∙ yes in
         let r = roled roles x q in
         let e : here ≡ clause (before ++ (RoleAtom (r .role) (r .src) (r .tgt) ∷ after)) head = Q .is ∙ ap (λ (y : Atom). clause (before ++ (y ∷ after)) head) (r .is) in
-        let run : At a (6 * first) (flat (here .body ++ here .head)) = rw ef (standing-run k c a S number h) in
         let m = ap (λ (z : Clause). length (z .body)) e in
         let g = length-append before (RoleAtom (r .role) (r .src) (r .tgt) ∷ after) in
+        let n : nb - 1 ≡ length before + length after = omega (arith, eb, body-long, m, g) in
+        let o : nh ≡ length head = eh ∙ head-long ∙ ap (λ (z : Clause). length (z .head)) e in
         record {
           roled = r;
-          hand = P before after head (r .role) (r .src) (r .tgt) (subst (λ (z : Clause). At a (6 * first) (flat (z .body ++ z .head))) e run) (Q .at) (omega (arith, body-long, m, g, Q .at)) (head-long ∙ ap (λ (z : Clause). length (z .head)) e);
+          hand = rw (n, o) (P before after head (r .role) (r .src) (r .tgt) (subst (λ (z : Clause). Run bs (z .body)) e B) (subst (λ (z : Clause). Run hs (z .head)) e H) (Q .at));
         }
 
-    contracted-of : (B : Bounds) (fresh vars : ℕ) (roles : List ℕ) (before after head : List Atom) (x : Atom) (r : Roled roles x) → ClauseIn B fresh vars (clause (before ++ (x ∷ after)) head) → ClauseIn B fresh vars (contracted before after head (r .src) (r .tgt))
-    contracted-of B fresh vars roles before after head x r I = contracted-in B fresh vars (r .role) before after head (r .src) (r .tgt) (subst (λ (y : Atom). ClauseIn B fresh vars (clause (before ++ (y ∷ after)) head)) (r .is) I)
+    contracted-of : (X : Bounds) (fresh vars : ℕ) (roles : List ℕ) (before after head : List Atom) (x : Atom) (r : Roled roles x) → ClauseIn X fresh vars (clause (before ++ (x ∷ after)) head) → ClauseIn X fresh vars (contracted before after head (r .src) (r .tgt))
+    contracted-of X fresh vars roles before after head x r I = contracted-in X fresh vars (r .role) before after head (r .src) (r .tgt) (subst (λ (y : Atom). ClauseIn X fresh vars (clause (before ++ (y ∷ after)) head)) (r .is) I)
+
+    pub hand-short : (nb - 1 ≤ 256) × (nh ≤ 256)
+    hand-short = let I = standing-in k c a S number h in (omega (arith, eb, body-long, I .bodyShort), omega (arith, eh, head-long, I .headShort))
 
     -- a clause is in hand, whatever the flags
     pub hand-there : HandThere w1 (nb - 1) nh
@@ -149,7 +138,7 @@ module _ (k : Counters) (c a : List ℕ) (S : Standing k c a) (number : ℕ) (h 
         record {
           clause = contracted (take i (here .body)) (drop (suc i) (here .body)) (here .head) (M .roled .src) (M .roled .tgt);
           there = M .hand;
-          short = (omega (arith, body-long, I .bodyShort), omega (arith, head-long, I .headShort));
+          short = hand-short;
           plain = plain-clause (S .bounds) (S .fresh) (S .vars) (S .roles) (S .classes) (contracted (take i (here .body)) (drop (suc i) (here .body)) (here .head) (M .roled .src) (M .roled .tgt)) J;
         }
 
@@ -200,7 +189,7 @@ module _ (k : Counters) (c a : List ℕ) (S : Standing k c a) (number : ℕ) (h 
               → Unfolds env roles originals left k n y v s (unfoldOne env roles before after head x v s) r
           unfold-new e y r D =
               subst (λ (u : Res Out Turned). Unfolds env roles originals left k n y v s u r) (sym (rule false false (trivial-is ∙ no) (among-is ∙ e)))
-              (D z stands (M .hand) (λ B fresh vars I. contracted-of B fresh vars roles before after head x (M .roled) (subst (ClauseIn B fresh vars) es (each-at (ClauseIn B fresh vars) (s .clauses) number I (omega (arith, h, show-tabled env k c a d s (T .drawn) .count))))))
+              (D z stands (M .hand) (λ X fresh vars I. contracted-of X fresh vars roles before after head x (M .roled) (subst (ClauseIn X fresh vars) es (each-nth (ClauseIn X fresh vars) (s .clauses) number noClause I (omega (arith, h, show-tabled env k c a d s (T .drawn) .count))))))
 
 -- ---- the answer, where only what is in hand was written
 pub answered-same : (k : Counters) (w w' : List ℕ) (n : ℕ) → Good k → take handsAt w' ≡ take handsAt w → Answered k w w' (More k n)

@@ -1,7 +1,7 @@
 -- The loop over a clause's body, and back to the queue; the pass's ends. Assumes nothing.
 use mathlib.Core.Path.{_≡_, refl, sym, ap, subst, _∙_}
 use mathlib.Core.List.{List, [], _∷_, _++_, append-assoc}
-use Prim.Native.Nat.{ℕ, _+_, _*_, _<_, _≤_}
+use Prim.Native.Nat.{ℕ, _+_, _<_, _≤_}
 use native.Mathlib.Omega.{arith}
 use lib.ListN.{length, getD, length-append, List·getD-append}
 use Rattle.words.specs.Words.{words}
@@ -20,10 +20,11 @@ use Rattle.leaves.specs.StepLaws.{alike-same, alike-then, words-long, lent-kept
 use Rattle.unfolding.specs.declared.unfold.Unfolded.{Unfolded}
 use Rattle.unfolding.specs.declared.unfold.Unfolded.the-variants.{More, Capped, Refused as Refusal}
 use Rattle.reflexive.specs.Flags.{FlagsHeld}
-use Rattle.contraction.specs.PlacedLaws.{noClause, tabled-at, body-word}
+use Rattle.tables.specs.Tabled.{bodyCount, noClause}
+use Rattle.tables.specs.ClauseLaws.{clause-at}
 use Rattle.unfolding.specs.Unfolding.{unfoldOne, Counted, Stands, Inside, Moves, Moved, Stopped, Unfolds, GoodUnfolded, KeptUnfolded, Between, Answered}
 use Rattle.unfolding.specs.Passing.{Partway, Unrolling}
-use Rattle.unfolding.specs.ClauseLaws.{show-tabled}
+use Rattle.tables.specs.ClauseLaws.{show-tabled}
 use Rattle.unfolding.specs.QueueLaws.{one-then}
 use Rattle.unfolding.specs.DeriveLaws.{moves-none}
 use Rattle.unfolding.specs.FlagSet.{flags-kept}
@@ -89,7 +90,7 @@ unroll-first originals left number k m x g C = record {
 
 -- ---- on the way; x is what stood there at the body's first atom, y what stands there now
 module _ (originals left number : ℕ) (k : Counters) (m : ℕ) (x : Four) (l : Counters) (n i : ℕ) (y : Four) (U : Unrolling originals left number k m x l n i y)
-    (there : number < k .clauses) (nb : ℕ) (eb : nb ≡ getD (x .clauses) (3 * number + 1) 0) where
+    (there : number < k .clauses) (nb : ℕ) (eb : nb ≡ bodyCount (x .clauses) number) where
   module _ (env : Env) (roles : List ℕ) (v : Derived) (s : Out) (F : FlagsHeld (x .scratch) roles) (L : Lent (env .rooms) (x .clauses) (x .atoms) (x .deferrals)) (T : Stands env roles originals left k x m v s) where
     pub partway : Partway env roles originals left number l n i y v s
     partway = U .so env roles v s F L T
@@ -98,7 +99,7 @@ module _ (originals left number : ℕ) (k : Counters) (m : ℕ) (x : Four) (l : 
     itself = getD (s .clauses) number noClause
 
     long : nb ≡ length (partway .before ++ partway .rest)
-    long = eb ∙ body-word (x .clauses) (x .atoms) number itself (tabled-at (x .clauses) (x .atoms) (k .clauses) (s .clauses) number (show-tabled env k (x .clauses) (x .atoms) (x .deferrals) s (T .drawn)) there) ∙ ap length (partway .body)
+    long = eb ∙ clause-at (x .clauses) (x .atoms) (k .clauses) (s .clauses) (show-tabled env k (x .clauses) (x .atoms) (x .deferrals) s (T .drawn)) number there .body ∙ ap length (partway .body)
 
     -- the clause is the same later
     still : getD (partway .state .clauses) number noClause ≡ itself
@@ -106,10 +107,9 @@ module _ (originals left number : ℕ) (k : Counters) (m : ℕ) (x : Four) (l : 
         ap (λ (t : List Clause). getD t number noClause) (partway .moves .grown)
         ∙ List·getD-append (s .clauses) (partway .moves .new) noClause number (omega (arith, there, clauses-count env k s (x .clauses) (x .atoms) (x .deferrals) (T .drawn)))
 
-    pub body-left : i < nb → i < getD (y .clauses) (3 * number + 1) 0
+    pub body-left : i < nb → i < bodyCount (y .clauses) number
     body-left lt =
-        let z = body-word (y .clauses) (y .atoms) number (getD (partway .state .clauses) number noClause)
-        (tabled-at (y .clauses) (y .atoms) (l .clauses) (partway .state .clauses) number (show-tabled env l (y .clauses) (y .atoms) (y .deferrals) (partway .state) (partway .stands .drawn)) (omega (arith, there, U .grows))) in
+        let z = clause-at (y .clauses) (y .atoms) (l .clauses) (partway .state .clauses) (show-tabled env l (y .clauses) (y .atoms) (y .deferrals) (partway .state) (partway .stands .drawn)) number (omega (arith, there, U .grows)) .body in
         let e : length (getD (partway .state .clauses) number noClause .body) ≡ nb = ap (λ (c : Clause). length (c .body)) still ∙ ap length (partway .body) ∙ sym long in
         omega (arith, z, e, lt)
 

@@ -5,9 +5,10 @@ use contraction::contract;
 use ir::answer::Answer;
 use ir::counters::Counters;
 use ir::deferral::Deferral;
+use tables::read;
 ghost use mathlib.Core.Path.{_≡_};
 ghost use mathlib.Core.List.{List, _∷_, _++_};
-ghost use Prim.Native.Nat.{ℕ, _+_, _*_, _<_, _≤_};
+ghost use Prim.Native.Nat.{ℕ, _+_, _<_, _≤_};
 ghost use lib.Dec.{eqb};
 ghost use lib.ListN.{length, getD};
 ghost use Rattle.words.specs.Words.{words};
@@ -20,7 +21,7 @@ ghost use Rattle.hands.specs.Hands.{four};
 ghost use Rattle.reflexive.specs.Flags.{FlagsHeld};
 ghost use Rattle.contraction.specs.InHands.{inHandBytes, ClauseInHand};
 ghost use Rattle.contraction.specs.Passes.{Standing, Drawn, StandingAfter, Passed};
-ghost use Rattle.contraction.specs.PlacedLaws.{noClause};
+ghost use Rattle.tables.specs.Tabled.{bodyCount, noClause};
 ghost use Rattle.unfolding.specs.Unfolding.{unfoldOne, Counted, Stands, Follows, Unfolds, Answered};
 
 // The derived clauses of the queue: a word each where the pool was.
@@ -49,7 +50,12 @@ fn derive(
     nh: u32,
 ) -> Unfolded
     requires { ⌜ Counted originals k queued × (nb ≤ 256) × (nh ≤ 256) × Good k × (inHandBytes ≤ length (now scratch)) × Sized (length (now clauses)) (length (now atoms)) (length (now deferrals)) ⌝ }
-    ensures { λ r. ⌜ ((env : Env) (set : List ℕ) (left : ℕ) (v : Derived) (s : Out) (x : Clause) → Lent (env .rooms) (words (now (clauses .entry))) (words (now (atoms .entry))) (words (now (deferrals .entry))) → Stands env set originals left k (four (words (now (scratch .entry))) (words (now (clauses .entry))) (words (now (atoms .entry))) (words (now (deferrals .entry)))) queued v s → ClauseInHand (words (now (scratch .entry))) nb nh x → Follows s x → Unfolds env set originals left k queued (four (words (now (scratch .exit))) (words (now (clauses .exit))) (words (now (atoms .exit))) (words (now (deferrals .exit)))) v s (derive env set x v (eqb (length (v .seen)) reflexiveDerivedCap) s) r) ⌝ }
+    ensures { λ r.
+        let old = four (words (now (scratch .entry))) (words (now (clauses .entry))) (words (now (atoms .entry))) (words (now (deferrals .entry))) in
+        let new = four (words (now (scratch .exit))) (words (now (clauses .exit))) (words (now (atoms .exit))) (words (now (deferrals .exit))) in
+        ⌜ ((env : Env) (set : List ℕ) (left : ℕ) (v : Derived) (s : Out) (x : Clause)
+        → Lent (env .rooms) (old .clauses) (old .atoms) (old .deferrals) → Stands env set originals left k old queued v s → ClauseInHand (old .scratch) nb nh x → Follows s x
+        → Unfolds env set originals left k queued new v s (derive env set x v (eqb (length (v .seen)) reflexiveDerivedCap) s) r) ⌝ }
     ensures { λ r. ⌜ Answered k (words (now (scratch .entry))) (words (now (scratch .exit))) r ⌝ }
 {
     if k.clauses - originals == CAP {
@@ -79,17 +85,23 @@ fn unfold_at(
     c: u32,
     i: u32,
 ) -> Unfolded
-    requires { ⌜ Standing k (words (now clauses)) (words (now atoms)) × (c < k .clauses) × (i < getD (words (now clauses)) (3 * c + 1) 0) × Counted originals k queued × Good k × (inHandBytes ≤ length (now scratch)) × Sized (length (now clauses)) (length (now atoms)) (length (now deferrals)) ⌝ }
-    ensures { λ r. ⌜ ((env : Env) (set : List ℕ) (left : ℕ) (v : Derived) (s : Out) (before after head : List Atom) (x : Atom) → FlagsHeld (words (now (scratch .entry))) set → Lent (env .rooms) (words (now (clauses .entry))) (words (now (atoms .entry))) (words (now (deferrals .entry))) → Stands env set originals left k (four (words (now (scratch .entry))) (words (now (clauses .entry))) (words (now (atoms .entry))) (words (now (deferrals .entry)))) queued v s → getD (s .clauses) c noClause ≡ clause (before ++ (x ∷ after)) head → i ≡ length before → Unfolds env set originals left k queued (four (words (now (scratch .exit))) (words (now (clauses .exit))) (words (now (atoms .exit))) (words (now (deferrals .exit)))) v s (unfoldOne env set before after head x v s) r) ⌝ }
+    requires { ⌜ Standing k (words (now clauses)) (words (now atoms)) × (c < k .clauses) × (i < bodyCount (words (now clauses)) c) × Counted originals k queued × Good k × (inHandBytes ≤ length (now scratch)) × Sized (length (now clauses)) (length (now atoms)) (length (now deferrals)) ⌝ }
+    ensures { λ r.
+        let old = four (words (now (scratch .entry))) (words (now (clauses .entry))) (words (now (atoms .entry))) (words (now (deferrals .entry))) in
+        let new = four (words (now (scratch .exit))) (words (now (clauses .exit))) (words (now (atoms .exit))) (words (now (deferrals .exit))) in
+        ⌜ ((env : Env) (set : List ℕ) (left : ℕ) (v : Derived) (s : Out) (before after head : List Atom) (x : Atom)
+        → FlagsHeld (old .scratch) set → Lent (env .rooms) (old .clauses) (old .atoms) (old .deferrals) → Stands env set originals left k old queued v s
+        → getD (s .clauses) c noClause ≡ clause (before ++ (x ∷ after)) head → i ≡ length before
+        → Unfolds env set originals left k queued new v s (unfoldOne env set before after head x v s) r) ⌝ }
     ensures { λ r. ⌜ Answered k (words (now (scratch .entry))) (words (now (scratch .exit))) r ⌝ }
 {
-    let first = words::get_word(clauses, 3 * (c as usize)) as usize;
-    let nb = words::get_word(clauses, 3 * (c as usize) + 1);
-    let nh = words::get_word(clauses, 3 * (c as usize) + 2);
-    if !clause::is_reflexive(scratch, atoms, first + i as usize) {
+    let body = read::body_of(clauses, atoms, c);
+    if !clause::is_reflexive(scratch, body, i) {
         return Unfolded::More(k, queued);
     }
-    contract::put_contracted(scratch, atoms, first, nb, nh, i);
+    contract::put_contracted(scratch, body, read::head_of(clauses, atoms, c), i);
+    let nb = read::body_count(clauses, c);
+    let nh = read::head_count(clauses, c);
     if contract::is_trivial(scratch, nb - 1, nh) {
         return Unfolded::More(k, queued);
     }
@@ -118,7 +130,10 @@ pub fn apply_reflexive_roles(
     k: Counters,
 ) -> Answer
     requires { ⌜ Standing k (words (now clauses)) (words (now atoms)) × Drawn k (words (now clauses)) (words (now atoms)) (words (now deferrals)) × Good k × (338400 ≤ length (now scratch)) × Sized (length (now clauses)) (length (now atoms)) (length (now deferrals)) ⌝ }
-    ensures { λ r. ⌜ Passed (λ env set. applyReflexiveRoles env set) k (four (words (now (scratch .entry))) (words (now (clauses .entry))) (words (now (atoms .entry))) (words (now (deferrals .entry)))) (four (words (now (scratch .exit))) (words (now (clauses .exit))) (words (now (atoms .exit))) (words (now (deferrals .exit)))) r ⌝ }
+    ensures { λ r.
+        let old = four (words (now (scratch .entry))) (words (now (clauses .entry))) (words (now (atoms .entry))) (words (now (deferrals .entry))) in
+        let new = four (words (now (scratch .exit))) (words (now (clauses .exit))) (words (now (atoms .exit))) (words (now (deferrals .exit))) in
+        ⌜ Passed (λ env set. applyReflexiveRoles env set) k old new r ⌝ }
     ensures { λ r. ⌜ StandingAfter (words (now (clauses .exit))) (words (now (atoms .exit))) r ⌝ }
 {
     let originals = k.clauses;
@@ -133,7 +148,7 @@ pub fn apply_reflexive_roles(
             left -= 1;
             left
         };
-        let nb = words::get_word(clauses, 3 * (c as usize) + 1);
+        let nb = read::body_count(clauses, c);
         let mut i: u32 = 0;
         while i < nb {
             match unfold_at(

@@ -1,9 +1,9 @@
 use borrow.Author.Needs.{needs}
-use mathlib.Core.Path.{refl, ap, _∙_}
-use Prim.Native.Nat.{ℕ, _+_, _*_, _≤_}
+use mathlib.Core.Path.{refl}
+use Prim.Native.Nat.{_+_, _*_, _≤_}
 use native.Mathlib.Omega.{arith}
 use lib.ListN.{length}
-use Rattle.hands.specs.HandLaws.{part-length, part-words}
+use Rattle.hands.specs.HandLaws.{hand-run}
 use Rattle.hands.proofs.push_one.Statement.{statement}
 use Rattle.hands.proofs.push_one.Tie as tie
 use Rattle.hands.proofs.push_one.Reads as reads
@@ -48,8 +48,7 @@ returns c =
     λ d. record {
       equal = λ env f b s l E i t.
           q .0 env b s d (E .lent)
-          (part-length (a .args .base) (a .args .n) (a .args .scratch .now) _ refl fits ∙ ap (λ (m : ℕ). 24 * m) (i .long))
-          (part-words (a .args .base) (a .args .n) (a .args .scratch .now) b _ refl fits i) t;
+          (hand-run (a .args .base) (a .args .n) (a .args .scratch .now) b _ refl fits i) t;
       frame = refl;
       good = q .1 .0 (a .pre .3);
       kept = q .1 .1;

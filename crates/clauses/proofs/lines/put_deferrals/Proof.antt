@@ -4,10 +4,9 @@ use Prim.Native.Nat.{ℕ, _-_, _≤_}
 use native.Mathlib.Omega.{arith}
 use borrow.Author.Needs.{needs}
 use Rattle.words.specs.Words.{words}
-use Rattle.words.specs.Laws.{length-words}
 use Rattle.rows.specs.Rows.{Put, textsOf, textsLeft}
 use Rattle.rows.specs.RowLaws.{Left, texts-all, text-fits, text-more, texts-end}
-use Rattle.clauses.proofs.LineLaws.{deferralText, deferral-long, deferral-texts-long, deferring-text}
+use Rattle.clauses.proofs.LineLaws.{deferralText, deferral-long, deferral-texts-long, deferral-put, deferring-text}
 use Rattle.clauses.proofs.lines.put_deferrals.Statement.{statement}
 use Rattle.clauses.proofs.lines.put_deferrals.Tie as tie
 
@@ -22,23 +21,21 @@ loop-holds c =
     let a = c .before .before .args in
     (omega arith, texts-all (deferralText (words (a .deferrals .now))) 0 (a .n) (a .n) (a .out .now) (a .at) (omega arith))
 
-cast-put-row : tie.Need-cast-put-row Inv-loop μ-loop
-cast-put-row c = search needs
+deferral-line-requires : tie.Need-deferral-line-requires Inv-loop μ-loop
+deferral-line-requires c κs = let st = c .before .before .before .before in omega (arith, st .pre .0, c .loop-test .taken)
 
-mul-put-row : tie.Need-mul-put-row Inv-loop μ-loop
-mul-put-row c = search needs
+deferral-kind-requires : tie.Need-deferral-kind-requires Inv-loop μ-loop
+deferral-kind-requires c κs = let st = c .before .before .before .before .before in omega (arith, st .pre .0, c .before .loop-test .taken)
 
-put-row-requires : tie.Need-put-row-requires Inv-loop μ-loop
-put-row-requires c κs =
-    let st = c .before .before .before .before .before in
+put-three-requires : tie.Need-put-three-requires Inv-loop μ-loop
+put-three-requires c κs =
+    let m = c .before .before .before in
+    let st = m .before .before .before .before in
     let a = st .args in
-    let l = c .before .before .loop in
-    let t = c .before .loop-test .taken in
+    let l = m .before .loop in
     let w = words (a .deferrals .now) in
-    let long = deferral-texts-long w (a .n) 0 (rw (length-words (a .deferrals .now)) (omega (arith, st .pre .0))) in
-    let one = deferral-long w (l .i) (rw (length-words (a .deferrals .now)) (omega (arith, st .pre .0))) in
-    let f = text-fits (deferralText w) (l .i) (a .n) (a .out .now) (a .at) (textsOf (deferralText w) 0 (a .n)) (l .out) (l .p) t (l .inv .1) (omega (arith, long, st .pre .1)) in
-    (omega (arith, st .pre .0), omega (arith, f, one))
+    let f = text-fits (deferralText w) (l .i) (a .n) (a .out .now) (a .at) (textsOf (deferralText w) 0 (a .n)) (l .out) (l .p) (m .loop-test .taken) (l .inv .1) (omega (arith, deferral-texts-long w (a .n) 0, st .pre .1)) in
+    omega (arith, f, deferral-long w (l .i))
 
 add-i : tie.Need-add-i Inv-loop μ-loop
 add-i c = search needs
@@ -48,12 +45,15 @@ loop-less c = omega arith
 
 loop-again : tie.Need-loop-again Inv-loop μ-loop
 loop-again c =
-    let a = c .before .before .before .before .before .before .before .before .args in
-    let l = c .before .before .before .before .before .loop in
-    let t = c .before .before .before .before .loop-test .taken in
-    let q = c .before .before .put-row in
+    let q = c .before .before in
+    let k = q .before .before in
+    let m = k .before .before in
+    let a = m .before .before .before .before .args in
+    let l = m .before .loop in
+    let t = m .loop-test .taken in
     let f = deferralText (words (a .deferrals .now)) in
-    (omega arith, text-more f (l .i) (a .n) (a .out .now) (a .at) (textsOf f 0 (a .n)) (l .out) (l .p) _ (q .result) t (l .inv .1) (q .ensures))
+    let P = deferral-put (words (a .deferrals .now)) (l .i) (k .before .deferral-line .result) (k .deferral-kind .result) (k .before .deferral-line .ensures) (k .deferral-kind .ensures) (q .put-three .ensures) in
+    (omega (arith, t), text-more f (l .i) (a .n) (a .out .now) (a .at) (textsOf f 0 (a .n)) (l .out) (l .p) _ (q .put-three .result) t (l .inv .1) P)
 
 same-length : tie.Need-same-length Inv-loop μ-loop
 same-length c = c .before .loop .inv .1 .long
@@ -73,9 +73,9 @@ put-deferrals-spec =
     Inv-loop
     μ-loop
     loop-holds
-    cast-put-row
-    mul-put-row
-    put-row-requires
+    deferral-line-requires
+    deferral-kind-requires
+    put-three-requires
     add-i
     loop-less
     loop-again

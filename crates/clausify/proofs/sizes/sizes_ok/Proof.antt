@@ -8,11 +8,17 @@ use borrow.Author.Needs.{needs}
 use Rattle.clausify.proofs.sizes.sizes_ok.Statement.{statement}
 use Rattle.clausify.proofs.sizes.sizes_ok.Tie as tie
 
+mul-table-ok : tie.Need-mul-table-ok
+mul-table-ok c = search needs
+
 table-ok-requires : tie.Need-table-ok-requires
 table-ok-requires c κs = search needs
 
 table-ok-requires-2 : tie.Need-table-ok-requires-2
 table-ok-requires-2 c κs = search needs
+
+mul-table-ok-2 : tie.Need-mul-table-ok-2
+mul-table-ok-2 c = search needs
 
 table-ok-requires-3 : tie.Need-table-ok-requires-3
 table-ok-requires-3 c κs = search needs
@@ -46,4 +52,11 @@ returns-2 c =
 pub sizes-ok-spec : {M : Type 1} → statement M
 sizes-ok-spec =
     tie.close
-    (tie.spec table-ok-requires table-ok-requires-2 table-ok-requires-3 returns returns-2)
+    (tie.spec
+    mul-table-ok
+    table-ok-requires
+    table-ok-requires-2
+    mul-table-ok-2
+    table-ok-requires-3
+    returns
+    returns-2)

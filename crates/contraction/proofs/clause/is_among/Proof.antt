@@ -1,4 +1,4 @@
-use mathlib.Core.Path.{_≡_, refl, sym, ap, _∙_}
+use mathlib.Core.Path.{_≡_, sym, ap, _∙_}
 use mathlib.Core.Bool.{false}
 use mathlib.Core.List.{List}
 use Prim.Native.Nat.{ℕ, _+_, _-_, _<_, _≤_}
@@ -8,10 +8,10 @@ use Rattle.words.specs.Words.{words}
 use Rattle.rules.specs.Base.{any}
 use Rattle.rules.specs.State.{Clause}
 use Rattle.rules.specs.Reflexive.{sameClause}
-use Rattle.tables.specs.Tabled.{Tabled}
+use Rattle.tables.specs.Tabled.{Tabled, noClause}
+use Rattle.tables.specs.ClauseLaws.{there-at, clause-at}
 use Rattle.contraction.specs.InHands.{ClauseInHand}
 use Rattle.contraction.specs.SameLaws.{any-found, any-on, any-none, any-behind}
-use Rattle.contraction.specs.PlacedLaws.{noClause, tabled-at}
 use Rattle.contraction.proofs.clause.is_among.Statement.{statement}
 use Rattle.contraction.proofs.clause.is_among.Tie as tie
 
@@ -34,7 +34,7 @@ is-clause-requires c κs =
     let L = c .before .loop in
     let Q = s .pre .1 in
     let lt : L .c - 1 < s .args .to = omega (arith, L .inv .1, c .loop-test .taken) in
-    (s .pre .0, record { clause = getD (Q .list) (L .c - 1) noClause; there = tabled-at (words (s .args .clauses .now)) (words (s .args .atoms .now)) (s .args .to) (Q .list) (L .c - 1) (Q .tabled) lt }, s .pre .3)
+    (s .pre .0, there-at (words (s .args .clauses .now)) (words (s .args .atoms .now)) (s .args .to) Q (L .c - 1) lt, s .pre .3)
 
 returns : tie.Need-returns Inv-loop μ-loop
 returns c =
@@ -43,7 +43,7 @@ returns c =
     let t = c .before .before .loop-test .taken in
     let lt : L .c - 1 < s .args .to = omega (arith, L .inv .1, t) in
     λ l x Q X. sym (any-behind (sameClause x) l (s .args .from) (L .c - 1) (omega (arith, t)) (any-found (sameClause x) l (L .c - 1) noClause (omega (arith, lt, Q .count))
-    (sym (c .before .is-clause .ensures x (getD l (L .c - 1) noClause) X (tabled-at (words (s .args .clauses .now)) (words (s .args .atoms .now)) (s .args .to) l (L .c - 1) Q lt)) ∙ c .if1 .taken)))
+    (sym (c .before .is-clause .ensures x (getD l (L .c - 1) noClause) X (clause-at (words (s .args .clauses .now)) (words (s .args .atoms .now)) (s .args .to) l Q (L .c - 1) lt)) ∙ c .if1 .taken)))
 
 loop-less : tie.Need-loop-less Inv-loop μ-loop
 loop-less c = omega (arith, c .before .before .loop-test .taken)
@@ -58,7 +58,7 @@ loop-again c =
       omega (arith, t),
       omega (arith, lt),
       λ l x Q X. any-on (sameClause x) l (L .c - 1) noClause (omega (arith, lt, Q .count))
-          (sym (c .before .is-clause .ensures x (getD l (L .c - 1) noClause) X (tabled-at (words (s .args .clauses .now)) (words (s .args .atoms .now)) (s .args .to) l (L .c - 1) Q lt)) ∙ c .if1 .left)
+          (sym (c .before .is-clause .ensures x (getD l (L .c - 1) noClause) X (clause-at (words (s .args .clauses .now)) (words (s .args .atoms .now)) (s .args .to) l Q (L .c - 1) lt)) ∙ c .if1 .left)
           ∙ ap (λ (m : ℕ). any (sameClause x) (drop m l)) next ∙ L .inv .2 l x Q X,
     )
 

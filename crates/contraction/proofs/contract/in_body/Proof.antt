@@ -9,8 +9,8 @@ use Rattle.ir.specs.declared.atom.Atom.{Atom}
 use Rattle.rules.specs.Base.{any}
 use Rattle.rules.specs.Run.{flat}
 use Rattle.tables.specs.TabledLaws.{At}
+use Rattle.tables.specs.AtomLaws.{noAtom, flat-nth}
 use Rattle.contraction.specs.InHands.{handAt}
-use Rattle.contraction.specs.HandLaws.{noAtom, flat-nth}
 use Rattle.contraction.specs.SameLaws.{any-found, any-on, any-none, record-same}
 use Rattle.contraction.proofs.contract.in_body.Statement.{statement}
 use Rattle.contraction.proofs.contract.in_body.Tie as tie

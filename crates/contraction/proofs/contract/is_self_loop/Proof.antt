@@ -3,8 +3,8 @@ use Prim.Native.Nat.{ℕ, _/_}
 use native.Mathlib.Omega.{arith}
 use Rattle.words.specs.Words.{words}
 use Rattle.rules.specs.Base.{contains}
+use Rattle.tables.specs.AtomLaws.{kind-is, role-is, source-is, target-is}
 use Rattle.contraction.specs.PlacedLaws.{atom-room}
-use Rattle.contraction.specs.HandLaws.{kind-is, role-is, source-is, target-is}
 use Rattle.contraction.specs.FlagWords.{loop-kind, loop-apart, loop-role}
 use Rattle.contraction.proofs.contract.is_self_loop.Statement.{statement}
 use Rattle.contraction.proofs.contract.is_self_loop.Tie as tie

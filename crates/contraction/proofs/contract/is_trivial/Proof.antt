@@ -8,9 +8,9 @@ use Rattle.words.specs.Laws.{length-words}
 use Rattle.rules.specs.Base.{any}
 use Rattle.rules.specs.State.{Clause}
 use Rattle.rules.specs.Reflexive.{isTrivial}
+use Rattle.tables.specs.AtomLaws.{noAtom}
 use Rattle.reflexive.specs.Flags.{FlagsHeld}
 use Rattle.contraction.specs.InHands.{handAt, ClauseInHand}
-use Rattle.contraction.specs.HandLaws.{noAtom}
 use Rattle.contraction.specs.SameLaws.{any-none}
 use Rattle.contraction.specs.TrivialLaws.{body-at, head-at, head-there, always, trivial-start, trivial-body, trivial-loop, trivial-on}
 use Rattle.contraction.proofs.contract.is_trivial.Statement.{statement}

@@ -13,7 +13,7 @@ use Rattle.contraction.proofs.contract.put_one.Statement.{statement}
 use Rattle.contraction.proofs.contract.put_one.Tie as tie
 
 get-atom-requires : tie.Need-get-atom-requires
-get-atom-requires c κs = let s = c .before .before in omega (arith, atom-room (s .args .atoms .now) (s .args .from) (s .pre .0))
+get-atom-requires c κs = let s = c .before .before in omega (arith, atom-room (s .args .run .now) (s .args .i) (s .pre .0))
 
 enum-known-a : tie.Need-enum-known-a
 enum-known-a c = search needs
@@ -24,7 +24,7 @@ enum-told c = search needs
 returns : tie.Need-returns
 returns c =
     let s = c .before .before .before .before .before in
-    λ x h. absurd (read-none (words (s .args .atoms .now)) (s .args .from) (s .pre .0) (c .before .before .get-atom .result) (c .before .before .get-atom .ensures) (c .enum-told .given .1))
+    λ x h. absurd (read-none (words (s .args .run .now)) (s .args .i) (s .pre .0) (c .before .before .get-atom .result) (c .before .before .get-atom .ensures) (c .enum-told .given .1))
 
 substitute-atom-requires : tie.Need-substitute-atom-requires
 substitute-atom-requires c κs = search needs
@@ -33,7 +33,7 @@ put-atom-requires : tie.Need-put-atom-requires
 put-atom-requires c κs =
     let s = c .before .before .before .before .before .before .before .before in
     let y = c .before .before .before .a .given in
-    (s .pre .1, rw (c .substitute-atom .ensures) (fits-substituted (y .0 .0) (replaced (s .args .drop) (s .args .keep)) (read-fits (words (s .args .atoms .now)) (s .args .from) (s .pre .0) (c .before .before .before .before .before .get-atom .result) (c .before .before .before .before .before .get-atom .ensures) (y .0 .0) (y .1))))
+    (s .pre .1, rw (c .substitute-atom .ensures) (fits-substituted (y .0 .0) (replaced (s .args .drop) (s .args .keep)) (read-fits (words (s .args .run .now)) (s .args .i) (s .pre .0) (c .before .before .before .before .before .get-atom .result) (c .before .before .before .before .before .get-atom .ensures) (y .0 .0) (y .1))))
 
 same-length : tie.Need-same-length
 same-length c = search needs
@@ -46,7 +46,7 @@ returns-2 c =
     let y = q .before .before .before .a .given in
     let g = q .before .before .before .before .before .get-atom in
     λ x h. p .put-atom .ensures ∙ ap (λ (z : Atom). sets (words (s .args .scratch .now)) (6 * s .args .to) (six z))
-    (q .substitute-atom .ensures ∙ ap (λ (z : Atom). substituteAtom z (replaced (s .args .drop) (s .args .keep))) (read-same (words (s .args .atoms .now)) (s .args .from) (s .pre .0) (g .result) (g .ensures) x (y .0 .0) h (y .1)))
+    (q .substitute-atom .ensures ∙ ap (λ (z : Atom). substituteAtom z (replaced (s .args .drop) (s .args .keep))) (read-same (words (s .args .run .now)) (s .args .i) (s .pre .0) (g .result) (g .ensures) x (y .0 .0) h (y .1)))
 
 pub put-one-spec : {M : Type 1} → statement M
 put-one-spec =

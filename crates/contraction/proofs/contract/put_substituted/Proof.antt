@@ -5,31 +5,29 @@ use lib.ListN.{length, drop}
 use Rattle.words.specs.Words.{words}
 use Rattle.words.specs.Laws.{length-words}
 use Rattle.contraction.specs.Contracting.{PutAt}
-use Rattle.contraction.specs.ContractLaws.{atoms-room, atoms-nth, put-start, put-end, put-next}
+use Rattle.contraction.specs.PlainLaws.{plain-nth}
+use Rattle.contraction.specs.ContractLaws.{put-start, put-end, put-next}
 use Rattle.contraction.proofs.contract.put_substituted.Statement.{statement}
 use Rattle.contraction.proofs.contract.put_substituted.Tie as tie
 
 abbrev Inv-loop : tie.InvT-loop
-Inv-loop scratch₀ atoms from count to drop keep i₀ scratch i = PutAt (words atoms) from count to drop keep (words scratch₀) (words scratch) i × (length scratch ≡ length scratch₀)
+Inv-loop scratch₀ run to drop keep count i₀ scratch i = PutAt run to drop keep (words scratch₀) (words scratch) i × (length scratch ≡ length scratch₀)
 
 abbrev μ-loop : tie.MeasureT-loop
-μ-loop scratch₀ atoms from count to drop keep i₀ scratch i = count - i
+μ-loop scratch₀ run to drop keep count i₀ scratch i = count - i
 
 loop-holds : tie.Need-loop-holds Inv-loop μ-loop
-loop-holds c = let s = c .before .before in (put-start (words (s .args .atoms .now)) (s .args .from) (s .args .count) (s .args .to) (s .args .drop) (s .args .keep) (words (s .args .scratch .now)), refl)
+loop-holds c = let s = c .before .before in (put-start (s .args .run .now) (s .args .to) (s .args .drop) (s .args .keep) (words (s .args .scratch .now)), refl)
 
 add-put-one : tie.Need-add-put-one Inv-loop μ-loop
-add-put-one c = let s = c .before .before .before .before .before in let h = c .before .loop-test .taken in omega (arith, h, atoms-room (words (s .args .atoms .now)) (s .args .from) (s .args .count) (s .pre .0) (omega (arith, h)), length-words (s .args .atoms .now))
-
-add-put-one-2 : tie.Need-add-put-one-2 Inv-loop μ-loop
-add-put-one-2 c = let s = c .before .before .before .before .before in let L = c .before .before .loop in omega (arith, c .before .loop-test .taken, s .pre .1, L .inv .1)
+add-put-one c = let s = c .before .before .before .before .before in let L = c .before .before .loop in omega (arith, c .before .loop-test .taken, s .pre .1, L .inv .1)
 
 put-one-requires : tie.Need-put-one-requires Inv-loop μ-loop
 put-one-requires c κs =
     let s = c .before .before .before .before .before in
     let L = c .before .before .loop in
     let h = c .before .loop-test .taken in
-    (atoms-nth (words (s .args .atoms .now)) (s .args .from) (s .args .count) (s .pre .0) (L .i) h, omega (arith, h, s .pre .1, L .inv .1))
+    (plain-nth (s .args .run .now) (s .pre .0) (L .i) h, omega (arith, h, s .pre .1, L .inv .1))
 
 add-i : tie.Need-add-i Inv-loop μ-loop
 add-i c = omega (arith, c .before .before .before .before .loop-test .taken)
@@ -43,7 +41,7 @@ loop-again c =
     let s = p .before .before .before .before .before .before in
     let L = p .before .before .before .loop in
     let h = p .before .before .loop-test .taken in (
-      put-next (words (s .args .atoms .now)) (s .args .from) (s .args .count) (s .args .to) (s .args .drop) (s .args .keep) (words (s .args .scratch .now)) (words (L .scratch)) (L .i) (L .inv .0) h (s .pre .0) (omega (arith, h, s .pre .1, L .inv .1, length-words (L .scratch))) _ (p .put-one .ensures),
+      put-next (s .args .run .now) (s .args .to) (s .args .drop) (s .args .keep) (words (s .args .scratch .now)) (words (L .scratch)) (L .i) (L .inv .0) h (s .pre .0) (omega (arith, h, s .pre .1, L .inv .1, length-words (L .scratch))) _ (p .put-one .ensures),
       p .put-one .kept .0 ∙ L .inv .1,
     )
 
@@ -54,7 +52,7 @@ returns : tie.Need-returns Inv-loop μ-loop
 returns c =
     let s = c .before .before .before .before in
     let L = c .before .loop in
-    (put-end (words (s .args .atoms .now)) (s .args .from) (s .args .count) (s .args .to) (s .args .drop) (s .args .keep) (words (s .args .scratch .now)) (words (L .scratch)) (L .i) (L .inv .0) (c .loop-test .left), L .inv .0 .frame)
+    (put-end (s .args .run .now) (s .args .to) (s .args .drop) (s .args .keep) (words (s .args .scratch .now)) (words (L .scratch)) (L .i) (L .inv .0) (c .loop-test .left), L .inv .0 .frame)
 
 pub put-substituted-spec : {M : Type 1} → statement M
 put-substituted-spec =
@@ -64,7 +62,6 @@ put-substituted-spec =
     μ-loop
     loop-holds
     add-put-one
-    add-put-one-2
     put-one-requires
     add-i
     loop-less

@@ -7,14 +7,10 @@ use lib.ListN.{length}
 use Rattle.words.specs.Words.{words}
 use Rattle.words.specs.Laws.{length-words}
 use Rattle.leaves.specs.StepLaws.{words-long}
-use Rattle.counted.specs.OneLoop.{rows-room}
+use Rattle.counted.specs.OneLoop.{looping-there}
 use Rattle.counted.specs.LoopTurns.{HeadsAt, heads-start, heads-there, heads-next, heads-stop, heads-end}
 use Rattle.counted.proofs.loops.loops_of_head.Statement.{statement}
 use Rattle.counted.proofs.loops.loops_of_head.Tie as tie
-use Rattle.counted.proofs.loops.loops_of_head.Reads as reads
-use Rattle.counted.proofs.loops.loops_of_head.Lts as lts
-use Rattle.counted.proofs.loops.loop_of.Reads as loop-of-reads
-use Rattle.words.proofs.get_word.Reads as get-word-reads
 
 abbrev Inv-loop : tie.InvT-loop
 Inv-loop scratch₀ clauses₀ atoms₀ c from nh l₀ j₀ scratch clauses atoms l j = HeadsAt from c l₀ (words scratch₀) (words clauses₀) (words atoms₀) (words scratch) (words clauses) (words atoms) l j × (length scratch ≡ length scratch₀) × (length clauses ≡ length clauses₀) × (length atoms ≡ length atoms₀)
@@ -22,18 +18,12 @@ Inv-loop scratch₀ clauses₀ atoms₀ c from nh l₀ j₀ scratch clauses atom
 abbrev μ-loop : tie.MeasureT-loop
 μ-loop scratch₀ clauses₀ atoms₀ c from nh l₀ j₀ scratch clauses atoms l j = nh - j
 
-mul-get-word : tie.Need-mul-get-word Inv-loop μ-loop
-mul-get-word c = search needs
-
-add-get-word : tie.Need-add-get-word Inv-loop μ-loop
-add-get-word c = search needs
-
-get-word-requires : tie.Need-get-word-requires Inv-loop μ-loop
-get-word-requires c κs =
+head-count-requires : tie.Need-head-count-requires Inv-loop μ-loop
+head-count-requires c κs =
     let s = c .before .before .before .before in
     let C = words (s .args .clauses .now) in
     let A = words (s .args .atoms .now) in
-    omega (arith, length-words (s .args .clauses .now), rows-room (s .args .k) C A (s .args .from) (s .pre .0) (s .args .c) (s .pre .1))
+    omega (arith, length-words (s .args .clauses .now), looping-there (s .args .k) C A (s .args .from) (s .pre .0) (s .args .c) (s .pre .1) .is .row)
 
 loop-holds : tie.Need-loop-holds Inv-loop μ-loop
 loop-holds c =
@@ -42,7 +32,7 @@ loop-holds c =
     let W = words (s .args .scratch .now) in
     let C = words (s .args .clauses .now) in
     let A = words (s .args .atoms .now) in
-    (heads-start (s .args .from) (s .args .c) (g .get-word .result) (s .args .k) W C A (s .pre .0) (s .pre .1) (g .get-word .ensures) (s .pre .2), refl, refl, refl)
+    (heads-start (s .args .from) (s .args .c) (g .head-count .result) (s .args .k) W C A (s .pre .0) (s .pre .1) (g .head-count .ensures) (s .pre .2), refl, refl, refl)
 
 loop-of-requires : tie.Need-loop-of-requires Inv-loop μ-loop
 loop-of-requires c κs =
@@ -55,7 +45,7 @@ loop-of-requires c κs =
     let A = words (s .args .atoms .now) in (
       L .inv .0 .looped .looping,
       s .pre .1,
-      heads-there (s .args .from) (s .args .c) (g .get-word .result) (s .args .k) W C A (s .pre .0) (s .pre .1) (g .get-word .ensures) (words (L .scratch)) (words (L .clauses)) (words (L .atoms)) (L .l) (L .j) (L .inv .0) (i .loop-test .taken),
+      heads-there (s .args .from) (s .args .c) (g .head-count .result) (s .args .k) W C A (s .pre .0) (s .pre .1) (g .head-count .ensures) (words (L .scratch)) (words (L .clauses)) (words (L .atoms)) (L .l) (L .j) (L .inv .0) (i .loop-test .taken),
       L .inv .0 .good,
       omega (arith, s .pre .3, L .inv .1),
       record { clauses = omega (arith, s .pre .4 .clauses, L .inv .2); atoms = omega (arith, s .pre .4 .atoms, L .inv .3); deferrals = omega arith },
@@ -87,7 +77,7 @@ returns c =
     let C = words (s .args .clauses .now) in
     let A = words (s .args .atoms .now) in
     let g2 = c .before .e .given in
-    (heads-stop (s .args .from) (s .args .c) (g .get-word .result) (s .args .k) W C A (s .pre .0) (s .pre .1) (g .get-word .ensures) (words (L .scratch)) (words (L .clauses)) (words (L .atoms)) (L .l) (L .j) (L .inv .0) (i .loop-test .taken) (words-long (s .args .clauses .now) (L .clauses) (L .inv .2)) (words-long (s .args .atoms .now) (L .atoms) (L .inv .3)) _ _ _ (q .loop-of .result) (q .loop-of .ensures .0) (g2 .0 .0) (g2 .1), tt)
+    (heads-stop (s .args .from) (s .args .c) (g .head-count .result) (s .args .k) W C A (s .pre .0) (s .pre .1) (g .head-count .ensures) (words (L .scratch)) (words (L .clauses)) (words (L .atoms)) (L .l) (L .j) (L .inv .0) (i .loop-test .taken) (words-long (s .args .clauses .now) (L .clauses) (L .inv .2)) (words-long (s .args .atoms .now) (L .atoms) (L .inv .3)) _ _ _ (q .loop-of .result) (q .loop-of .ensures .0) (g2 .0 .0) (g2 .1), tt)
 
 add-j : tie.Need-add-j Inv-loop μ-loop
 add-j c =
@@ -111,7 +101,7 @@ loop-again c =
     let A = words (s .args .atoms .now) in
     let g2 = c .before .m .given in
     let kp = q .loop-of .kept in
-    (heads-next (s .args .from) (s .args .c) (g .get-word .result) (s .args .k) W C A (s .pre .0) (s .pre .1) (g .get-word .ensures) (words (L .scratch)) (words (L .clauses)) (words (L .atoms)) (L .l) (L .j) (L .inv .0) (i .loop-test .taken) (words-long (s .args .clauses .now) (L .clauses) (L .inv .2)) (words-long (s .args .atoms .now) (L .atoms) (L .inv .3)) _ _ _ (q .loop-of .result) (q .loop-of .ensures .0) (q .loop-of .ensures .1) (g2 .0 .0) (g2 .0 .1 .0) (g2 .1), kp .0 ∙ L .inv .1, kp .1 .0 ∙ L .inv .2, kp .1 .1 .0 ∙ L .inv .3)
+    (heads-next (s .args .from) (s .args .c) (g .head-count .result) (s .args .k) W C A (s .pre .0) (s .pre .1) (g .head-count .ensures) (words (L .scratch)) (words (L .clauses)) (words (L .atoms)) (L .l) (L .j) (L .inv .0) (i .loop-test .taken) (words-long (s .args .clauses .now) (L .clauses) (L .inv .2)) (words-long (s .args .atoms .now) (L .atoms) (L .inv .3)) _ _ _ (q .loop-of .result) (q .loop-of .ensures .0) (q .loop-of .ensures .1) (g2 .0 .0) (g2 .0 .1 .0) (g2 .1), kp .0 ∙ L .inv .1, kp .1 .0 ∙ L .inv .2, kp .1 .1 .0 ∙ L .inv .3)
 
 same-length-4 : tie.Need-same-length-4 Inv-loop μ-loop
 same-length-4 c = search needs
@@ -130,7 +120,7 @@ returns-2 c =
     let W = words (s .args .scratch .now) in
     let C = words (s .args .clauses .now) in
     let A = words (s .args .atoms .now) in
-    (heads-end (s .args .from) (s .args .c) (g .get-word .result) (s .args .k) W C A (s .pre .0) (s .pre .1) (g .get-word .ensures) (words (L .scratch)) (words (L .clauses)) (words (L .atoms)) (L .l) (L .j) (L .inv .0) (c .loop-test .left), L .inv .0 .looped)
+    (heads-end (s .args .from) (s .args .c) (g .head-count .result) (s .args .k) W C A (s .pre .0) (s .pre .1) (g .head-count .ensures) (words (L .scratch)) (words (L .clauses)) (words (L .atoms)) (L .l) (L .j) (L .inv .0) (c .loop-test .left), L .inv .0 .looped)
 
 pub loops-of-head-spec : {M : Type 1} → statement M
 loops-of-head-spec =
@@ -138,9 +128,7 @@ loops-of-head-spec =
     (tie.spec
     Inv-loop
     μ-loop
-    mul-get-word
-    add-get-word
-    get-word-requires
+    head-count-requires
     loop-holds
     loop-of-requires
     enum-known-m

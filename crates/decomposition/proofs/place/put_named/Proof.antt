@@ -25,14 +25,14 @@ get-word-requires c κs =
     let L = q .before .before .loop in
     omega (arith, s .pre .2, branch-get (words (e .scratch .now)) (e .s) (e .c) (e .to) (words (e .clauses .now)) (words (e .atoms .now)) (words (L .clauses)) (words (L .atoms)) (L .p) (L .a) (L .i) (L .inv .0) (s .pre .0) (q .if1 .taken))
 
-add-put-row : tie.Need-add-put-row Inv-loop μ-loop
-add-put-row c = search needs
+add-put-clause : tie.Need-add-put-clause Inv-loop μ-loop
+add-put-clause c = search needs
 
-cast-put-row : tie.Need-cast-put-row Inv-loop μ-loop
-cast-put-row c = search needs
+cast-put-clause : tie.Need-cast-put-clause Inv-loop μ-loop
+cast-put-clause c = search needs
 
-put-row-requires : tie.Need-put-row-requires Inv-loop μ-loop
-put-row-requires c κs = search needs
+put-clause-requires : tie.Need-put-clause-requires Inv-loop μ-loop
+put-clause-requires c κs = search needs
 
 add-put-branch : tie.Need-add-put-branch Inv-loop μ-loop
 add-put-branch c =
@@ -52,7 +52,7 @@ cast-put-branch c =
     let L = q .before .before .loop in
     let g = c .before .before .before .before .before .get-word in
     let r = branch-room (words (e .scratch .now)) (e .s) (e .c) (e .to) (words (e .clauses .now)) (words (e .atoms .now)) (words (L .clauses)) (words (L .atoms)) (L .p) (L .a) (L .i) (L .inv .0) (s .pre .0) (q .if1 .taken) (g .result) (g .ensures) in
-    omega (arith, r .2, s .pre .4, s .pre .6)
+    omega (arith, r .2, s .pre .4, s .pre .5 .atoms)
 
 add-put-branch-2 : tie.Need-add-put-branch-2 Inv-loop μ-loop
 add-put-branch-2 c = search needs
@@ -68,7 +68,7 @@ put-branch-requires c κs =
       omega (arith, r .0, r .1, s .pre .2),
       omega (arith, r .2, s .pre .4, L .inv .2),
       branch-there (words (e .scratch .now)) (e .s) (e .c) (e .to) (words (e .clauses .now)) (words (e .atoms .now)) (words (L .clauses)) (words (L .atoms)) (L .p) (L .a) (L .i) (L .inv .0) (s .pre .0) (q .if1 .taken) (g .result) (g .ensures),
-      omega (arith, q .if1 .taken, s .pre .1, s .pre .3, s .pre .5),
+      omega (arith, q .if1 .taken, s .pre .1, s .pre .3, s .pre .5 .clauses),
     )
 
 add-a : tie.Need-add-a Inv-loop μ-loop
@@ -79,7 +79,7 @@ add-a c =
     let L = q .before .before .loop in
     let g = c .before .before .before .before .before .before .before .before .before .get-word in
     let r = branch-room (words (e .scratch .now)) (e .s) (e .c) (e .to) (words (e .clauses .now)) (words (e .atoms .now)) (words (L .clauses)) (words (L .atoms)) (L .p) (L .a) (L .i) (L .inv .0) (s .pre .0) (q .if1 .taken) (g .result) (g .ensures) in
-    omega (arith, r .2, s .pre .4, s .pre .6)
+    omega (arith, r .2, s .pre .4, s .pre .5 .atoms)
 
 add-a-2 : tie.Need-add-a-2 Inv-loop μ-loop
 add-a-2 c =
@@ -89,7 +89,7 @@ add-a-2 c =
     let L = q .before .before .loop in
     let g = c .before .before .before .before .before .before .before .before .before .get-word in
     let r = branch-room (words (e .scratch .now)) (e .s) (e .c) (e .to) (words (e .clauses .now)) (words (e .atoms .now)) (words (L .clauses)) (words (L .atoms)) (L .p) (L .a) (L .i) (L .inv .0) (s .pre .0) (q .if1 .taken) (g .result) (g .ensures) in
-    omega (arith, r .2, s .pre .4, s .pre .6)
+    omega (arith, r .2, s .pre .4, s .pre .5 .atoms)
 
 cast-p : tie.Need-cast-p Inv-loop μ-loop
 cast-p c = search needs
@@ -128,8 +128,8 @@ loop-again c =
     let q = g .before in
     let e = q .before .before .before .before .before .before .args in
     let L = q .before .before .loop in (
-      branches-next (words (e .scratch .now)) (e .s) (e .c) (e .to) (words (e .clauses .now)) (words (e .atoms .now)) (words (L .clauses)) (words (L .atoms)) (L .p) (L .a) (L .i) (L .inv .0) (q .if1 .taken) (g .get-word .result) (g .get-word .ensures) (words (v .put-row .last .0)) (words (u .put-branch .last .1 .0)) (v .put-row .ensures) (u .put-branch .ensures),
-      v .put-row .kept .0 ∙ L .inv .1,
+      branches-next (words (e .scratch .now)) (e .s) (e .c) (e .to) (words (e .clauses .now)) (words (e .atoms .now)) (words (L .clauses)) (words (L .atoms)) (L .p) (L .a) (L .i) (L .inv .0) (q .if1 .taken) (g .get-word .result) (g .get-word .ensures) (words (v .put-clause .last .0)) (words (u .put-branch .last .1 .0)) (v .put-clause .ensures) (u .put-branch .ensures),
+      v .put-clause .kept .0 ∙ L .inv .1,
       u .put-branch .kept .1 .0 ∙ L .inv .2,
     )
 
@@ -153,9 +153,9 @@ put-named-spec =
     μ-loop
     loop-holds
     get-word-requires
-    add-put-row
-    cast-put-row
-    put-row-requires
+    add-put-clause
+    cast-put-clause
+    put-clause-requires
     add-put-branch
     cast-put-branch
     add-put-branch-2

@@ -2,8 +2,8 @@ use borrow.Author.Needs.{needs}
 use mathlib.Core.Path.{ap, _∙_}
 use mathlib.Core.List.{List}
 use Prim.Native.Nat.{ℕ, _+_, _*_}
-use lib.ListN.{set}
 use Rattle.words.specs.Words.{words}
+use Rattle.tables.specs.Tabled.{bodyPut}
 use Rattle.branches.specs.Layout.{bodyAt}
 use Rattle.decomposition.specs.PlaceLaws.{part-then-moved}
 use Rattle.decomposition.proofs.place.put_rewritten.Statement.{statement}
@@ -51,20 +51,11 @@ mul-move-words-3 c = search needs
 move-words-requires : tie.Need-move-words-requires
 move-words-requires c κs = search needs
 
-mul-put-word : tie.Need-mul-put-word
-mul-put-word c = search needs
+set-first-requires : tie.Need-set-first-requires
+set-first-requires c κs = search needs
 
-put-word-requires : tie.Need-put-word-requires
-put-word-requires c κs = search needs
-
-mul-put-word-2 : tie.Need-mul-put-word-2
-mul-put-word-2 c = search needs
-
-add-put-word : tie.Need-add-put-word
-add-put-word c = search needs
-
-put-word-requires-2 : tie.Need-put-word-requires-2
-put-word-requires-2 c κs = search needs
+set-body-requires : tie.Need-set-body-requires
+set-body-requires c κs = search needs
 
 same-length : tie.Need-same-length
 same-length c = search needs
@@ -80,7 +71,7 @@ returns c =
     let u = v .before .before .before .before in
     let s = u .before .before .before .before .before .before in
     let a = s .args in (
-      w2 .put-word2 .ensures ∙ ap (λ (x : List ℕ). set x (3 * a .c + 1) (a .n)) (w1 .put-word .ensures),
+      w2 .set-body .ensures ∙ ap (λ (x : List ℕ). bodyPut x (a .c) (a .n)) (w1 .set-first .ensures),
       part-then-moved (a .scratch .now) bodyAt (a .n) (6 * a .to) (6 * a .head) (6 * (a .to + a .n)) (6 * a .nh) (words (a .atoms .now)) (words (u .copy-words .last .0)) (words (v .move-words .last .0)) (u .copy-words .ensures) (v .move-words .ensures),
     )
 
@@ -102,11 +93,8 @@ put-rewritten-spec =
     mul-move-words-2
     mul-move-words-3
     move-words-requires
-    mul-put-word
-    put-word-requires
-    mul-put-word-2
-    add-put-word
-    put-word-requires-2
+    set-first-requires
+    set-body-requires
     same-length
     same-length-2
     returns)

@@ -3,103 +3,123 @@ use mathlib.Core.Path.{refl}
 use native.Mathlib.Omega.{arith}
 use Rattle.words.specs.Words.{words}
 use Rattle.words.specs.Laws.{length-words}
-use Rattle.decomposition.specs.HereLaws.{clause-here, run-is}
-use Rattle.decomposition.specs.TurnLaws.{turn-full, turn-whole, turn-rewritten, there, fits, there-run, there-shorter}
+use Rattle.decomposition.specs.HereLaws.{clause-here}
+use Rattle.decomposition.specs.TurnLaws.{turn-full, turn-whole, turn-rewritten, there, there-parts, fits, there-shorter}
 use Rattle.decomposition.proofs.turn.turn.Statement.{statement}
 use Rattle.decomposition.proofs.turn.turn.Tie as tie
 
-mul-get-word : tie.Need-mul-get-word
-mul-get-word c = search needs
-
-get-word-requires : tie.Need-get-word-requires
-get-word-requires c κs =
+first-atom-requires : tie.Need-first-atom-requires
+first-atom-requires c κs =
     let st = c .before .before .before .before in
     omega (arith, there (st .pre .0) .is .row, length-words (st .args .clauses .now))
 
 cast-first : tie.Need-cast-first
 cast-first c = search needs
 
-mul-get-word-2 : tie.Need-mul-get-word-2
-mul-get-word-2 c = search needs
-
-add-get-word : tie.Need-add-get-word
-add-get-word c = search needs
-
-get-word-requires-2 : tie.Need-get-word-requires-2
-get-word-requires-2 c κs =
+body-count-requires : tie.Need-body-count-requires
+body-count-requires c κs =
     let st = c .before .before .before .before .before .before in
     omega (arith, there (st .pre .0) .is .row, length-words (st .args .clauses .now))
 
-mul-get-word-3 : tie.Need-mul-get-word-3
-mul-get-word-3 c = search needs
-
-add-get-word-2 : tie.Need-add-get-word-2
-add-get-word-2 c = search needs
-
-get-word-requires-3 : tie.Need-get-word-requires-3
-get-word-requires-3 c κs =
+head-count-requires : tie.Need-head-count-requires
+head-count-requires c κs =
     let st = c .before .before .before .before .before .before .before .before in
     omega (arith, there (st .pre .0) .is .row, length-words (st .args .clauses .now))
 
+body-of-requires : tie.Need-body-of-requires
+body-of-requires c κs = let H = there (c .before .before .before .before .before .before .before .before .before .before .before .pre .0) in record { clause = H .clause; is = H .is }
+
+head-of-requires : tie.Need-head-of-requires
+head-of-requires c κs = let H = there (c .before .before .before .before .before .before .before .before .before .before .before .before .before .pre .0) in record { clause = H .clause; is = H .is }
+
 decompose-one-requires : tie.Need-decompose-one-requires
 decompose-one-requires c κs =
-    let g = c .before .before in
-    let st = g .before .before .before .before .before .before .before .before .before in
-    let T = st .pre .0 in
-    (there-run T (g .before .before .before .before .get-word .ensures) (g .before .before .get-word2 .ensures) (g .get-word3 .ensures), record { state = T .passed .state; held = T .passed .held }, omega (arith, T .passed .first, T .listed .classes), st .pre .1)
+    let o = c .before in
+    let b = o .before .before in
+    let T = b .before .before .before .before .before .before .before .before .before .before .before .before .pre .0 in
+    (there-parts T _ _ (b .body-of .ensures) (o .head-of .ensures), record { state = T .passed .state; held = T .passed .held }, omega (arith, T .passed .first, T .listed .classes), b .before .before .before .before .before .before .before .before .before .before .before .before .pre .1)
 
 enum-known-m : tie.Need-enum-known-m
 enum-known-m c = search needs
 
-cast-head : tie.Need-cast-head
-cast-head c = search needs
+cast-from : tie.Need-cast-from
+cast-from c = search needs
 
-add-head : tie.Need-add-head
-add-head c = search needs
+add-from : tie.Need-add-from
+add-from c =
+    let o = c .before .before .before .before .before .before .before in
+    let b = o .before .before in
+    let h = b .before .before .before .head-count in
+    let m = b .before .before .before .before .before .body-count in
+    let f = b .before .before .before .before .before .before .before .first-atom in
+    let st = b .before .before .before .before .before .before .before .before .before .before .before .before in
+    let T = st .pre .0 in
+    let F = fits T (f .ensures) (m .ensures) (h .ensures) in
+    let la = length-words (st .args .atoms .now) in
+    omega (arith, F .room, la, st .pre .2 .atoms)
 
 put-rewritten-requires : tie.Need-put-rewritten-requires
 put-rewritten-requires c κs =
-    let g = c .before .before .before .before .before .before .before .before .before .before .before in
-    let st = g .before .before .before .before .before .before .before .before .before in
+    let o = c .before .before .before .before .before .before .before .before .before .before in
+    let b = o .before .before in
+    let h = b .before .before .before .head-count in
+    let m = b .before .before .before .before .before .body-count in
+    let f = b .before .before .before .before .before .before .before .first-atom in
+    let st = b .before .before .before .before .before .before .before .before .before .before .before .before in
     let T = st .pre .0 in
-    let F = fits T (g .before .before .before .before .get-word .ensures) (g .before .before .get-word2 .ensures) (g .get-word3 .ensures) in
+    let F = fits T (f .ensures) (m .ensures) (h .ensures) in
     let lc = length-words (st .args .clauses .now) in
     let la = length-words (st .args .atoms .now) in
-    let m = c .before .before .before .before .m in
+    let H = there T in
+    let t = c .before .before .before .before .m in
     let one = c .before .before .before .before .before .before .before .before .decompose-one in
-    let short = there-shorter T (g .before .before .before .before .get-word .ensures) (g .before .before .get-word2 .ensures) (g .get-word3 .ensures) (words (one .last .0)) _ (m .given .0 .1 .0) (λ x z R H. rw (m .given .1) at (one .ensures x z R H)) in
+    let short = there-shorter T (f .ensures) (m .ensures) (h .ensures) (words (one .last .0)) _ (t .given .0 .1 .0) (rw (t .given .1) at (one .ensures (H .clause) (T .passed .state) (b .body-of .ensures (H .clause) (H .is)) (o .head-of .ensures (H .clause) (H .is)) (T .passed .held))) in
     (omega (arith, short, F .short), omega (arith, one .kept .0, st .pre .1), omega (arith, F .row, lc), omega (arith, F .room, la), st .pre .2 .atoms, omega (arith, short, F .low))
 
 add-body-end : tie.Need-add-body-end
 add-body-end c =
-    let g = c .before .before .before .before .before .before .before .before .before .before .before .before .before .before .before .before in
-    let st = g .before .before .before .before .before .before .before .before .before in
+    let o = c .before .before .before .before .before .before .before .before .before .before .before .before .before .before .before in
+    let b = o .before .before in
+    let h = b .before .before .before .head-count in
+    let m = b .before .before .before .before .before .body-count in
+    let f = b .before .before .before .before .before .before .before .first-atom in
+    let st = b .before .before .before .before .before .before .before .before .before .before .before .before in
     let T = st .pre .0 in
-    let F = fits T (g .before .before .before .before .get-word .ensures) (g .before .before .get-word2 .ensures) (g .get-word3 .ensures) in
+    let F = fits T (f .ensures) (m .ensures) (h .ensures) in
     let la = length-words (st .args .atoms .now) in
-    let m = c .before .before .before .before .before .before .before .before .before .m in
+    let H = there T in
+    let t = c .before .before .before .before .before .before .before .before .before .m in
     let one = c .before .before .before .before .before .before .before .before .before .before .before .before .before .decompose-one in
-    let short = there-shorter T (g .before .before .before .before .get-word .ensures) (g .before .before .get-word2 .ensures) (g .get-word3 .ensures) (words (one .last .0)) _ (m .given .0 .1 .0) (λ x z R H. rw (m .given .1) at (one .ensures x z R H)) in
+    let short = there-shorter T (f .ensures) (m .ensures) (h .ensures) (words (one .last .0)) _ (t .given .0 .1 .0) (rw (t .given .1) at (one .ensures (H .clause) (T .passed .state) (b .body-of .ensures (H .clause) (H .is)) (o .head-of .ensures (H .clause) (H .is)) (T .passed .held))) in
     omega (arith, short, F .low, F .room, la, st .pre .2 .atoms)
 
 add-end : tie.Need-add-end
 add-end c =
-    let g = c .before .before .before .before .before .before .before .before .before .before .before .before .before .before .before .before in
-    let st = g .before .before .before .before .before .before .before .before .before in
+    let o = c .before .before .before .before .before .before .before .before .before .before .before .before .before .before .before in
+    let b = o .before .before in
+    let h = b .before .before .before .head-count in
+    let m = b .before .before .before .before .before .body-count in
+    let f = b .before .before .before .before .before .before .before .first-atom in
+    let st = b .before .before .before .before .before .before .before .before .before .before .before .before in
     let T = st .pre .0 in
-    let F = fits T (g .before .before .before .before .get-word .ensures) (g .before .before .get-word2 .ensures) (g .get-word3 .ensures) in
+    let F = fits T (f .ensures) (m .ensures) (h .ensures) in
     let la = length-words (st .args .atoms .now) in
-    let m = c .before .before .before .before .before .before .before .before .before .m in
+    let H = there T in
+    let t = c .before .before .before .before .before .before .before .before .before .m in
     let one = c .before .before .before .before .before .before .before .before .before .before .before .before .before .decompose-one in
-    let short = there-shorter T (g .before .before .before .before .get-word .ensures) (g .before .before .get-word2 .ensures) (g .get-word3 .ensures) (words (one .last .0)) _ (m .given .0 .1 .0) (λ x z R H. rw (m .given .1) at (one .ensures x z R H)) in
+    let short = there-shorter T (f .ensures) (m .ensures) (h .ensures) (words (one .last .0)) _ (t .given .0 .1 .0) (rw (t .given .1) at (one .ensures (H .clause) (T .passed .state) (b .body-of .ensures (H .clause) (H .is)) (o .head-of .ensures (H .clause) (H .is)) (T .passed .held))) in
     omega (arith, short, F .low, F .room, la, st .pre .2 .atoms)
 
 add-more : tie.Need-add-more
 add-more c =
-    let g = c .before .before .before .before .before .before .before .before .before .before .before .before .before .before .before .before in
-    let st = g .before .before .before .before .before .before .before .before .before in
+    let o = c .before .before .before .before .before .before .before .before .before .before .before .before .before .before .before in
+    let b = o .before .before in
+    let h = b .before .before .before .head-count in
+    let m = b .before .before .before .before .before .body-count in
+    let f = b .before .before .before .before .before .before .before .first-atom in
+    let st = b .before .before .before .before .before .before .before .before .before .before .before .before in
     let T = st .pre .0 in
-    let F = fits T (g .before .before .before .before .get-word .ensures) (g .before .before .get-word2 .ensures) (g .get-word3 .ensures) in
+    let F = fits T (f .ensures) (m .ensures) (h .ensures) in
     let lc = length-words (st .args .clauses .now) in
     omega (arith, F .fewer, F .row, lc, st .pre .2 .clauses)
 
@@ -108,29 +128,41 @@ enum-told c = search needs
 
 add-count : tie.Need-add-count
 add-count c =
-    let g = c .before .before .before .before .before .before .before in
-    let st = g .before .before .before .before .before .before .before .before .before in
+    let o = c .before .before .before .before .before .before in
+    let b = o .before .before in
+    let h = b .before .before .before .head-count in
+    let m = b .before .before .before .before .before .body-count in
+    let f = b .before .before .before .before .before .before .before .first-atom in
+    let st = b .before .before .before .before .before .before .before .before .before .before .before .before in
     let T = st .pre .0 in
-    let F = fits T (g .before .before .before .before .get-word .ensures) (g .before .before .get-word2 .ensures) (g .get-word3 .ensures) in
+    let F = fits T (f .ensures) (m .ensures) (h .ensures) in
     let la = length-words (st .args .atoms .now) in
     omega (arith, F .room, la, st .pre .2 .atoms)
 
 put-whole-requires : tie.Need-put-whole-requires
 put-whole-requires c κs =
-    let g = c .before .before .before .before .before .before .before .before .before in
-    let st = g .before .before .before .before .before .before .before .before .before in
+    let o = c .before .before .before .before .before .before .before .before in
+    let b = o .before .before in
+    let h = b .before .before .before .head-count in
+    let m = b .before .before .before .before .before .body-count in
+    let f = b .before .before .before .before .before .before .before .first-atom in
+    let st = b .before .before .before .before .before .before .before .before .before .before .before .before in
     let T = st .pre .0 in
-    let F = fits T (g .before .before .before .before .get-word .ensures) (g .before .before .get-word2 .ensures) (g .get-word3 .ensures) in
+    let F = fits T (f .ensures) (m .ensures) (h .ensures) in
     let lc = length-words (st .args .clauses .now) in
     let la = length-words (st .args .atoms .now) in
     (omega (arith, F .row, lc), omega (arith, F .room, la), F .low)
 
 add-whole-end : tie.Need-add-whole-end
 add-whole-end c =
-    let g = c .before .before .before .before .before .before .before .before .before .before .before .before .before .before in
-    let st = g .before .before .before .before .before .before .before .before .before in
+    let o = c .before .before .before .before .before .before .before .before .before .before .before .before .before in
+    let b = o .before .before in
+    let h = b .before .before .before .head-count in
+    let m = b .before .before .before .before .before .body-count in
+    let f = b .before .before .before .before .before .before .before .first-atom in
+    let st = b .before .before .before .before .before .before .before .before .before .before .before .before in
     let T = st .pre .0 in
-    let F = fits T (g .before .before .before .before .get-word .ensures) (g .before .before .get-word2 .ensures) (g .get-word3 .ensures) in
+    let F = fits T (f .ensures) (m .ensures) (h .ensures) in
     let la = length-words (st .args .atoms .now) in
     omega (arith, F .low, F .room, la, st .pre .2 .atoms)
 
@@ -148,8 +180,12 @@ same-length-3 c = search needs
 
 returns : tie.Need-returns
 returns c =
-    let g = c .before .before .before .before .before .before .before .before .before .before .before .before .before .before .before .before in
-    let st = g .before .before .before .before .before .before .before .before .before in
+    let o = c .before .before .before .before .before .before .before .before .before .before .before .before .before .before .before in
+    let b = o .before .before in
+    let h = b .before .before .before .head-count in
+    let m = b .before .before .before .before .before .body-count in
+    let f = b .before .before .before .before .before .before .before .first-atom in
+    let st = b .before .before .before .before .before .before .before .before .before .before .before .before in
     let w = words (st .args .scratch .now) in
     let cl = words (st .args .clauses .now) in
     let at = words (st .args .atoms .now) in
@@ -157,21 +193,15 @@ returns c =
     let to = st .args .to in
     let n = st .args .rewritten in
     let s = st .args .s in
-    let first = g .before .before .before .before .get-word .result in
-    let nb = g .before .before .get-word2 .result in
-    let nh = g .get-word3 .result in
-    let ef = g .before .before .before .before .get-word .ensures in
-    let eb = g .before .before .get-word2 .ensures in
-    let eh = g .get-word3 .ensures in
     let one = c .before .before .before .before .before .before .before .before .before .before .before .before .before .decompose-one in
     let w1 = words (one .last .0) in
-    let m = c .before .before .before .before .before .before .before .before .before .m in
+    let t = c .before .before .before .before .before .before .before .before .before .m in
     let put = c .before .before .before .before .put-rewritten in
-    let low = fits (st .pre .0) ef eb eh .low in
-    λ l fresh c0 a0 L h P.
-    let H = clause-here l c0 a0 cl at i to (P .done .clauses) (L .tabled) (P .half) h in
-    let o = one .ensures (H .clause) (P .state) (run-is l cl at i H first nb nh ef eb eh) (P .held) in
-    turn-rewritten l fresh c0 a0 w cl at s i to n P H first nb nh ef eb eh w1 (words (put .last .1 .0)) (words (put .last .1 .1 .0)) _ _ _ (rw (m .given .1) at o) low (put .ensures .0) (put .ensures .1) refl
+    let low = fits (st .pre .0) (f .ensures) (m .ensures) (h .ensures) .low in
+    λ l fresh c0 a0 L k P.
+    let H = clause-here l c0 a0 cl at i to (P .done .clauses) (L .tabled) (P .half) k in
+    let r = one .ensures (H .clause) (P .state) (b .body-of .ensures (H .clause) (H .is)) (o .head-of .ensures (H .clause) (H .is)) (P .held) in
+    turn-rewritten l fresh c0 a0 w cl at s i to n P H (f .result) (m .result) (h .result) (f .ensures) (m .ensures) (h .ensures) w1 (words (put .last .1 .0)) (words (put .last .1 .1 .0)) _ _ _ (rw (t .given .1) at r) low (put .ensures .0) (put .ensures .1) refl
 
 same-length-4 : tie.Need-same-length-4
 same-length-4 c = search needs
@@ -184,8 +214,12 @@ same-length-6 c = search needs
 
 returns-2 : tie.Need-returns-2
 returns-2 c =
-    let g = c .before .before .before .before .before .before .before .before .before .before .before .before .before .before in
-    let st = g .before .before .before .before .before .before .before .before .before in
+    let o = c .before .before .before .before .before .before .before .before .before .before .before .before .before in
+    let b = o .before .before in
+    let h = b .before .before .before .head-count in
+    let m = b .before .before .before .before .before .body-count in
+    let f = b .before .before .before .before .before .before .before .first-atom in
+    let st = b .before .before .before .before .before .before .before .before .before .before .before .before in
     let w = words (st .args .scratch .now) in
     let cl = words (st .args .clauses .now) in
     let at = words (st .args .atoms .now) in
@@ -193,20 +227,14 @@ returns-2 c =
     let to = st .args .to in
     let n = st .args .rewritten in
     let s = st .args .s in
-    let first = g .before .before .before .before .get-word .result in
-    let nb = g .before .before .get-word2 .result in
-    let nh = g .get-word3 .result in
-    let ef = g .before .before .before .before .get-word .ensures in
-    let eb = g .before .before .get-word2 .ensures in
-    let eh = g .get-word3 .ensures in
     let one = c .before .before .before .before .before .before .before .before .before .before .before .decompose-one in
     let w1 = words (one .last .0) in
     let told = c .before .before .before .before .before .before .before .enum-told in
     let put = c .before .before .before .before .put-whole in
-    λ l fresh c0 a0 L h P.
-    let H = clause-here l c0 a0 cl at i to (P .done .clauses) (L .tabled) (P .half) h in
-    let o = one .ensures (H .clause) (P .state) (run-is l cl at i H first nb nh ef eb eh) (P .held) in
-    turn-whole l fresh c0 a0 w cl at s i to n P H first nb nh ef eb eh w1 (words (put .last .0)) (words (put .last .1 .0)) _ (rw (told .given .1) at o) (put .ensures .0) (put .ensures .1) refl
+    λ l fresh c0 a0 L k P.
+    let H = clause-here l c0 a0 cl at i to (P .done .clauses) (L .tabled) (P .half) k in
+    let r = one .ensures (H .clause) (P .state) (b .body-of .ensures (H .clause) (H .is)) (o .head-of .ensures (H .clause) (H .is)) (P .held) in
+    turn-whole l fresh c0 a0 w cl at s i to n P H (f .result) (m .result) (h .result) (f .ensures) (m .ensures) (h .ensures) w1 (words (put .last .0)) (words (put .last .1 .0)) _ (rw (told .given .1) at r) (put .ensures .0) (put .ensures .1) refl
 
 same-length-7 : tie.Need-same-length-7
 same-length-7 c = search needs
@@ -219,8 +247,12 @@ same-length-9 c = search needs
 
 returns-3 : tie.Need-returns-3
 returns-3 c =
-    let g = c .before .before .before .before .before .before .before .before in
-    let st = g .before .before .before .before .before .before .before .before .before in
+    let o = c .before .before .before .before .before .before .before in
+    let b = o .before .before in
+    let h = b .before .before .before .head-count in
+    let m = b .before .before .before .before .before .body-count in
+    let f = b .before .before .before .before .before .before .before .first-atom in
+    let st = b .before .before .before .before .before .before .before .before .before .before .before .before in
     let w = words (st .args .scratch .now) in
     let cl = words (st .args .clauses .now) in
     let at = words (st .args .atoms .now) in
@@ -228,37 +260,28 @@ returns-3 c =
     let to = st .args .to in
     let n = st .args .rewritten in
     let s = st .args .s in
-    let first = g .before .before .before .before .get-word .result in
-    let nb = g .before .before .get-word2 .result in
-    let nh = g .get-word3 .result in
-    let ef = g .before .before .before .before .get-word .ensures in
-    let eb = g .before .before .get-word2 .ensures in
-    let eh = g .get-word3 .ensures in
     let one = c .before .before .before .before .before .decompose-one in
     let w1 = words (one .last .0) in
     let e = c .before .e in
-    λ l fresh c0 a0 L h P.
-    let H = clause-here l c0 a0 cl at i to (P .done .clauses) (L .tabled) (P .half) h in
-    let o = one .ensures (H .clause) (P .state) (run-is l cl at i H first nb nh ef eb eh) (P .held) in
-    turn-full l fresh c0 a0 w cl at s i to n P H w1 nb _ (rw (e .given .1) at o)
+    λ l fresh c0 a0 L k P.
+    let H = clause-here l c0 a0 cl at i to (P .done .clauses) (L .tabled) (P .half) k in
+    let r = one .ensures (H .clause) (P .state) (b .body-of .ensures (H .clause) (H .is)) (o .head-of .ensures (H .clause) (H .is)) (P .held) in
+    turn-full l fresh c0 a0 w cl at s i to n P H w1 _ (rw (e .given .1) at r)
 
 pub turn-spec : {M : Type 1} → statement M
 turn-spec =
     tie.close
     (tie.spec
-    mul-get-word
-    get-word-requires
+    first-atom-requires
     cast-first
-    mul-get-word-2
-    add-get-word
-    get-word-requires-2
-    mul-get-word-3
-    add-get-word-2
-    get-word-requires-3
+    body-count-requires
+    head-count-requires
+    body-of-requires
+    head-of-requires
     decompose-one-requires
     enum-known-m
-    cast-head
-    add-head
+    cast-from
+    add-from
     put-rewritten-requires
     add-body-end
     add-end

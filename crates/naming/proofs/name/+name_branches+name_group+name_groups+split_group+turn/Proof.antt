@@ -9,7 +9,7 @@ use Rattle.words.specs.Words.{words}
 use Rattle.words.specs.Laws.{length-words}
 use Rattle.naming.specs.Splits.{splitRule, groupRule}
 use Rattle.naming.specs.AgreeLaws.{same-words}
-use Rattle.naming.specs.SplitLaws.{keep-none, there-of, tame-of, split-narrow, split-none, innerAt, named-front, there-front, inner-are, inner-there, fronted-again, split-to, split-full, split-back, split-only, only-back, names-none, below, reduced-short}
+use Rattle.naming.specs.SplitLaws.{keep-none, there-of, tame-of, part-of, split-narrow, split-none, innerAt, named-front, there-front, inner-are, inner-there, fronted-again, split-to, split-full, split-back, split-only, only-back, names-none, below, reduced-short}
 use Rattle.naming.specs.CallLaws.{call-name, call-none, call-full, split-there, call-only}
 use Rattle.branches.specs.Edges.{fronted}
 use Rattle.naming.specs.TurnLaws.{child-are, child-there, child-high, child-low, child-few, child-named, stay-only, stay-turned, turn-only, turn-full, named-only, call-turned, called-small}
@@ -571,20 +571,33 @@ name-groups-returns-3 t c =
     let w1 = words (the-loop .scratch) in
     (λ g z kept f L H K k. left-none w0 tops counts base count groups root keep s w1 (the-loop .m) (the-loop .any) (the-loop .p) (the-loop .q) (the-loop .g) (the-loop .inv .1) g L (the-loop-test .left) z kept f (the-loop .inv .1 .left g z kept f L H K k) (the-if1 .left), the-loop .inv .1 .only)
 
+split-group-mul-from : (t : ℕ) → split-group-lts.Need-mul-from (calls-4 t) (split-group-at t) split-group.Post
+split-group-mul-from t c = search needs
+
+split-group-add-to : (t : ℕ) → split-group-lts.Need-add-to (calls-4 t) (split-group-at t) split-group.Post
+split-group-add-to t c = search needs
+
+split-group-mul-to : (t : ℕ) → split-group-lts.Need-mul-to (calls-4 t) (split-group-at t) split-group.Post
+split-group-mul-to t c = search needs
+
+split-group-sub-is-wide : (t : ℕ) → split-group-lts.Need-sub-is-wide (calls-4 t) (split-group-at t) split-group.Post
+split-group-sub-is-wide t c = search needs
+
+split-group-part-is-wide-start : (t : ℕ) → split-group-lts.Need-part-is-wide-start (calls-4 t) (split-group-at t) split-group.Post
+split-group-part-is-wide-start t c = search needs
+
+split-group-part-is-wide-end : (t : ℕ) → split-group-lts.Need-part-is-wide-end (calls-4 t) (split-group-at t) split-group.Post
+split-group-part-is-wide-end t c = search needs
+
 split-group-is-wide-requires : (t : ℕ) → split-group-lts.Need-is-wide-requires (calls-4 t) (split-group-at t) split-group.Post
-split-group-is-wide-requires t c κs =
-    let here = c .before .before in
-    let w0 = words (here .args .scratch .now) in
-    let base = here .args .base in
-    let count = here .args .count in
-    there-of w0 base count (here .pre .1 .0)
+split-group-is-wide-requires t c κs = search needs
 
 split-group-same-length : (t : ℕ) → split-group-lts.Need-same-length (calls-4 t) (split-group-at t) split-group.Post
 split-group-same-length t c = search needs
 
 split-group-returns : (t : ℕ) → split-group-lts.Need-returns (calls-4 t) (split-group-at t) split-group.Post
 split-group-returns t c =
-    let here = c .before .before .before .before in
+    let here = c .before .before .before .before .before in
     let the-is-wide = c .before .is-wide in
     let the-if1 = c .if1 in
     let w0 = words (here .args .scratch .now) in
@@ -593,11 +606,11 @@ split-group-returns t c =
     let s = here .args .s in
     let root = here .args .root in
     let top = here .args .t in
-    (λ l z f A H k. split-narrow w0 base count s l root top z f A (tame-of w0 base count l (here .pre .1 .0) A) H (sym (the-is-wide .ensures l A) ∙ not-true _ (the-if1 .taken)), names-none base count w0)
+    (λ l z f A H k. split-narrow w0 base count s l root top z f A (tame-of w0 base count l (here .pre .1 .0) A) H (sym (the-is-wide .ensures l (part-of (here .args .scratch .now) base count l (here .pre .1 .3) (here .pre .1 .6) A)) ∙ not-true _ (the-if1 .taken)), names-none base count w0)
 
 split-group-only-edge-requires : (t : ℕ) → split-group-lts.Need-only-edge-requires (calls-4 t) (split-group-at t) split-group.Post
 split-group-only-edge-requires t c κs =
-    let here = c .before .before .before .before .before in
+    let here = c .before .before .before .before .before .before in
     (here .pre .1 .0, here .pre .1 .3, here .pre .1 .6)
 
 split-group-same-length-2 : (t : ℕ) → split-group-lts.Need-same-length-2 (calls-4 t) (split-group-at t) split-group.Post
@@ -605,7 +618,7 @@ split-group-same-length-2 t c = search needs
 
 split-group-returns-2 : (t : ℕ) → split-group-lts.Need-returns-2 (calls-4 t) (split-group-at t) split-group.Post
 split-group-returns-2 t c =
-    let here = c .before .before .before .before .before .before .before in
+    let here = c .before .before .before .before .before .before .before .before in
     let the-is-wide = c .before .before .before .before .is-wide in
     let the-if1 = c .before .before .before .if1 in
     let the-only-edge = c .before .only-edge in
@@ -616,11 +629,11 @@ split-group-returns-2 t c =
     let s = here .args .s in
     let root = here .args .root in
     let top = here .args .t in
-    (λ l z f A H k. split-none w0 base count s l root top z f A (tame-of w0 base count l (here .pre .1 .0) A) H (sym (the-is-wide .ensures l A) ∙ not-false _ (the-if1 .left)) ((the-only-edge .ensures l A) .none (the-if2 .taken)), names-none base count w0)
+    (λ l z f A H k. split-none w0 base count s l root top z f A (tame-of w0 base count l (here .pre .1 .0) A) H (sym (the-is-wide .ensures l (part-of (here .args .scratch .now) base count l (here .pre .1 .3) (here .pre .1 .6) A)) ∙ not-false _ (the-if1 .left)) ((the-only-edge .ensures l A) .none (the-if2 .taken)), names-none base count w0)
 
 split-group-to-front-requires : (t : ℕ) → split-group-lts.Need-to-front-requires (calls-4 t) (split-group-at t) split-group.Post
 split-group-to-front-requires t c κs =
-    let here = c .before .before .before .before .before .before .before .before in
+    let here = c .before .before .before .before .before .before .before .before .before in
     let the-only-edge = c .before .before .only-edge in
     let the-if2 = c .before .if2 in
     let w0 = words (here .args .scratch .now) in
@@ -631,11 +644,11 @@ split-group-to-front-requires t c κs =
     (there-of w0 base count (here .pre .1 .0), h, here .pre .1 .3, here .pre .1 .6)
 
 split-group-add-name-branches : (t : ℕ) → split-group-lts.Need-add-name-branches (calls-4 t) (split-group-at t) split-group.Post
-split-group-add-name-branches t c = omega (arith, c .before .before .before .before .before .before .before .before .before .before .before .before .pre .1 .3)
+split-group-add-name-branches t c = omega (arith, c .before .before .before .before .before .before .before .before .before .before .before .before .before .pre .1 .3)
 
 split-group-sub-name-branches : (t : ℕ) → split-group-lts.Need-sub-name-branches (calls-4 t) (split-group-at t) split-group.Post
 split-group-sub-name-branches t c =
-    let here = c .before .before .before .before .before .before .before .before .before .before .before .before in
+    let here = c .before .before .before .before .before .before .before .before .before .before .before .before .before in
     let the-only-edge = c .before .before .before .before .before .before .only-edge in
     let the-if2 = c .before .before .before .before .before .if2 in
     let e = the-only-edge .result in
@@ -645,7 +658,7 @@ split-group-sub-name-branches t c =
 
 split-group-name-branches-requires : (t : ℕ) → split-group-lts.Need-name-branches-requires (calls-4 t) (split-group-at t) split-group.Post
 split-group-name-branches-requires t c κs =
-    let here = c .before .before .before .before .before .before .before .before .before .before .before .before in
+    let here = c .before .before .before .before .before .before .before .before .before .before .before .before .before in
     let the-only-edge = c .before .before .before .before .before .before .only-edge in
     let the-if2 = c .before .before .before .before .before .if2 in
     let the-to-front = c .before .before .before .to-front in
@@ -666,9 +679,9 @@ split-group-name-branches-requires t c κs =
 split-group-enum-known-m : (t : ℕ) → split-group-lts.Need-enum-known-m (calls-4 t) (split-group-at t) split-group.Post
 split-group-enum-known-m t c = search needs
 
-split-group-add-t26 : (t : ℕ) → split-group-lts.Need-add-t26 (calls-4 t) (split-group-at t) split-group.Post
-split-group-add-t26 t c =
-    let here = c .before .before .before .before .before .before .before .before .before .before .before .before .before .before .before .before .before .before in
+split-group-add-t30 : (t : ℕ) → split-group-lts.Need-add-t30 (calls-4 t) (split-group-at t) split-group.Post
+split-group-add-t30 t c =
+    let here = c .before .before .before .before .before .before .before .before .before .before .before .before .before .before .before .before .before .before .before in
     let the-only-edge = c .before .before .before .before .before .before .before .before .before .before .before .before .only-edge in
     let the-if2 = c .before .before .before .before .before .before .before .before .before .before .before .if2 in
     let the-to-front = c .before .before .before .before .before .before .before .before .before .to-front in
@@ -694,7 +707,7 @@ split-group-enum-told t c = search needs
 
 split-group-from-front-requires : (t : ℕ) → split-group-lts.Need-from-front-requires (calls-4 t) (split-group-at t) split-group.Post
 split-group-from-front-requires t c κs =
-    let here = c .before .before .before .before .before .before .before .before .before .before .before .before .before .before .before .before .before .before in
+    let here = c .before .before .before .before .before .before .before .before .before .before .before .before .before .before .before .before .before .before .before in
     let the-only-edge = c .before .before .before .before .before .before .before .before .before .before .before .before .only-edge in
     let the-if2 = c .before .before .before .before .before .before .before .before .before .before .before .if2 in
     let the-to-front = c .before .before .before .before .before .before .before .before .before .to-front in
@@ -723,7 +736,7 @@ split-group-same-length-3 t c = search needs
 
 split-group-returns-3 : (t : ℕ) → split-group-lts.Need-returns-3 (calls-4 t) (split-group-at t) split-group.Post
 split-group-returns-3 t c =
-    let here = c .before .before .before .before .before .before .before .before .before .before .before .before .before .before .before .before .before .before in
+    let here = c .before .before .before .before .before .before .before .before .before .before .before .before .before .before .before .before .before .before .before in
     let the-is-wide = c .before .before .before .before .before .before .before .before .before .before .before .before .before .before .before .is-wide in
     let the-if1 = c .before .before .before .before .before .before .before .before .before .before .before .before .before .before .if1 in
     let the-only-edge = c .before .before .before .before .before .before .before .before .before .before .before .before .only-edge in
@@ -743,14 +756,14 @@ split-group-returns-3 t c =
     let long1 = same-words (here .args .scratch .now) (the-to-front .last .0) (the-to-front .kept .0) in
     let long2 = same-words (the-to-front .last .0) (the-name-branches .last .0) (the-name-branches .kept .0) in
     let h = below e count (the-only-edge .ensures (here .pre .1 .0 .list) (here .pre .1 .0 .are) .within) (the-if2 .left) in
-    (λ l z f A H k. split-to w0 w1 w2 base count e root top s long1 long2 (here .pre .1 .2) h (the-to-front .ensures .1) l A (tame-of w0 base count l (here .pre .1 .0) A) (the-to-front .ensures .0 l A) (the-name-branches .ensures .1) f z (sym (the-is-wide .ensures l A) ∙ not-false _ (the-if1 .left)) (the-only-edge .ensures l A) _ _ (rw (the-m .given .1) at (the-name-branches .ensures .0 (innerAt l e) z [] f (inner-are w0 w1 w2 base count e root top s long1 long2 (here .pre .1 .2) h (the-to-front .ensures .1) l A (tame-of w0 base count l (here .pre .1 .0) A) (the-to-front .ensures .0 l A)) (named-front w0 w1 w2 base count e root top s long1 long2 (here .pre .1 .2) h (the-to-front .ensures .1) z H) (keep-none w1) (omega (arith, h, k)))), split-only w0 w1 w2 base count e root top s long1 long2 (here .pre .1 .2) h (the-to-front .ensures .1) (the-name-branches .ensures .1))
+    (λ l z f A H k. split-to w0 w1 w2 base count e root top s long1 long2 (here .pre .1 .2) h (the-to-front .ensures .1) l A (tame-of w0 base count l (here .pre .1 .0) A) (the-to-front .ensures .0 l A) (the-name-branches .ensures .1) f z (sym (the-is-wide .ensures l (part-of (here .args .scratch .now) base count l (here .pre .1 .3) (here .pre .1 .6) A)) ∙ not-false _ (the-if1 .left)) (the-only-edge .ensures l A) _ _ (rw (the-m .given .1) at (the-name-branches .ensures .0 (innerAt l e) z [] f (inner-are w0 w1 w2 base count e root top s long1 long2 (here .pre .1 .2) h (the-to-front .ensures .1) l A (tame-of w0 base count l (here .pre .1 .0) A) (the-to-front .ensures .0 l A)) (named-front w0 w1 w2 base count e root top s long1 long2 (here .pre .1 .2) h (the-to-front .ensures .1) z H) (keep-none w1) (omega (arith, h, k)))), split-only w0 w1 w2 base count e root top s long1 long2 (here .pre .1 .2) h (the-to-front .ensures .1) (the-name-branches .ensures .1))
 
 split-group-same-length-4 : (t : ℕ) → split-group-lts.Need-same-length-4 (calls-4 t) (split-group-at t) split-group.Post
 split-group-same-length-4 t c = search needs
 
 split-group-returns-4 : (t : ℕ) → split-group-lts.Need-returns-4 (calls-4 t) (split-group-at t) split-group.Post
 split-group-returns-4 t c =
-    let here = c .before .before .before .before .before .before .before .before .before .before .before .before .before .before .before .before .before .before .before .before .before in
+    let here = c .before .before .before .before .before .before .before .before .before .before .before .before .before .before .before .before .before .before .before .before .before .before in
     let the-is-wide = c .before .before .before .before .before .before .before .before .before .before .before .before .before .before .before .before .before .before .is-wide in
     let the-if1 = c .before .before .before .before .before .before .before .before .before .before .before .before .before .before .before .before .before .if1 in
     let the-only-edge = c .before .before .before .before .before .before .before .before .before .before .before .before .before .before .before .only-edge in
@@ -773,14 +786,14 @@ split-group-returns-4 t c =
     let h = below e count (the-only-edge .ensures (here .pre .1 .0 .list) (here .pre .1 .0 .are) .within) (the-if2 .left) in
     let w3 = words (the-from-front .last .0) in
     let long3 = same-words (the-name-branches .last .0) (the-from-front .last .0) (the-from-front .kept .0) in
-    (λ l z f A H k. let N = rw (the-enum-told .given .1) at (the-name-branches .ensures .0 (innerAt l e) z [] f (inner-are w0 w1 w2 base count e root top s long1 long2 (here .pre .1 .2) h (the-to-front .ensures .1) l A (tame-of w0 base count l (here .pre .1 .0) A) (the-to-front .ensures .0 l A)) (named-front w0 w1 w2 base count e root top s long1 long2 (here .pre .1 .2) h (the-to-front .ensures .1) z H) (keep-none w1) (omega (arith, h, k))) in split-back w0 w1 w2 base count e root top s long1 long2 (here .pre .1 .2) h (the-to-front .ensures .1) l A (tame-of w0 base count l (here .pre .1 .0) A) (the-to-front .ensures .0 l A) (the-name-branches .ensures .1) f z (sym (the-is-wide .ensures l A) ∙ not-false _ (the-if1 .left)) (the-only-edge .ensures l A) w3 long3 (the-from-front .ensures .1) (the-from-front .ensures .0 l (sym (A .long)) (fronted-again w0 w1 w2 base count e root top s long1 long2 (here .pre .1 .2) h (the-to-front .ensures .1) l A (tame-of w0 base count l (here .pre .1 .0) A) (the-to-front .ensures .0 l A) (the-name-branches .ensures .1) f z N)) N, only-back base count w0 w2 w3 (split-only w0 w1 w2 base count e root top s long1 long2 (here .pre .1 .2) h (the-to-front .ensures .1) (the-name-branches .ensures .1)) (the-from-front .ensures .1))
+    (λ l z f A H k. let N = rw (the-enum-told .given .1) at (the-name-branches .ensures .0 (innerAt l e) z [] f (inner-are w0 w1 w2 base count e root top s long1 long2 (here .pre .1 .2) h (the-to-front .ensures .1) l A (tame-of w0 base count l (here .pre .1 .0) A) (the-to-front .ensures .0 l A)) (named-front w0 w1 w2 base count e root top s long1 long2 (here .pre .1 .2) h (the-to-front .ensures .1) z H) (keep-none w1) (omega (arith, h, k))) in split-back w0 w1 w2 base count e root top s long1 long2 (here .pre .1 .2) h (the-to-front .ensures .1) l A (tame-of w0 base count l (here .pre .1 .0) A) (the-to-front .ensures .0 l A) (the-name-branches .ensures .1) f z (sym (the-is-wide .ensures l (part-of (here .args .scratch .now) base count l (here .pre .1 .3) (here .pre .1 .6) A)) ∙ not-false _ (the-if1 .left)) (the-only-edge .ensures l A) w3 long3 (the-from-front .ensures .1) (the-from-front .ensures .0 l (sym (A .long)) (fronted-again w0 w1 w2 base count e root top s long1 long2 (here .pre .1 .2) h (the-to-front .ensures .1) l A (tame-of w0 base count l (here .pre .1 .0) A) (the-to-front .ensures .0 l A) (the-name-branches .ensures .1) f z N)) N, only-back base count w0 w2 w3 (split-only w0 w1 w2 base count e root top s long1 long2 (here .pre .1 .2) h (the-to-front .ensures .1) (the-name-branches .ensures .1)) (the-from-front .ensures .1))
 
 split-group-same-length-5 : (t : ℕ) → split-group-lts.Need-same-length-5 (calls-4 t) (split-group-at t) split-group.Post
 split-group-same-length-5 t c = search needs
 
 split-group-returns-5 : (t : ℕ) → split-group-lts.Need-returns-5 (calls-4 t) (split-group-at t) split-group.Post
 split-group-returns-5 t c =
-    let here = c .before .before .before .before .before .before .before .before .before .before .before .before .before .before .before .before .before .before in
+    let here = c .before .before .before .before .before .before .before .before .before .before .before .before .before .before .before .before .before .before .before in
     let the-is-wide = c .before .before .before .before .before .before .before .before .before .before .before .before .before .before .before .is-wide in
     let the-if1 = c .before .before .before .before .before .before .before .before .before .before .before .before .before .before .if1 in
     let the-only-edge = c .before .before .before .before .before .before .before .before .before .before .before .before .only-edge in
@@ -800,7 +813,7 @@ split-group-returns-5 t c =
     let long1 = same-words (here .args .scratch .now) (the-to-front .last .0) (the-to-front .kept .0) in
     let long2 = same-words (the-to-front .last .0) (the-name-branches .last .0) (the-name-branches .kept .0) in
     let h = below e count (the-only-edge .ensures (here .pre .1 .0 .list) (here .pre .1 .0 .are) .within) (the-if2 .left) in
-    (λ l z f A H k. split-full w0 w1 w2 base count e root top s long1 long2 (here .pre .1 .2) h (the-to-front .ensures .1) l A (tame-of w0 base count l (here .pre .1 .0) A) (the-to-front .ensures .0 l A) (the-name-branches .ensures .1) f z (sym (the-is-wide .ensures l A) ∙ not-false _ (the-if1 .left)) (the-only-edge .ensures l A) _ (rw (the-x .given .1) at (the-name-branches .ensures .0 (innerAt l e) z [] f (inner-are w0 w1 w2 base count e root top s long1 long2 (here .pre .1 .2) h (the-to-front .ensures .1) l A (tame-of w0 base count l (here .pre .1 .0) A) (the-to-front .ensures .0 l A)) (named-front w0 w1 w2 base count e root top s long1 long2 (here .pre .1 .2) h (the-to-front .ensures .1) z H) (keep-none w1) (omega (arith, h, k)))), split-only w0 w1 w2 base count e root top s long1 long2 (here .pre .1 .2) h (the-to-front .ensures .1) (the-name-branches .ensures .1))
+    (λ l z f A H k. split-full w0 w1 w2 base count e root top s long1 long2 (here .pre .1 .2) h (the-to-front .ensures .1) l A (tame-of w0 base count l (here .pre .1 .0) A) (the-to-front .ensures .0 l A) (the-name-branches .ensures .1) f z (sym (the-is-wide .ensures l (part-of (here .args .scratch .now) base count l (here .pre .1 .3) (here .pre .1 .6) A)) ∙ not-false _ (the-if1 .left)) (the-only-edge .ensures l A) _ (rw (the-x .given .1) at (the-name-branches .ensures .0 (innerAt l e) z [] f (inner-are w0 w1 w2 base count e root top s long1 long2 (here .pre .1 .2) h (the-to-front .ensures .1) l A (tame-of w0 base count l (here .pre .1 .0) A) (the-to-front .ensures .0 l A)) (named-front w0 w1 w2 base count e root top s long1 long2 (here .pre .1 .2) h (the-to-front .ensures .1) z H) (keep-none w1) (omega (arith, h, k)))), split-only w0 w1 w2 base count e root top s long1 long2 (here .pre .1 .2) h (the-to-front .ensures .1) (the-name-branches .ensures .1))
 
 turn-mentions-kept-requires : (t : ℕ) → turn-lts.Need-mentions-kept-requires (calls-5 t) (turn-at t) turn.Post
 turn-mentions-kept-requires t c κs =
@@ -1058,6 +1071,12 @@ pub +name-branches+name-group+name-groups+split-group+turn-spec : {M : Type 1} �
     (λ t. split-group-lts.spec (calls-4 t)
     (split-group-at t)
     split-group.Post
+    (split-group-mul-from t)
+    (split-group-add-to t)
+    (split-group-mul-to t)
+    (split-group-sub-is-wide t)
+    (split-group-part-is-wide-start t)
+    (split-group-part-is-wide-end t)
     (split-group-is-wide-requires t)
     (split-group-same-length t)
     (split-group-returns t)
@@ -1069,7 +1088,7 @@ pub +name-branches+name-group+name-groups+split-group+turn-spec : {M : Type 1} �
     (split-group-sub-name-branches t)
     (split-group-name-branches-requires t)
     (split-group-enum-known-m t)
-    (split-group-add-t26 t)
+    (split-group-add-t30 t)
     (split-group-enum-told t)
     (split-group-from-front-requires t)
     (split-group-enum-known-x t)

@@ -7,7 +7,8 @@ use Rattle.inverse.specs.Layout.{Building}
 use Rattle.reflexive.specs.Flags.{MapWithin}
 use Rattle.reflexive.specs.Steps.{Closing}
 use Rattle.reflexive.specs.FlagLaws.{only-trans, map-kept, flagged-most}
-use Rattle.reflexive.specs.AxiomLaws.{building-kept}
+use Rattle.inverse.specs.AxiomLaws.{building-kept}
+use Rattle.reflexive.specs.AxiomLaws.{flags-axioms}
 use Rattle.reflexive.specs.RoundLaws.{closing-first, closing-back, closing-ready, closing-building, closing-next, closing-end}
 use Rattle.reflexive.proofs.ids.reflexive_role_ids.Statement.{statement}
 use Rattle.reflexive.proofs.ids.reflexive_role_ids.Tie as tie
@@ -27,7 +28,7 @@ declared-requires c κs = c .before .before .pre
 
 loop-holds : tie.Need-loop-holds Inv-loop μ-loop
 loop-holds c = let a = c .before .before .before .before .before in let d = c .before .before .declared in
-    (closing-first (a .args .scratch .now) (d .last .0) (a .args .n) _ (a .pre .0) (d .ensures) (d .kept .0), building-kept (a .args .scratch .now) (d .last .0) (a .args .n) (a .pre .0) (d .ensures .only) (d .kept .0), map-kept (words (a .args .scratch .now)) (words (d .last .0)) (d .ensures .only) (a .pre .1))
+    (closing-first (a .args .scratch .now) (d .last .0) (a .args .n) _ (a .pre .0) (d .ensures) (d .kept .0), building-kept (a .args .scratch .now) (d .last .0) (a .args .n) (a .pre .0) (flags-axioms (words (a .args .scratch .now)) (words (d .last .0)) (d .ensures .only)) (d .kept .0), map-kept (words (a .args .scratch .now)) (words (d .last .0)) (d .ensures .only) (a .pre .1))
 
 round-requires : tie.Need-round-requires Inv-loop μ-loop
 round-requires c κs =

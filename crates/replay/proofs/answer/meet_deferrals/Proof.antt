@@ -12,26 +12,8 @@ abbrev μ-loop : tie.MeasureT-loop
 loop-holds : tie.Need-loop-holds Inv-loop μ-loop
 loop-holds c = search needs
 
-cast-at : tie.Need-cast-at Inv-loop μ-loop
-cast-at c = search needs
-
-mul-at : tie.Need-mul-at Inv-loop μ-loop
-mul-at c = search needs
-
-word-requires : tie.Need-word-requires Inv-loop μ-loop
-word-requires c κs = search needs
-
-meet-requires : tie.Need-meet-requires Inv-loop μ-loop
-meet-requires c κs = search needs
-
-add-word : tie.Need-add-word Inv-loop μ-loop
-add-word c = search needs
-
-word-requires-2 : tie.Need-word-requires-2 Inv-loop μ-loop
-word-requires-2 c κs = search needs
-
-meet-requires-2 : tie.Need-meet-requires-2 Inv-loop μ-loop
-meet-requires-2 c κs = search needs
+meet-deferral-requires : tie.Need-meet-deferral-requires Inv-loop μ-loop
+meet-deferral-requires c κs = search needs
 
 add-i : tie.Need-add-i Inv-loop μ-loop
 add-i c = search needs
@@ -48,18 +30,4 @@ returns c = search needs
 pub meet-deferrals-spec : {M : Type 1} → statement M
 meet-deferrals-spec =
     tie.close
-    (tie.spec
-    Inv-loop
-    μ-loop
-    loop-holds
-    cast-at
-    mul-at
-    word-requires
-    meet-requires
-    add-word
-    word-requires-2
-    meet-requires-2
-    add-i
-    loop-less
-    loop-again
-    returns)
+    (tie.spec Inv-loop μ-loop loop-holds meet-deferral-requires add-i loop-less loop-again returns)

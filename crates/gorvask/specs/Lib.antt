@@ -1,0 +1,4 @@
+pub mod Entry
+pub mod Replies
+pub mod NumberLaws
+pub mod MeaningLaws
