@@ -2,6 +2,7 @@ pub mod InHands
 pub mod SameLaws
 pub mod PlainLaws
 pub mod PlacedLaws
+pub mod Sizes
 pub mod FlagWords
 pub mod Contracting
 pub mod ContractLaws

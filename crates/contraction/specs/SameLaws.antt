@@ -69,21 +69,76 @@ any-either p q (x ∷ l) = swap (p x) (any p l) (q x) (any q l) ∙ ap (λ (b : 
 abbrev pub sameRuns : List ℕ → ℕ → List ℕ → ℕ → ℕ → Bool
 sameRuns s i t j n = sameWords (take n (drop i s)) (take n (drop j t))
 
-module _ (s : List ℕ) (i : ℕ) (t : List ℕ) (j n m : ℕ) (less : m < n) (fitS : i + n ≤ length s) (fitT : j + n ≤ length t) where
-  run-next : (w : List ℕ) (k : ℕ) → k + n ≤ length w → take (n - m) (drop (k + m) w) ≡ getD w (k + m) 0 ∷ take (n - (m + 1)) (drop (k + (m + 1)) w)
-  run-next w k h =
-      let e : n - m ≡ suc (n - (m + 1)) = omega arith in
-      let f : suc (k + m) ≡ k + (m + 1) = omega arith in
-      rw (e, drop-cons w (k + m) 0 (omega arith), f) refl
+-- a word, and then the others; the first m words, and then the others
+module _ (s t : List ℕ) where
+  pub runs-next : (i j n : ℕ) → i + suc n ≤ length s → j + suc n ≤ length t → sameRuns s i t j (suc n) ≡ pick (eqb (getD s i 0) (getD t j 0)) (sameRuns s (i + 1) t (j + 1) n) false
+  runs-next i j n fitS fitT = rw (drop-cons s i 0 (omega arith), drop-cons t j 0 (omega arith), add-one i, add-one j) refl
 
-  step : sameRuns s (i + m) t (j + m) (n - m) ≡ pick (eqb (getD s (i + m) 0) (getD t (j + m) 0)) (sameRuns s (i + (m + 1)) t (j + (m + 1)) (n - (m + 1))) false
-  step = rw (run-next s i fitS, run-next t j fitT) refl
+  pub runs-split : (m i j n : ℕ) → i + (m + n) ≤ length s → j + (m + n) ≤ length t → sameRuns s i t j (m + n) ≡ pick (sameRuns s i t j m) (sameRuns s (i + m) t (j + m) n) false
+  runs-split zero i j n fitS fitT =
+      let x : i + 0 ≡ i = omega arith in
+      let y : j + 0 ≡ j = omega arith in
+      let z : 0 + n ≡ n = omega arith in
+      rw (x, y, z) refl
+  runs-split (suc m) i j n fitS fitT =
+      let x : i + suc m ≡ i + 1 + m = omega arith in
+      let y : j + suc m ≡ j + 1 + m = omega arith in
+      let z : suc m + n ≡ suc (m + n) = omega arith in
+      rw (x, y, z, runs-next i j (m + n) (omega arith) (omega arith), runs-next i j m (omega arith) (omega arith), runs-split m (i + 1) (j + 1) n (omega arith) (omega arith))
+      (nested (eqb (getD s i 0) (getD t j 0)) (sameRuns s (i + 1) t (j + 1) m) (sameRuns s (i + 1 + m) t (j + 1 + m) n))
+    where
+      nested : (a b c : Bool) → pick a (pick b c false) false ≡ pick (pick a b false) c false
+      nested true b c = refl
+      nested false b c = refl
 
-  pub runs-on : getD s (i + m) 0 ≡ getD t (j + m) 0 → sameRuns s (i + m) t (j + m) (n - m) ≡ sameRuns s (i + (m + 1)) t (j + (m + 1)) (n - (m + 1))
-  runs-on e = step ∙ rw (eq-eqb (getD s (i + m) 0) (getD t (j + m) 0) e) refl
+  -- the first word differs; word m
+  pub first-differs : (i j n : ℕ) → i + suc n ≤ length s → j + suc n ≤ length t → (getD s i 0 ≡ getD t j 0 → ⊥) → sameRuns s i t j (suc n) ≡ false
+  first-differs i j n fitS fitT e = runs-next i j n fitS fitT ∙ rw (ne-eqb (getD s i 0) (getD t j 0) e) refl
 
-  pub runs-apart : (getD s (i + m) 0 ≡ getD t (j + m) 0 → ⊥) → sameRuns s (i + m) t (j + m) (n - m) ≡ false
-  runs-apart e = step ∙ rw (ne-eqb (getD s (i + m) 0) (getD t (j + m) 0) e) refl
+  pub word-differs : (m i j n : ℕ) → i + (m + suc n) ≤ length s → j + (m + suc n) ≤ length t → (getD s (i + m) 0 ≡ getD t (j + m) 0 → ⊥) → sameRuns s i t j (m + suc n) ≡ false
+  word-differs m i j n fitS fitT e =
+      runs-split m i j (suc n) fitS fitT
+      ∙ rw (first-differs (i + m) (j + m) n (omega arith) (omega arith) e) (no (sameRuns s i t j m))
+    where
+      no : (b : Bool) → pick b false false ≡ false
+      no true = refl
+      no false = refl
+
+  -- five words are the same: the sixth decides
+  pub sixth-word : (i j : ℕ) → i + 6 ≤ length s → j + 6 ≤ length t → getD s i 0 ≡ getD t j 0 → getD s (i + 1) 0 ≡ getD t (j + 1) 0 → getD s (i + 2) 0 ≡ getD t (j + 2) 0
+      → getD s (i + 3) 0 ≡ getD t (j + 3) 0 → getD s (i + 4) 0 ≡ getD t (j + 4) 0 → sameRuns s i t j 6 ≡ eqb (getD s (i + 5) 0) (getD t (j + 5) 0)
+  sixth-word i j fitS fitT e₀ e₁ e₂ e₃ e₄ =
+      let on : (k l n : ℕ) → k + suc n ≤ length s → l + suc n ≤ length t → getD s k 0 ≡ getD t l 0 → sameRuns s k t l (suc n) ≡ sameRuns s (k + 1) t (l + 1) n =
+      λ k l n f g e. runs-next k l n f g ∙ rw (eq-eqb (getD s k 0) (getD t l 0) e) refl in
+      let a : (k : ℕ) → k + 1 + 1 ≡ k + 2 = λ k. omega arith in
+      let b : (k : ℕ) → k + 2 + 1 ≡ k + 3 = λ k. omega arith in
+      let c : (k : ℕ) → k + 3 + 1 ≡ k + 4 = λ k. omega arith in
+      let d : (k : ℕ) → k + 4 + 1 ≡ k + 5 = λ k. omega arith in
+      on i j 5 fitS fitT e₀
+      ∙ rw (a i, a j) at (on (i + 1) (j + 1) 4 (omega arith) (omega arith) e₁)
+      ∙ rw (b i, b j) at (on (i + 2) (j + 2) 3 (omega arith) (omega arith) e₂)
+      ∙ rw (c i, c j) at (on (i + 3) (j + 3) 2 (omega arith) (omega arith) e₃)
+      ∙ rw (d i, d j) at (on (i + 4) (j + 4) 1 (omega arith) (omega arith) e₄)
+      ∙ runs-next (i + 5) (j + 5) 0 (omega arith) (omega arith) ∙ last (eqb (getD s (i + 5) 0) (getD t (j + 5) 0))
+    where
+      last : (b : Bool) → pick b true false ≡ b
+      last true = refl
+      last false = refl
+
+  -- those from record m on, of n
+  module _ (i j n m : ℕ) (less : m < n) (fitS : i + 6 * n ≤ length s) (fitT : j + 6 * n ≤ length t) where
+    step : sameRuns s (i + 6 * m) t (j + 6 * m) (6 * n - 6 * m) ≡ pick (sameRuns s (i + 6 * m) t (j + 6 * m) 6) (sameRuns s (i + 6 * (m + 1)) t (j + 6 * (m + 1)) (6 * n - 6 * (m + 1))) false
+    step =
+        let x : 6 * n - 6 * m ≡ 6 + (6 * n - 6 * (m + 1)) = omega arith in
+        let y : i + 6 * (m + 1) ≡ i + 6 * m + 6 = omega arith in
+        let z : j + 6 * (m + 1) ≡ j + 6 * m + 6 = omega arith in
+        rw (x, y, z) (runs-split 6 (i + 6 * m) (j + 6 * m) (6 * n - 6 * (m + 1)) (omega arith) (omega arith))
+
+    pub runs-on : sameRuns s (i + 6 * m) t (j + 6 * m) 6 ≡ true → sameRuns s (i + 6 * m) t (j + 6 * m) (6 * n - 6 * m) ≡ sameRuns s (i + 6 * (m + 1)) t (j + 6 * (m + 1)) (6 * n - 6 * (m + 1))
+    runs-on e = step ∙ rw e refl
+
+    pub runs-apart : sameRuns s (i + 6 * m) t (j + 6 * m) 6 ≡ false → sameRuns s (i + 6 * m) t (j + 6 * m) (6 * n - 6 * m) ≡ false
+    runs-apart e = step ∙ rw e refl
 
 -- ---- words of atoms
 same-both : (xs ys u v : List ℕ) → length xs ≡ length ys → sameWords (xs ++ u) (ys ++ v) ≡ (sameWords xs ys && sameWords u v)

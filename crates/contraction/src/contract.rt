@@ -88,7 +88,7 @@ fn in_body(scratch: &[u8], nb: u32, i: usize) -> bool
 {
     let mut j: u32 = 0;
     while j < nb {
-        if clause::same_run(scratch, 6 * i, scratch, 6 * (HAND + j as usize), 6) {
+        if clause::same_record(scratch, 6 * i, scratch, 6 * (HAND + j as usize)) {
             return true;
         }
         j += 1;

@@ -24,20 +24,20 @@ abbrev μ-loop : tie.MeasureT-loop
 loop-holds : tie.Need-loop-holds Inv-loop μ-loop
 loop-holds c = λ b x e B X. refl
 
-mul-same-run : tie.Need-mul-same-run Inv-loop μ-loop
-mul-same-run c = omega arith
+mul-same-record : tie.Need-mul-same-record Inv-loop μ-loop
+mul-same-record c = omega arith
 
-cast-same-run : tie.Need-cast-same-run Inv-loop μ-loop
-cast-same-run c = omega arith
+cast-same-record : tie.Need-cast-same-record Inv-loop μ-loop
+cast-same-record c = omega arith
 
-add-same-run : tie.Need-add-same-run Inv-loop μ-loop
-add-same-run c = omega arith
+add-same-record : tie.Need-add-same-record Inv-loop μ-loop
+add-same-record c = omega arith
 
-mul-same-run-2 : tie.Need-mul-same-run-2 Inv-loop μ-loop
-mul-same-run-2 c = omega arith
+mul-same-record-2 : tie.Need-mul-same-record-2 Inv-loop μ-loop
+mul-same-record-2 c = omega arith
 
-same-run-requires : tie.Need-same-run-requires Inv-loop μ-loop
-same-run-requires c κs = (omega arith, omega arith)
+same-record-requires : tie.Need-same-record-requires Inv-loop μ-loop
+same-record-requires c κs = (omega arith, omega arith)
 
 returns : tie.Need-returns Inv-loop μ-loop
 returns c =
@@ -46,7 +46,7 @@ returns c =
     let L = c .before .before .before .loop in
     let lt = c .before .before .loop-test .taken in
     λ b x e B X. sym (L .inv b x e B X ∙ any-found (sameAtom x) b (L .j) noAtom (omega (arith, lt, e))
-    (sym (record-same w (s .args .i) (handAt + L .j) x (getD b (L .j) noAtom) (c .before .same-run .result) (c .before .same-run .ensures) X (flat-nth w handAt b (L .j) B (omega (arith, lt, e)))) ∙ c .if1 .taken))
+    (sym (record-same w (s .args .i) (handAt + L .j) x (getD b (L .j) noAtom) (c .before .same-record .result) (c .before .same-record .ensures) X (flat-nth w handAt b (L .j) B (omega (arith, lt, e)))) ∙ c .if1 .taken))
 
 add-j : tie.Need-add-j Inv-loop μ-loop
 add-j c = omega arith
@@ -61,7 +61,7 @@ loop-again c =
     let L = c .before .before .before .loop in
     let lt = c .before .before .loop-test .taken in
     λ b x e B X. L .inv b x e B X ∙ any-on (sameAtom x) b (L .j) noAtom (omega (arith, lt, e))
-    (sym (record-same w (s .args .i) (handAt + L .j) x (getD b (L .j) noAtom) (c .before .same-run .result) (c .before .same-run .ensures) X (flat-nth w handAt b (L .j) B (omega (arith, lt, e)))) ∙ c .if1 .left)
+    (sym (record-same w (s .args .i) (handAt + L .j) x (getD b (L .j) noAtom) (c .before .same-record .result) (c .before .same-record .ensures) X (flat-nth w handAt b (L .j) B (omega (arith, lt, e)))) ∙ c .if1 .left)
 
 returns-2 : tie.Need-returns-2 Inv-loop μ-loop
 returns-2 c = let L = c .before .loop in λ b x e B X. sym (L .inv b x e B X ∙ any-none (sameAtom x) b (L .j) (omega (arith, c .loop-test .left, e)))
@@ -73,11 +73,11 @@ in-body-spec =
     Inv-loop
     μ-loop
     loop-holds
-    mul-same-run
-    cast-same-run
-    add-same-run
-    mul-same-run-2
-    same-run-requires
+    mul-same-record
+    cast-same-record
+    add-same-record
+    mul-same-record-2
+    same-record-requires
     returns
     add-j
     loop-less
