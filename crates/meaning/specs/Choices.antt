@@ -99,7 +99,7 @@ contains-each (v ∷ vs) l = (contains-inserted v (inserted vs l), each-in vs (c
     each-in (x ∷ k) u = (contains-insert x v (inserted vs l) (u .0), each-in k (u .1))
 
 -- every atom's variables are among those of the list
-abbrev InVars : List ℕ → Atom → Type 0
+abbrev pub InVars : List ℕ → Atom → Type 0
 InVars vars a = Each (λ u. contains vars u ≡ true) (atomVars a)
 
 in-more : (vs vars : List ℕ) (k : List ℕ) → Each (λ u. contains vars u ≡ true) k → Each (λ u. contains (inserted vs vars) u ≡ true) k
@@ -110,7 +110,7 @@ each-more : (vs vars : List ℕ) (l : List Atom) → Each (InVars vars) l → Ea
 each-more vs vars [] u = tt
 each-more vs vars (a ∷ l) u = (in-more vs vars (atomVars a) (u .0), each-more vs vars l (u .1))
 
-in-vars : (l : List Atom) → Each (InVars (varsOf l)) l
+pub in-vars : (l : List Atom) → Each (InVars (varsOf l)) l
 unfolding varsOf
 in-vars [] = tt
 in-vars (a ∷ l) = (contains-each (atomVars a) (varsOf l), each-more (atomVars a) (varsOf l) l (in-vars l))

@@ -1,0 +1,11 @@
+mod ListLaws
+mod RoleLaws
+mod RowLaws
+mod LineLaws
+mod ArmLaws
+mod KindLaws
+mod PairLaws
+mod AsideLaws
+mod PathLaws
+mod ChainArmLaws
+mod ReadyLaws

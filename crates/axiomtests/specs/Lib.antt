@@ -1,0 +1,4 @@
+pub mod Lines
+pub mod Breaking
+pub mod Lists
+pub mod Chains

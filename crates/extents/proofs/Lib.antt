@@ -1,0 +1,4 @@
+pub mod Laws
+pub mod ConceptLaws
+pub mod ThereLaws
+pub mod SetsLaws

@@ -1,0 +1,20 @@
+use mathlib.Core.Path.{sym, ap, _∙_}
+use mathlib.Core.Bool.{_&&_}
+use Prim.Native.Nat.{ℕ}
+use lib.Dec.{leb}
+use Rattle.extents.proofs.Laws.{count-rising}
+use borrow.Author.Needs.{needs}
+use Rattle.extents.proofs.restriction.at_most.Statement.{statement}
+use Rattle.extents.proofs.restriction.at_most.Tie as tie
+
+both-requires : tie.Need-both-requires
+both-requires c κs = search needs
+
+size-requires : tie.Need-size-requires
+size-requires c κs = search needs
+
+returns : tie.Need-returns
+returns c = λ n f g e h. ap (λ (k : ℕ). leb k (c .before .before .args .number)) (c .size .ensures n (λ y. f y && g y) (c .before .both .ensures n f g e h) ∙ sym (count-rising n (λ y. f y && g y)))
+
+pub at-most-spec : {M : Type 1} → statement M
+at-most-spec = tie.close (tie.spec both-requires size-requires returns)

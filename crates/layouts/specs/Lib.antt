@@ -1,0 +1,3 @@
+pub mod Read
+pub mod Lines
+pub mod Drawn
