@@ -1,11 +1,13 @@
 -- The parts of the entries: what they ask and promise of the tables, and a reply's count.
 use mathlib.Core.Path.{_≡_}
-use mathlib.Core.List.{List}
+use mathlib.Core.Bool.{Bool, true, false}
+use mathlib.Core.List.{List, [], _∷_}
 use Prim.Native.Nat.{ℕ}
 use lib.ListN.{length, replicate}
 use Rattle.ir.specs.declared.counters.Counters.{Counters}
 use Rattle.rules.specs.State.{Rooms}
-use Rattle.rules.specs.Run.{Lengths, Accepted, Outcome, clauseTable, atomTable, deferralTable}
+use Rattle.rules.specs.Run.{Lengths, Accepted, Outcome, refused, clauseTable, atomTable, deferralTable}
+use Rattle.statistics.specs.declared.ClauseStats.{ClauseStats}
 use Rattle.clausify.specs.declared.Reply.{Reply}
 use Rattle.clausify.specs.declared.Reply.the-variants as Replies
 use Rattle.clausify.specs.declared.Clausified.{Clausified}
@@ -37,3 +39,13 @@ pub record Answered (o : Outcome) (t : Lengths) (r : Reply) (c a d : List ℕ) :
 abbrev pub countOfReply : Reply → Clausified
 countOfReply (Replies.Accepted s freshIds visits) = Counts.Accepted (s .total)
 countOfReply (Replies.Refused n line) = Counts.Refused n line
+
+-- a run beside one table more: 1 where that does not fit
+abbrev pub runIf : Bool → Outcome → Outcome
+runIf true o = o
+runIf false o = refused 1 0
+
+-- a reply's ten numbers
+abbrev pub tenOf : ClauseStats → ℕ → ℕ → List ℕ
+tenOf s freshIds visits =
+    s .total ∷ s .horn ∷ s .disjunctive ∷ s .«bottom_headed» ∷ s .«with_exists_head» ∷ s .deferred ∷ s .decomposed ∷ s .refused ∷ freshIds ∷ visits ∷ []

@@ -54,7 +54,7 @@ run-sized : (deck : List ℕ) (t : Lengths) → sizesOk t ≡ true → Run deck 
 unfolding runWith
 run-sized deck t e = rw e refl
 
-run-unsized : (deck : List ℕ) (t : Lengths) → sizesOk t ≡ false → Run deck t ≡ refused 1 0
+pub run-unsized : (deck : List ℕ) (t : Lengths) → sizesOk t ≡ false → Run deck t ≡ refused 1 0
 unfolding runWith
 run-unsized deck t e = rw e refl
 

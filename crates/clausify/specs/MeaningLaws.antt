@@ -8,38 +8,26 @@ use native.Mathlib.Omega.{arith}
 use Rattle.rules.specs.State.{Clause}
 use Rattle.rules.specs.Deck.{Known, fine, readDeck}
 use Rattle.rules.specs.Run.{Lengths, Outcome, Accepted, accepted, refused, visitLimit, Run, clauseTable, atomTable}
-use Rattle.rules.specs.RunLaws.{run-outcome}
 use Rattle.rules.specs.Statements.{leftClauses, clausesOf, FirstHalf, SecondHalf}
 use Rattle.meaning.specs.Theorem.{demand-three-first, demand-three-second}
 use Rattle.clausify.specs.declared.Reply.{Reply}
 use Rattle.clausify.specs.declared.Clausified.{Clausified}
 use Rattle.clausify.specs.Entry.{replyOf, countOf, Meaning, Meant, MeantCount}
 use Rattle.clausify.specs.Answer.{Answered, countOfReply}
+use Rattle.clausify.specs.RunTabled.{run-read}
 
 -- ---- an accepted run
--- its deck was read
-pub record Read (deck : List ℕ) : Type 0 where
-  pub known : Known
-  pub read : readDeck deck ≡ fine known
-
-run-read : (deck : List ℕ) (t : Lengths) (x : Accepted) → Run deck t ≡ accepted x → Read deck
-run-read deck t x q =
-    run-outcome visitLimit deck t (λ o. o ≡ accepted x → Read deck) (other 1 0) (λ k line _. other k line) (λ d e _ _. record { known = d; read = e }) q
-  where
-    other : (k line : ℕ) → refused k line ≡ accepted x → Read deck
-    other k line r = let z : _≡_ {A = ℕ} 0 1 = cc in absurd (omega arith)
-
 pub run-meaning : (deck : List ℕ) (t : Lengths) (x : Accepted) (c a : List ℕ) → Run deck t ≡ accepted x → c ≡ clauseTable t (accepted x) → a ≡ atomTable t (accepted x)
     → Meaning deck c a (x .stats .total) (x .freshIds) (x .stats .deferred)
 run-meaning deck t x c a q e f =
     let R = run-read deck t x q in
-    let d = R .known in
+    let d = R .0 in
     let same : clausesOf t x ≡ leftClauses (x .stats .total) c a = sym (ap₂ (λ (y z : List ℕ). leftClauses (x .stats .total) y z) e f) in
     record {
       known = d;
-      read = R .read;
-      first = subst (λ (l : List (Option Clause)). FirstHalf d (x .freshIds) l) same (demand-three-first deck t d x (R .read) q);
-      second = subst (λ (l : List (Option Clause)). SecondHalf d (x .freshIds) (x .stats .deferred) l) same (demand-three-second deck t d x (R .read) q);
+      read = R .1;
+      first = subst (λ (l : List (Option Clause)). FirstHalf d (x .freshIds) l) same (demand-three-first deck t d x (R .1) q);
+      second = subst (λ (l : List (Option Clause)). SecondHalf d (x .freshIds) (x .stats .deferred) l) same (demand-three-second deck t d x (R .1) q);
     }
 
 -- ---- an outcome's count

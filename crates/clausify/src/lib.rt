@@ -1,6 +1,8 @@
 // The public entries in Rattle: clausify_with_stats and clausify. None asks anything of what it is lent. Each contract gives the reply, and every byte of every table at exit, as a function of the deck's bytes and the
 // tables' lengths alone, and says what the clauses in these bytes mean.
 pub mod answer;
+pub mod fitted;
+pub mod numbers;
 mod sizes;
 
 use statistics::ClauseStats;

@@ -1,6 +1,5 @@
 -- What the exported functions promise: the reply as one number, the table of numbers, and the clauses' meaning.
 use mathlib.Core.Path.{_≡_}
-use mathlib.Core.Bool.{Bool, true, false}
 use mathlib.Core.List.{List}
 use Prim.Native.Nat.{ℕ, _+_, _*_, _^_}
 use lib.ListN.{getD, replicate}
@@ -8,6 +7,7 @@ use lib.Dec.{eqb}
 use Rattle.words.specs.Words.{words, bytes}
 use Rattle.rules.specs.Run.{Lengths, Outcome, accepted, refused, Run, replyNumber, replyLine, tenNumbers}
 use Rattle.clausify.specs.Entry.{Meaning}
+use Rattle.clausify.specs.Answer.{runIf}
 
 -- number × 2^32 + line, 0 where accepted
 abbrev pub codeOf : Outcome → ℕ
@@ -16,10 +16,6 @@ codeOf o = replyNumber o * 2 ^ 32 + replyLine o
 -- its table of numbers has ten words; any other size is refusal 1
 abbrev pub numbersBytes : ℕ
 numbersBytes = 40
-
-abbrev pub runIf : Bool → Outcome → Outcome
-runIf true o = o
-runIf false o = refused 1 0
 
 abbrev pub runWithNumbers : ℕ → List ℕ → Lengths → Outcome
 runWithNumbers n deck t = runIf (eqb n numbersBytes) (Run deck t)

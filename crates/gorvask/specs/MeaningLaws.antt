@@ -13,10 +13,10 @@ use Rattle.rules.specs.Run.{Lengths, Outcome, accepted, refused, Run}
 use Rattle.rules.specs.RunLaws.{run-never-zero}
 use Rattle.clausify.specs.declared.Reply.{Reply}
 use Rattle.clausify.specs.Entry.{replyOf, Meaning}
-use Rattle.clausify.specs.Answer.{Answered}
+use Rattle.clausify.specs.Answer.{Answered, runIf, tenOf}
 use Rattle.clausify.specs.MeaningLaws.{run-meaning}
-use Rattle.gorvask.specs.Entry.{codeOf, numbersBytes, runIf, runWithNumbers, numbersTable, MeantNumbers}
-use Rattle.gorvask.specs.Replies.{codeOfReply, tenOf, numbersOf, NumbersFit, TenWords}
+use Rattle.gorvask.specs.Entry.{codeOf, numbersBytes, runWithNumbers, numbersTable, MeantNumbers}
+use Rattle.gorvask.specs.Replies.{codeOfReply, numbersOf, NumbersFit, TenWords}
 
 -- ---- an outcome's reply
 pub code-of : (o : Outcome) → codeOfReply (replyOf o) ≡ codeOf o

@@ -12,8 +12,9 @@ use Rattle.words.specs.Bytes.{bytes-words}
 use Rattle.statistics.specs.declared.ClauseStats.{ClauseStats}
 use Rattle.clausify.specs.declared.Reply.{Reply}
 use Rattle.clausify.specs.declared.Reply.the-variants as Replies
+use Rattle.clausify.specs.Answer.{tenOf}
 use Rattle.gorvask.specs.Entry.{numbersBytes}
-use Rattle.gorvask.specs.Replies.{tenOf, numbersOf, TenWords}
+use Rattle.gorvask.specs.Replies.{numbersOf, TenWords}
 
 -- a whole table stored from its first word on
 pub sets-all : (l w : List ℕ) → length w ≡ length l → sets w 0 l ≡ l

@@ -1,24 +1,19 @@
 -- A reply of clausify_with_stats in the forms of the C interface.
 use mathlib.Core.Path.{_≡_}
-use mathlib.Core.List.{List, [], _∷_}
+use mathlib.Core.List.{List}
 use Prim.{Unit}
 use Prim.Native.Nat.{ℕ, _+_, _*_, _^_}
 use lib.ListN.{replicate}
 use Rattle.words.specs.Words.{bytes}
-use Rattle.statistics.specs.declared.ClauseStats.{ClauseStats}
 use Rattle.clausify.specs.declared.Reply.{Reply}
 use Rattle.clausify.specs.declared.Reply.the-variants as Replies
+use Rattle.clausify.specs.Answer.{tenOf}
 use Rattle.gorvask.specs.Entry.{numbersBytes}
 
 -- as one number
 abbrev pub codeOfReply : Reply → ℕ
 codeOfReply (Replies.Accepted s freshIds visits) = 0
 codeOfReply (Replies.Refused n line) = n * 2 ^ 32 + line
-
--- its ten numbers
-abbrev pub tenOf : ClauseStats → ℕ → ℕ → List ℕ
-tenOf s freshIds visits =
-    s .total ∷ s .horn ∷ s .disjunctive ∷ s .«bottom_headed» ∷ s .«with_exists_head» ∷ s .deferred ∷ s .decomposed ∷ s .refused ∷ freshIds ∷ visits ∷ []
 
 -- in a table of n bytes: ten words where accepted, else zeros
 abbrev pub numbersOf : ℕ → Reply → List ℕ

@@ -1,56 +1,11 @@
 // clausify_with_stats for callers in C and Rust.
 use crate::reply;
-use clausify::Reply;
-use clausify::answer;
+use clausify::fitted;
 ghost use mathlib.Core.Path.{_≡_};
-ghost use lib.ListN.{length, replicate};
+ghost use lib.ListN.{length};
 ghost use Rattle.rules.specs.Run.{Run, clauseTable, atomTable, deferralTable, scratchTable};
-ghost use Rattle.clausify.specs.declared.Reply.the-variants.{Refused};
 ghost use Rattle.clausify.specs.Entry.{lent};
-ghost use Rattle.clausify.specs.Answer.{Answered};
-ghost use Rattle.gorvask.specs.Entry.{codeOf, runIf, runWithNumbers, numbersTable, MeantNumbers};
-
-// Refusal 1, with zeros in every table.
-fn refuse_sizes(
-    clauses: &mut [u8],
-    atoms: &mut [u8],
-    deferrals: &mut [u8],
-    scratch: &mut [u8],
-) -> Reply
-    ensures { λ r. ⌜ r ≡ Refused 1 0 ⌝ }
-    ensures { λ _. ⌜ now (clauses .exit) ≡ replicate (length (now (clauses .entry))) 0 ⌝ }
-    ensures { λ _. ⌜ now (atoms .exit) ≡ replicate (length (now (atoms .entry))) 0 ⌝ }
-    ensures { λ _. ⌜ now (deferrals .exit) ≡ replicate (length (now (deferrals .entry))) 0 ⌝ }
-    ensures { λ _. ⌜ now (scratch .exit) ≡ replicate (length (now (scratch .entry))) 0 ⌝ }
-{
-    answer::blank(clauses, atoms, deferrals);
-    words::clear(scratch);
-    Reply::Refused(1, 0)
-}
-
-// All but the table of numbers, whose size fits or not.
-fn answer_if(
-    fit: bool,
-    deck: &[u8],
-    clauses: &mut [u8],
-    atoms: &mut [u8],
-    deferrals: &mut [u8],
-    scratch: &mut [u8],
-) -> Reply
-    ensures { λ r.
-        let t = lent (now (clauses .entry)) (now (atoms .entry)) (now (deferrals .entry)) (now (scratch .entry)) in
-        let o = Run (now (deck .entry)) t in
-        ⌜ Answered (runIf fit o) t r (now (clauses .exit)) (now (atoms .exit)) (now (deferrals .exit)) ⌝ }
-    ensures { λ _.
-        let t = lent (now (clauses .entry)) (now (atoms .entry)) (now (deferrals .entry)) (now (scratch .entry)) in
-        ⌜ now (scratch .exit) ≡ scratchTable t ⌝ }
-{
-    if fit {
-        clausify::clausify_with_stats(deck, clauses, atoms, deferrals, scratch)
-    } else {
-        refuse_sizes(clauses, atoms, deferrals, scratch)
-    }
-}
+ghost use Rattle.gorvask.specs.Entry.{codeOf, runWithNumbers, numbersTable, MeantNumbers};
 
 // The reply is one number; statistics, fresh ids and visits stand in a lent table of ten
 // words. A table of numbers of any other size is refusal 1.
@@ -89,7 +44,7 @@ pub extern "C" fn gorvask_clausify_with_stats(
     ensures meaning { λ r. ⌜ MeantNumbers (now (deck .entry)) (now (clauses .exit)) (now (atoms .exit)) (now (numbers .exit)) r ⌝ }
 {
     let fit = numbers.len() == 40;
-    let answer = answer_if(fit, deck, clauses, atoms, deferrals, scratch);
+    let answer = fitted::answer_if(fit, deck, clauses, atoms, deferrals, scratch);
     reply::put_numbers(numbers, answer);
     reply::code(answer)
 }

@@ -4,17 +4,11 @@ use mathlib.Core.List.{List, [], _∷_, _++_}
 use Prim.Native.Nat.{ℕ, _+_, _*_, _-_, _≤_}
 use native.Mathlib.Omega.{arith}
 use lib.ListN.{length, take, replicate, length-append}
-use lib.Seq.{take-at}
 use Rattle.words.specs.Words.{words}
-use Rattle.words.specs.Bytes.{Words}
 use Rattle.rules.specs.State.{total}
-use Rattle.rules.specs.Deck.{Known, fine, readDeck}
-use Rattle.rules.specs.DeckLaws.{boundsOf, read-in}
 use Rattle.rules.specs.Run.{Lengths, Accepted, Outcome, accepted, refused, Run, scratchBytes, visitLimit, firstFresh, roomsOf, tenNumbers, clauseWords, atomWords, clauseRecords, atomRecords, clauseTable, atomTable}
-use Rattle.rules.specs.RunLaws.{Sized, AcceptedIn, run-outcome, run-accepted}
-use Rattle.rules.specs.DecodeLaws.{clause-records-long, atom-records-long, words-table, fits-words}
 use Rattle.rules.specs.Lister.{fieldsText, clausesText, outcomeText, listerLengths, listing}
-use Rattle.tables.specs.Tabled.{Tabled}
+use Rattle.clausify.specs.RunTabled.{run-within, run-tabled}
 use Rattle.rows.specs.Rows.{Put}
 use Rattle.rows.specs.RowLaws.{length-line}
 use Rattle.listing.specs.Listing.{Listable}
@@ -46,42 +40,11 @@ reply-refused (refused k l) n line e = let a : k ≡ n = cc in let b : l ≡ lin
 
 -- ---- an accepted run
 module _ (deck : List ℕ) (t : Lengths) (x : Accepted) (q : Run deck t ≡ accepted x) where
-  run-read : (d : Known) × (readDeck deck ≡ fine d)
-  run-read = run-outcome visitLimit deck t (λ o. o ≡ accepted x → (d : Known) × (readDeck deck ≡ fine d)) (none 1 0) (λ k line _. none k line) (λ d e _ _. (d, e)) q
-    where
-      none : (k line : ℕ) → refused k line ≡ accepted x → (d : Known) × (readDeck deck ≡ fine d)
-      none k line e = let z : _≡_ {A = ℕ} 0 1 = cc in absurd (omega arith)
-
-  run-within : Sized t × AcceptedIn (run-read .0) visitLimit (roomsOf t) x
-  run-within = run-accepted visitLimit deck t (run-read .0) x (run-read .1) q
-
-  run-words : Words (clauseRecords 0 (x .clauses)) × Words (atomRecords (x .clauses))
-  run-words =
-      let d = run-read .0 in
-      let D = read-in deck d (run-read .1) in
-      let S = run-within .0 in
-      let I = run-within .1 in
-      fits-words (boundsOf d) (firstFresh d + x .freshIds) (visitLimit + 513)
-      (omega (arith, D .roles)) (omega (arith, D .classes, D .individuals, I .fresh, I .clauses, S .clauses)) (omega arith)
-      (x .clauses) (I .allIn) (omega (arith, I .atoms, S .atoms))
-
-  -- its clauses stand in its tables
-  run-tabled : Tabled (words (clauseTable t (accepted x))) (words (atomTable t (accepted x))) (x .stats .total) (x .clauses)
-  run-tabled =
-      let c = clauseRecords 0 (x .clauses) in
-      let a = atomRecords (x .clauses) in
-      let n : x .stats .total ≡ length (x .clauses) = run-within .1 .counted in
-      record {
-        count = n;
-        clauses = ap (λ (w : List ℕ). take (clauseWords * x .stats .total) w) (words-table (t .clauses) c (run-words .0)) ∙ take-at c (words (replicate (t .clauses - 4 * length c) 0)) (clauseWords * x .stats .total) (omega (arith, n, clause-records-long 0 (x .clauses)));
-        atoms = ap (λ (w : List ℕ). take (atomWords * total (x .clauses)) w) (words-table (t .atoms) a (run-words .1)) ∙ take-at a (words (replicate (t .atoms - 4 * length a) 0)) (atomWords * total (x .clauses)) (atom-records-long (x .clauses));
-      }
-
   run-fits : t ≡ listerLengths → 45 * length (x .clauses) + 78 * total (x .clauses) ≤ mostRows
   run-fits e =
       let c : roomsOf t .clauses ≡ 1024 = ap (λ (u : Lengths). roomsOf u .clauses) e in
       let a : roomsOf t .atoms ≡ 2048 = ap (λ (u : Lengths). roomsOf u .atoms) e in
-      omega (arith, c, a, run-within .1 .clauses, run-within .1 .atoms)
+      omega (arith, c, a, run-within deck t x q .1 .clauses, run-within deck t x q .1 .atoms)
 
 -- ---- the lister's tables
 pub lent-lengths : (c a d s : List ℕ) → 12288 ≡ length c → 49152 ≡ length a → 2048 ≡ length d → scratchBytes ≡ length s → lent c a d s ≡ listerLengths

@@ -1,7 +1,10 @@
 use mathlib.Core.Path.{subst, _∙_}
+use native.Mathlib.Omega.{arith}
 use lib.ListN.{length}
+use Rattle.words.specs.Words.{words}
+use Rattle.clausify.specs.Answer.{tenOf}
 use Rattle.gorvask.specs.Replies.{NumbersFit}
-use Rattle.gorvask.specs.NumberLaws.{numbers-ten, numbers-none}
+use Rattle.gorvask.specs.NumberLaws.{sets-all, ten-long, numbers-ten, numbers-none}
 use borrow.Author.Needs.{needs}
 use Rattle.gorvask.proofs.reply.put_numbers.Statement.{statement}
 use Rattle.gorvask.proofs.reply.put_numbers.Tie as tie
@@ -12,7 +15,8 @@ enum-known-reply c = search needs
 put-ten-requires : tie.Need-put-ten-requires
 put-ten-requires c κs =
     let st = c .before .before .before .before .before in
-    subst (NumbersFit (length (st .args .numbers .now))) (c .before .before .reply .given .1) (st .pre)
+    let long = subst (NumbersFit (length (st .args .numbers .now))) (c .before .before .reply .given .1) (st .pre) in
+    omega (arith, long)
 
 enum-told : tie.Need-enum-told
 enum-told c = search needs
@@ -29,8 +33,9 @@ returns c =
     let a = st .args in
     let v = c .before .before .before .before .before .reply .given in
     let q = c .before .before .put-ten in
+    let long = subst (NumbersFit (length (a .numbers .now))) (v .1) (st .pre) in
     numbers-ten (length (a .numbers .now)) (q .last .0) (a .reply) (v .0 .0) (v .0 .1 .0) (v .0 .1 .1 .0) (v .1) (λ i. c .slice-known2 .given i .fits)
-    (q .kept .0 ∙ subst (NumbersFit (length (a .numbers .now))) (v .1) (st .pre)) (q .ensures)
+    (q .kept .0 ∙ long) (q .ensures ∙ sets-all (tenOf (v .0 .0) (v .0 .1 .0) (v .0 .1 .1 .0)) (words (a .numbers .now)) (ten-long (a .numbers .now) long))
 
 same-length-2 : tie.Need-same-length-2
 same-length-2 c = search needs

@@ -1,11 +1,8 @@
-use mathlib.Core.Path.{_∙_}
+use mathlib.Core.Path.{refl, _∙_}
 use native.Mathlib.Omega.{arith}
-use Rattle.words.specs.Words.{words}
-use Rattle.gorvask.specs.Replies.{tenOf}
-use Rattle.gorvask.specs.NumberLaws.{sets-all, ten-long}
 use borrow.Author.Needs.{needs}
-use Rattle.gorvask.proofs.reply.put_ten.Statement.{statement}
-use Rattle.gorvask.proofs.reply.put_ten.Tie as tie
+use Rattle.clausify.proofs.numbers.put_ten.Statement.{statement}
+use Rattle.clausify.proofs.numbers.put_ten.Tie as tie
 
 put-word-requires : tie.Need-put-word-requires
 put-word-requires c κs = search needs
@@ -42,11 +39,8 @@ same-length c = c .before .before .put-word10 .kept .0 ∙ c .before .before .be
 
 returns : tie.Need-returns
 returns c =
-    let st = c .before .before .before .before .before .before .before .before .before .before .before .before .before .before .before .before .before .before .before .before .before .before .before .before .before .before .before .before .before .before .before .before .before .before .before .before .before .before .before .before .before in
-    let a = st .args in
-    let s = a .numbers .now in
     rw (c .before .before .put-word10 .ensures, c .before .before .before .before .before .before .put-word9 .ensures, c .before .before .before .before .before .before .before .before .before .before .put-word8 .ensures, c .before .before .before .before .before .before .before .before .before .before .before .before .before .before .put-word7 .ensures, c .before .before .before .before .before .before .before .before .before .before .before .before .before .before .before .before .before .before .put-word6 .ensures, c .before .before .before .before .before .before .before .before .before .before .before .before .before .before .before .before .before .before .before .before .before .before .put-word5 .ensures, c .before .before .before .before .before .before .before .before .before .before .before .before .before .before .before .before .before .before .before .before .before .before .before .before .before .before .put-word4 .ensures, c .before .before .before .before .before .before .before .before .before .before .before .before .before .before .before .before .before .before .before .before .before .before .before .before .before .before .before .before .before .before .put-word3 .ensures, c .before .before .before .before .before .before .before .before .before .before .before .before .before .before .before .before .before .before .before .before .before .before .before .before .before .before .before .before .before .before .before .before .before .before .put-word2 .ensures, c .before .before .before .before .before .before .before .before .before .before .before .before .before .before .before .before .before .before .before .before .before .before .before .before .before .before .before .before .before .before .before .before .before .before .before .before .before .before .put-word .ensures)
-    (sets-all (tenOf (a .s) (a .fresh-ids) (a .visits)) (words s) (ten-long s (st .pre)))
+    refl
 
 pub put-ten-spec : {M : Type 1} → statement M
 put-ten-spec =

@@ -1,6 +1,6 @@
 use borrow.Author.Needs.{needs}
-use Rattle.gorvask.proofs.with_stats.answer_if.Statement.{statement}
-use Rattle.gorvask.proofs.with_stats.answer_if.Tie as tie
+use Rattle.clausify.proofs.fitted.answer_if.Statement.{statement}
+use Rattle.clausify.proofs.fitted.answer_if.Tie as tie
 
 clausify-with-stats-requires : tie.Need-clausify-with-stats-requires
 clausify-with-stats-requires c κs = search needs

@@ -1,7 +1,7 @@
 use mathlib.Core.Path.{refl}
 use borrow.Author.Needs.{needs}
-use Rattle.gorvask.proofs.with_stats.refuse_sizes.Statement.{statement}
-use Rattle.gorvask.proofs.with_stats.refuse_sizes.Tie as tie
+use Rattle.clausify.proofs.fitted.refuse_sizes.Statement.{statement}
+use Rattle.clausify.proofs.fitted.refuse_sizes.Tie as tie
 
 blank-requires : tie.Need-blank-requires
 blank-requires c κs = search needs

@@ -1,0 +1,9 @@
+pub mod Judged
+pub mod Judging
+pub mod JudgingLaws
+pub mod Entry
+pub mod Stored
+pub mod Tells
+pub mod StoredLaws
+pub mod TellLaws
+pub mod EntryLaws
