@@ -11,7 +11,7 @@ use lib.Dec.{eqb}
 use borrow.Author.Tests.{eqb-true, leb-true, eq-eqb, ne-eqb}
 use Rattle.words.specs.Words.{words}
 use Rattle.ir.specs.Pick.{pick}
-use Rattle.ir.specs.Roles.{roleOf}
+use Rattle.ir.specs.Roles.{roleOf, code-in}
 use Rattle.ir.specs.Scratch.{linesAt}
 use Rattle.ir.specs.declared.role.Role.{Role}
 use Rattle.rules.specs.Base.{all}
@@ -32,10 +32,9 @@ use Rattle.sets.specs.Kept.{setAt}
 use Rattle.sets.specs.Places.{conceptsAt}
 use Rattle.extents.specs.declared.Trial.{Trial}
 use Rattle.axiomtests.specs.declared.chains.Chain.{Chain}
-use Rattle.axiomtests.specs.Lines.{rowAxiom, Line, LineIn}
+use Rattle.ontology.specs.Rows.{rowAxiom, rowNumber, chain-is, transitive-is, assertion-is}
+use Rattle.axiomtests.specs.Lines.{Line, LineIn}
 use Rattle.axiomtests.specs.Chains.{partCode, partsOf, RowsOf, Chained, ChainIn}
-use Rattle.axiomtests.proofs.RoleLaws.{code-in}
-use Rattle.axiomtests.proofs.RowLaws.{N, chain-is, transitive-is, assertion-is}
 use Rattle.axiomtests.proofs.LineLaws.{few-elements, arm-in, rows-of, code-small, codes-of, concept-of}
 use Rattle.axiomtests.proofs.ArmLaws.{Both}
 use Rattle.axiomtests.proofs.PathLaws.{length-parts}
@@ -49,15 +48,15 @@ map-tab g f i (suc n) = ap (λ l. g (f i) ∷ l) (map-tab g f (i + 1) n)
 abbrev pub chainOf : (sup at count : ℕ) → Chain
 chainOf sup at count = record { sup = sup; at = at + 2; step = 1; parts = count - 2 }
 
-module _ {d : Known} {I : Interpretation} {w v : List ℕ} {t : Trial} {at count : ℕ} (L : Line d I w v t 27 at count) (sup : ℕ) (e : sup ≡ N v at count 1) where
+module _ {d : Known} {I : Interpretation} {w v : List ℕ} {t : Trial} {at count : ℕ} (L : Line d I w v t 27 at count) (sup : ℕ) (e : sup ≡ rowNumber v at 1) where
   two : 2 ≤ count
   two = leb-true 2 count (L .fields)
 
-  chain-arm : rowAxiom v 27 at count ≡ SubChain (roleOf (N v at count 1)) (map roleOf (run v (at + 2) (count - 2)))
+  chain-arm : rowAxiom v 27 at count ≡ SubChain (roleOf (rowNumber v at 1)) (map roleOf (run v (at + 2) (count - 2)))
   chain-arm = chain-is v at count two
 
-  sup-in : N v at count 1 < 2 * d .header .roles
-  sup-in = code-in (N v at count 1) (d .header .roles) (arm-in L _ chain-arm .0)
+  sup-in : rowNumber v at 1 < 2 * d .header .roles
+  sup-in = code-in (rowNumber v at 1) (d .header .roles) (arm-in L _ chain-arm .0)
 
   parts-in : Each (λ c. c < 2 * d .header .roles) (run v (at + 2) (count - 2))
   parts-in = codes-of L (at + 2) (count - 2) (arm-in L _ chain-arm .1)
@@ -78,11 +77,11 @@ module _ {d : Known} {I : Interpretation} {w v : List ℕ} {t : Trial} {at count
 
   pub chain-short : count - 2 ≤ mostListed
   chain-short =
-      let q : axiomWidth (SubChain (roleOf (N v at count 1)) (map roleOf (run v (at + 2) (count - 2)))) ≤ mostListed = subst (λ (a : Axiom). axiomWidth a ≤ mostListed) chain-arm (L .narrow) in
+      let q : axiomWidth (SubChain (roleOf (rowNumber v at 1)) (map roleOf (run v (at + 2) (count - 2)))) ≤ mostListed = subst (λ (a : Axiom). axiomWidth a ≤ mostListed) chain-arm (L .narrow) in
       omega (arith, ap length parts-are, length-parts v (chainOf sup at count))
 
   pub chain-codes : (sup < 2 * 1024) × ((j : ℕ) → j < count - 2 → partCode v (chainOf sup at count) j < 2 * 1024)
-  chain-codes = (code-small L sup (N v at count 1) e sup-in, λ j h. code-small L _ _ refl (part-in j h))
+  chain-codes = (code-small L sup (rowNumber v at 1) e sup-in, λ j h. code-small L _ _ refl (part-in j h))
 
   pub chain-among : (j : ℕ) → j < count - 2 → at + 2 + 1 * j < linesAt
   chain-among j h = let q = one-mul j in omega (arith, L .below)
@@ -111,12 +110,12 @@ transitive-at I p r (x ∷ y ∷ []) h = absurd (omega arith)
 transitive-at I p r (x ∷ y ∷ z ∷ []) h = both-implied (related I r x y) (related I r y z) (related I r x z)
 transitive-at I p r (x ∷ y ∷ z ∷ u ∷ l) h = absurd (omega arith)
 
-module _ {d : Known} {I : Interpretation} {w v : List ℕ} {t : Trial} {at count : ℕ} (L : Line d I w v t 28 at count) (sup : ℕ) (e : sup ≡ N v at count 1) where
-  transitive-arm : rowAxiom v 28 at count ≡ TransitiveRole (roleOf (N v at count 1))
+module _ {d : Known} {I : Interpretation} {w v : List ℕ} {t : Trial} {at count : ℕ} (L : Line d I w v t 28 at count) (sup : ℕ) (e : sup ≡ rowNumber v at 1) where
+  transitive-arm : rowAxiom v 28 at count ≡ TransitiveRole (roleOf (rowNumber v at 1))
   transitive-arm = transitive-is v at count (eqb-true count 2 (L .fields))
 
-  pub transitive-in : N v at count 1 < 2 * d .header .roles
-  transitive-in = code-in (N v at count 1) (d .header .roles) (arm-in L _ transitive-arm)
+  pub transitive-in : rowNumber v at 1 < 2 * d .header .roles
+  transitive-in = code-in (rowNumber v at 1) (d .header .roles) (arm-in L _ transitive-arm)
 
   same-code : (j : ℕ) → partCode v (twiceOf sup at) j ≡ sup
   same-code j = let z : at + 1 + 0 * j ≡ at + 1 = omega (arith, zero-mul j) in ap (λ (k : ℕ). getD v k 0) z ∙ sym e
@@ -127,7 +126,7 @@ module _ {d : Known} {I : Interpretation} {w v : List ℕ} {t : Trial} {at count
       record { sized = L .fits .size; sup = R; parts = λ j h. subst (RowsOf I v) (sym (same-code j)) R }
 
   pub transitive-codes : (sup < 2 * 1024) × ((j : ℕ) → j < 2 → partCode v (twiceOf sup at) j < 2 * 1024)
-  transitive-codes = let q = code-small L sup (N v at count 1) e transitive-in in (q, λ j h. omega (arith, same-code j))
+  transitive-codes = let q = code-small L sup (rowNumber v at 1) e transitive-in in (q, λ j h. omega (arith, same-code j))
 
   pub transitive-among : (j : ℕ) → j < 2 → at + 1 + 0 * j < linesAt
   transitive-among j h = let two = eqb-true count 2 (L .fields) in omega (arith, zero-mul j, L .below)
@@ -145,7 +144,7 @@ module _ {d : Known} {I : Interpretation} {w v : List ℕ} {t : Trial} {at count
 
 -- ---- what the code asks
 module _ (s : List ℕ) (t : Trial) (at count sup : ℕ) where
-  pub chain-in : (P : LineIn s t 27 at count) → sup ≡ N (words s) at count 1 → ChainIn s (t .size) (chainOf sup at count)
+  pub chain-in : (P : LineIn s t 27 at count) → sup ≡ rowNumber (words s) at 1 → ChainIn s (t .size) (chainOf sup at count)
   chain-in P e = let L = P .line in record {
     meant = P .meant;
     chained = chain-chained L sup e;
@@ -157,7 +156,7 @@ module _ (s : List ℕ) (t : Trial) (at count sup : ℕ) where
     space = P .space;
   }
 
-  pub transitive-there : (P : LineIn s t 28 at count) → sup ≡ N (words s) at count 1 → ChainIn s (t .size) (twiceOf sup at)
+  pub transitive-there : (P : LineIn s t 28 at count) → sup ≡ rowNumber (words s) at 1 → ChainIn s (t .size) (twiceOf sup at)
   transitive-there P e = let L = P .line in record {
     meant = P .meant;
     chained = transitive-chained L sup e;
@@ -192,28 +191,28 @@ alone-none n x g h = sym (all-rising n (λ y. not (g y && eqb y x))) ∙ both-wa
     back q = all-elements n (λ y. not (g y && eqb y x)) (λ y k. by-truth (eqb y x) (λ e. same (g y) (eqb y x) (ap (λ (z : ℕ). not (g z)) (eqb-true y x e) ∙ q)) (λ e. other (g y) (eqb y x) e))
 
 module _ {d : Known} {I : Interpretation} {w v : List ℕ} {t : Trial} {at count : ℕ} (L : Line d I w v t 36 at count) where
-  assertion-arm : rowAxiom v 36 at count ≡ ClassAssertion (N v at count 1) (N v at count 2)
+  assertion-arm : rowAxiom v 36 at count ≡ ClassAssertion (rowNumber v at 1) (rowNumber v at 2)
   assertion-arm = assertion-is v at count (eqb-true count 3 (L .fields))
 
-  pub assertion-in : (N v at count 1 < length (d .concepts)) × (N v at count 2 < d .header .individuals)
+  pub assertion-in : (rowNumber v at 1 < length (d .concepts)) × (rowNumber v at 2 < d .header .individuals)
   assertion-in = arm-in L _ assertion-arm
 
-  pub base-in : t .base + N v at count 2 < 8192
+  pub base-in : t .base + rowNumber v at 2 < 8192
   base-in = omega (arith, L .fits .base, assertion-in .1, L .ready .inside .classes, L .ready .inside .individuals)
 
-  module _ (a b i k m : ℕ) (ea : a ≡ N v at count 1) (eb : b ≡ N v at count 2) (ei : i ≡ setAt v (conceptsAt + a)) (ek : k ≡ setAt w (t .base + b)) (long : 16384 ≤ length w) (B : Both i k m) where
-    empty-is : eqb m 0 ≡ not (means I (d .concepts) (N v at count 1) (I .individual (N v at count 2)))
+  module _ (a b i k m : ℕ) (ea : a ≡ rowNumber v at 1) (eb : b ≡ rowNumber v at 2) (ei : i ≡ setAt v (conceptsAt + a)) (ek : k ≡ setAt w (t .base + b)) (long : 16384 ≤ length w) (B : Both i k m) where
+    empty-is : eqb m 0 ≡ not (means I (d .concepts) (rowNumber v at 1) (I .individual (rowNumber v at 2)))
     empty-is =
-        let j = N v at count 2 in
-        let g = means I (d .concepts) (N v at count 1) in
+        let j = rowNumber v at 2 in
+        let g = means I (d .concepts) (rowNumber v at 1) in
         let z : t .base + b ≡ d .header .classes + j = omega (arith, L .fits .base) in
         let q : k ≡ maskOf (I .size) (I .class (d .header .classes + j)) = ek ∙ ap (setAt w) z ∙ L .ready .laid .classes (d .header .classes + j) (omega (arith, base-in, L .fits .base)) in
         let r : m ≡ maskOf (I .size) (λ y. g y && eqb y (I .individual j)) =
-        B (I .size) g (I .class (d .header .classes + j)) (concept-of L a (N v at count 1) i ea (assertion-in .0) ei) q
+        B (I .size) g (I .class (d .header .classes + j)) (concept-of L a (rowNumber v at 1) i ea (assertion-in .0) ei) q
         ∙ mask-same (I .size) (λ y. g y && I .class (d .header .classes + j) y) (λ y. g y && eqb y (I .individual j)) (λ y h. ap (λ x. g y && x) (L .ready .proper .alone j y (assertion-in .1) h)) in
         ap (λ (n : ℕ). eqb n 0) r ∙ mask-none (I .size) (λ y. g y && eqb y (I .individual j)) ∙ alone-none (I .size) (I .individual j) g (L .ready .proper .elements j (assertion-in .1))
 
-    by-truth-of : (x : Bool) → means I (d .concepts) (N v at count 1) (I .individual (N v at count 2)) ≡ x → pick x none (some []) ≡ axiomBroken I (d .concepts) (rowAxiom v 36 at count)
+    by-truth-of : (x : Bool) → means I (d .concepts) (rowNumber v at 1) (I .individual (rowNumber v at 2)) ≡ x → pick x none (some []) ≡ axiomBroken I (d .concepts) (rowAxiom v 36 at count)
     unfolding leastOf
     by-truth-of x e = ap (λ y. pick {A = Option (List ℕ)} y none (some [])) (sym e) ∙ ap (axiomBroken I (d .concepts)) (sym assertion-arm)
 

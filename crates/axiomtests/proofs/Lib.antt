@@ -1,6 +1,5 @@
 mod ListLaws
 mod RoleLaws
-mod RowLaws
 mod LineLaws
 mod ArmLaws
 mod KindLaws

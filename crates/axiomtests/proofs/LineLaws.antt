@@ -1,15 +1,16 @@
 -- What the line of an axiom says of its numbers and of the sets that they name. Assumes nothing.
 use mathlib.Core.Path.{_≡_, ap, subst, _∙_}
 use mathlib.Core.List.{List, [], _∷_, map}
-use Prim.Native.Nat.{ℕ, _+_, _*_, _-_, _<_, _≤_}
+use Prim.Native.Nat.{ℕ, _+_, _*_, _<_, _≤_}
 use native.Mathlib.Omega.{arith}
 use native.Mathlib.Nat.{one-mul}
 use lib.ListN.{length, getD}
 use Rattle.words.specs.Words.{words}
-use Rattle.ir.specs.Roles.{roleOf, roleCode, roleId, flipped}
+use Rattle.ir.specs.Roles.{roleOf, roleCode, roleId, flipped, code-in}
 use Rattle.ir.specs.Scratch.{linesAt}
 use Rattle.rules.specs.Concept.{Axiom}
 use Rattle.rules.specs.Deck.{Known, mostRoles, mostConceptLines}
+use Rattle.rules.specs.Pool.{mostConcepts}
 use Rattle.rules.specs.DeckLaws.{boundsOf}
 use Rattle.rules.specs.Invariants.{Each, RoleIn, AxiomIn}
 use Rattle.rules.specs.Run.{scratchBytes}
@@ -22,11 +23,12 @@ use Rattle.sets.specs.Kept.{setAt}
 use Rattle.sets.specs.Places.{conceptsAt, rowsAt}
 use Rattle.sets.specs.Laid.{rowOf}
 use Rattle.extents.specs.declared.Trial.{Trial}
-use Rattle.axiomtests.specs.declared.lists.Sets.{Sets}
-use Rattle.axiomtests.specs.Lines.{rowAxiom, Line, LineIn, LineThere}
+use Rattle.axiomtests.specs.declared.members.Sets.{Sets}
+use Rattle.ontology.specs.Rows.{rowAxiom}
+use Rattle.axiomtests.specs.Lines.{Line, LineIn, LineThere}
 use Rattle.axiomtests.specs.Lists.{Members, SetsIn}
 use Rattle.axiomtests.specs.Chains.{RowsOf}
-use Rattle.axiomtests.proofs.RoleLaws.{code-in, turned-in}
+use Rattle.axiomtests.proofs.RoleLaws.{turned-in}
 
 -- ---- a list's numbers as sets of concepts, or as rows of x
 abbrev pub conceptSets : ℕ → ℕ → Sets
@@ -55,7 +57,7 @@ module _ {d : Known} {I : Interpretation} {w v : List ℕ} {t : Trial} {kind at 
   pub rows-of : (c : ℕ) → c < 2 * d .header .roles → RowsOf I v c
   rows-of c h x l = L .ready .laid .rows c x h l
 
-  pub concept-small : (m k : ℕ) → m ≡ k → k < length (d .concepts) → m < mostConceptLines
+  pub concept-small : (m k : ℕ) → m ≡ k → k < length (d .concepts) → m < mostConcepts
   concept-small m k e h = omega (arith, few-concepts)
 
   pub code-small : (m k : ℕ) → m ≡ k → k < 2 * d .header .roles → m < 2 * mostRoles

@@ -12,7 +12,7 @@ use Rattle.rules.specs.Semantics.{sameTruth}
 use Rattle.pool.specs.Tabs.{tab-next, tab-end}
 use Rattle.states.specs.Masks.{maskOf}
 use Rattle.states.specs.MaskLaws.{mask-same, mask-empty}
-use Rattle.axiomtests.specs.declared.lists.Sets.{Sets}
+use Rattle.axiomtests.specs.declared.members.Sets.{Sets}
 use Rattle.axiomtests.specs.Lists.{numberOf, numbersFrom, numbersOf, memberSet, unlikeAt, clashAt, clashesAt, Members}
 
 -- ---- the numbers from j on

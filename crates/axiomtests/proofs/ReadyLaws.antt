@@ -1,80 +1,47 @@
 -- A deck and the sets beside it stay ready where only elements are shown; and its axioms are lines. Assumes nothing.
 use mathlib.Core.Path.{_≡_, refl, sym, ap, subst, _∙_}
-use mathlib.Core.Bool.{Bool, true, false}
 use mathlib.Core.List.{List, _∷_}
 use mathlib.Core.Option.{Option, none, some}
-use Prim.Native.Nat.{ℕ, _+_, _*_, _-_, _<_, _≤_}
+use Prim.Native.Nat.{ℕ, _+_, _-_, _<_, _≤_}
 use native.Mathlib.Omega.{arith}
 use native.Mathlib.Nat.{zero-add}
-use lib.ListN.{length, getD, drop, drop-of-length-le}
-use lib.Dec.{eqb, leb}
-use borrow.Author.Tests.{eqb-true, leb-true}
+use lib.ListN.{length, drop, drop-of-length-le}
 use Rattle.words.specs.Words.{words}
-use Rattle.ir.specs.Pick.{pick}
-use Rattle.ir.specs.Scratch.{axiomsAt, numbersAt, linesAt}
+use Rattle.ir.specs.Scratch.{numbersAt, linesAt}
 use Rattle.rules.specs.Concept.{Axiom}
-use Rattle.rules.specs.Pool.{members}
-use Rattle.rules.specs.Deck.{Known, mostListed, isListKind, fixedOf, fieldsOk}
+use Rattle.rules.specs.Deck.{Known, mostListed}
 use Rattle.rules.specs.DeckLaws.{boundsOf, axiomWidth}
 use Rattle.rules.specs.Invariants.{Each, AxiomIn}
 use Rattle.rules.specs.Semantics.{Interpretation}
-use Rattle.pool.specs.Layout.{membersAt, headsAt, tab}
-use Rattle.pool.specs.Tabs.{tab-next, tab-each}
-use Rattle.pool.specs.HeldLaws.{Same, pool-same, held-same}
+use Rattle.pool.specs.Layout.{tab}
+use Rattle.pool.specs.Tabs.{tab-next, tab-each, drop-tab}
 use Rattle.ontology.specs.Layout.{axiomStart, axiomCount, axiomNumber, axiomAt}
-use Rattle.ontology.specs.KeptAxioms.{axioms-kept, held-axioms}
+use Rattle.ontology.specs.KeptAxioms.{kind-inside}
 use Rattle.states.specs.Test.{holds, broken, firstBroken}
-use Rattle.sets.specs.KeptLaws.{set-same}
-use Rattle.sets.specs.Places.{conceptsAt}
+use Rattle.sets.specs.Places.{deckWords}
+use Rattle.sets.specs.Laid.{KeptTo}
 use Rattle.extents.specs.declared.Trial.{Trial}
 use Rattle.extents.specs.Ready.{Ready, Fits, ConceptSets, SetsThere}
+use Rattle.extents.specs.ReadyLaws.{kept-less, ready-kept, sets-kept, sets-there-kept}
 use Rattle.axiomtests.specs.Breaking.{Aside}
-use Rattle.axiomtests.specs.Lines.{rowAxiom, Line, LineThere}
-use Rattle.axiomtests.proofs.RowLaws.{drop-tab}
-use Rattle.axiomtests.proofs.PathLaws.{row-kept}
+use Rattle.ontology.specs.Rows.{rowAxiom}
+use Rattle.axiomtests.specs.Lines.{Line, LineThere}
 
 -- ---- what stays
+aside-kept : (v v' : List ℕ) → Aside v v' → KeptTo 86016 v v'
+aside-kept v v' A i h = A .before i (omega arith)
+
 module _ (d : Known) (I : Interpretation) (w v v' : List ℕ) (A : Aside v v') (R : Ready d I w v) where
-  same : Same v v' (length (d .concepts)) (members (d .concepts))
-  same = record { records = λ i h. A .before i (omega (arith, R .held .few)); members = λ i h. A .before (membersAt + i) (omega (arith, R .held .space)) }
-
-  axiom-words : (j : ℕ) → axiomsAt ≤ j → j < linesAt → getD v' j 0 ≡ getD v j 0
-  axiom-words j l h = A .before j (omega arith)
-
   pub ready-aside : Ready d I w v'
-  ready-aside = record {
-    inside = R .inside;
-    held = held-same v v' (length (d .concepts)) (members (d .concepts)) (R .held) same (A .long) (λ h k. A .before (headsAt + h) (omega arith));
-    pool = pool-same v v' (length (d .concepts)) (members (d .concepts)) (R .held) same (length (d .concepts)) (omega arith) ∙ R .pool;
-    lines = held-axioms v v' (length (d .axioms)) (R .lines) axiom-words;
-    listed = axioms-kept v v' (length (d .axioms)) (R .lines) axiom-words ∙ R .listed;
-    laid = record { some = R .laid .some; few = R .laid .few; classes = R .laid .classes; rows = λ code x h l. row-kept v v' A code x ∙ R .laid .rows code x h l };
-    proper = R .proper;
-  }
+  ready-aside = ready-kept d I w v R v' (kept-less 86016 deckWords v v' (omega arith) (aside-kept v v' A)) (λ i h _. A .behind i (omega arith)) (A .long)
 
   pub sets-aside : ConceptSets d I (length (d .concepts)) v → ConceptSets d I (length (d .concepts)) v'
-  sets-aside S c h =
-      set-same v v' (conceptsAt + c) (A .before (2 * (conceptsAt + c)) (omega (arith, R .inside .fewConcepts))) (A .before (2 * (conceptsAt + c) + 1) (omega (arith, R .inside .fewConcepts))) ∙ S c h
+  sets-aside S = sets-kept d I (length (d .concepts)) v v' (omega (arith, R .inside .fewConcepts)) S (λ i _ h. aside-kept v v' A i h)
 
 pub there-aside : (store s s' : List ℕ) (t : Trial) → Aside (words s) (words s') → length s' ≡ length s → SetsThere store s t → SetsThere store s' t
-there-aside store s s' t A e P = record {
-  known = P .known;
-  meant = P .meant;
-  ready = ready-aside (P .known) (P .meant) (words store) (words s) (words s') A (P .ready);
-  fits = P .fits;
-  sets = sets-aside (P .known) (P .meant) (words store) (words s) (words s') A (P .ready) (P .sets);
-  room = P .room;
-  space = omega (arith, P .space);
-}
+there-aside store s s' t A e P = sets-there-kept store s s' t P e (aside-kept (words s) (words s') A) (λ i h _. A .behind i (omega arith))
 
 -- ---- axiom i
-fields-some : (k n : ℕ) → fieldsOk k n ≡ true → 1 ≤ n
-fields-some k n = go (isListKind k)
-  where
-    go : (b : Bool) → pick b (leb (1 + fixedOf k) n) (eqb n (1 + fixedOf k)) ≡ true → 1 ≤ n
-    go true e = omega (arith, leb-true (1 + fixedOf k) n e)
-    go false e = omega (arith, eqb-true n (1 + fixedOf k) e)
-
 module _ (d : Known) (I : Interpretation) (w v : List ℕ) (t : Trial) (i : ℕ) (R : Ready d I w v) (S : ConceptSets d I (length (d .concepts)) v) (F : Fits d I t) (h : i < t .axioms) where
   below : i < length (d .axioms)
   below = omega (arith, F .axioms)
@@ -82,8 +49,8 @@ module _ (d : Known) (I : Interpretation) (w v : List ℕ) (t : Trial) (i : ℕ)
   pub few-axioms : i < 1024
   few-axioms = omega (arith, below, R .inside .fewAxioms)
 
-  pub kind-inside : numbersAt + axiomStart v i + 0 < linesAt
-  kind-inside = let q = fields-some (axiomNumber v i 0) (axiomCount v i) (R .lines .fields i below) in omega (arith, R .lines .within i below)
+  pub kind-there : numbersAt + axiomStart v i + 0 < linesAt
+  kind-there = kind-inside v (length (d .axioms)) i (R .lines) below
 
   each-axiom : (P : Axiom → Type 0) → Each P (d .axioms) → P (axiomAt v i)
   each-axiom P E = let z : 0 + i ≡ i = zero-add i in subst (λ (k : ℕ). P (axiomAt v k)) z (tab-each (axiomAt v) P 0 (length (d .axioms)) (subst (Each P) (sym (R .listed)) E) i below)

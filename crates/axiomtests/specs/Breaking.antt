@@ -1,12 +1,9 @@
 -- The least breaking assignment as the code has it, and what the search leaves alone in the words of scratch.
 use mathlib.Core.Path.{_≡_}
-use mathlib.Core.Bool.{Bool}
 use mathlib.Core.List.{List}
 use mathlib.Core.Option.{Option, none, some}
 use Prim.Native.Nat.{ℕ, _≤_}
 use lib.ListN.{length, getD}
-use Rattle.states.specs.State.{mostElements}
-use Rattle.states.specs.Masks.{maskOf}
 use Rattle.sets.specs.Places.{shownAt, lineAt}
 use Rattle.sets.specs.Laid.{KeptTo}
 use Rattle.sets.specs.Verdicts.{shown}
@@ -16,13 +13,6 @@ use Rattle.axiomtests.specs.declared.breaks.Breaks.the-variants.{Nothing
 abbrev pub leastIn : List ℕ → Breaks → Option (List ℕ)
 leastIn v Nothing = none
 leastIn v (Shown k) = some (shown v k)
-
--- a set of at most 64 elements
-pub record IsSet (m : ℕ) : Type 0 where
-  pub size : ℕ
-  pub of : ℕ → Bool
-  pub few : size ≤ mostElements
-  pub is : m ≡ maskOf size of
 
 -- only the elements that are shown and the sets of a chain are written
 pub record Aside (v v' : List ℕ) : Type 0 where

@@ -19,7 +19,7 @@ use Rattle.states.specs.HoldsLaws.{onward}
 use Rattle.states.specs.ChainLaws.{firstWhere}
 use Rattle.sets.specs.Kept.{setAt}
 use Rattle.sets.specs.Places.{leftAt}
-use Rattle.sets.specs.Laid.{rowOf}
+use Rattle.sets.specs.Laid.{Rows}
 use Rattle.axiomtests.specs.declared.chains.Chain.{Chain}
 
 abbrev pub partCode : List ℕ → Chain → ℕ → ℕ
@@ -34,7 +34,7 @@ partsOf v c = tab (λ j. roleOf (partCode v c j)) 0 (c .parts)
 
 -- the rows of a role code are those of its role
 abbrev pub RowsOf : Interpretation → List ℕ → ℕ → Type 0
-RowsOf I v code = (x : ℕ) → x < I .size → rowOf v code x ≡ maskOf (I .size) (related I (roleOf code) x)
+RowsOf I v code = Rows v code (I .size) (related I (roleOf code))
 
 pub record Chained (I : Interpretation) (v : List ℕ) (size : ℕ) (c : Chain) : Type 0 where
   pub sized : size ≡ I .size

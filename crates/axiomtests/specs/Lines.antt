@@ -11,21 +11,18 @@ use Rattle.words.specs.Words.{words}
 use Rattle.ir.specs.Scratch.{numbersAt, linesAt}
 use Rattle.rules.specs.Concept.{Axiom}
 use Rattle.rules.specs.Pool.{Pool}
-use Rattle.rules.specs.Deck.{Known, mostListed, sectionOf, fieldsOk, axiomOf}
+use Rattle.rules.specs.Deck.{Known, mostListed, sectionOf, fieldsOk}
 use Rattle.rules.specs.DeckLaws.{boundsOf, axiomWidth}
 use Rattle.rules.specs.Invariants.{AxiomIn}
 use Rattle.rules.specs.Run.{scratchBytes}
 use Rattle.rules.specs.Semantics.{Interpretation}
-use Rattle.pool.specs.Layout.{run}
+use Rattle.ontology.specs.Rows.{rowAxiom}
 use Rattle.states.specs.Conditions.{rises, behind, leastOf, axiomHoldsAt, axiomBroken}
 use Rattle.states.specs.Masks.{maskOf}
 use Rattle.states.specs.Test.{storeBytes}
 use Rattle.extents.specs.declared.Trial.{Trial}
 use Rattle.extents.specs.Ready.{Ready, Fits, ConceptSets}
 use Rattle.axiomtests.specs.declared.pairs.First.{First}
-
-abbrev pub rowAxiom : List ℕ → (kind at count : ℕ) → Axiom
-rowAxiom v kind at count = axiomOf kind (run v at count)
 
 pub record Line (d : Known) (I : Interpretation) (w v : List ℕ) (t : Trial) (kind at count : ℕ) : Type 0 where
   pub ready : Ready d I w v

@@ -14,7 +14,7 @@ use Rattle.rules.specs.Semantics.{sameTruth}
 use Rattle.pool.specs.Layout.{run}
 use Rattle.states.specs.Masks.{maskOf}
 use Rattle.sets.specs.Kept.{setAt}
-use Rattle.axiomtests.specs.declared.lists.Sets.{Sets}
+use Rattle.axiomtests.specs.declared.members.Sets.{Sets}
 
 -- number j, the numbers from j on, all of them
 abbrev pub numberOf : List ℕ → Sets → ℕ → ℕ

@@ -1,7 +1,7 @@
 // Axioms 27 and 28: the least path along the parts that the role above has not. For each first element the sets from which the
 // last k parts can still be broken; then each next element is the least that is related and in its set.
 use crate::breaks::Breaks;
-use crate::rows;
+use crate::roles;
 use sets::places::LEFT;
 use sets::places::SHOWN;
 ghost use mathlib.Core.Path.{_≡_};
@@ -46,7 +46,7 @@ fn back(scratch: &[u8], size: u64, code: u32, set: u64) -> u64
     let mut found: u64 = 0;
     let mut y: u64 = 0;
     while y < size {
-        let m = sets::both(rows::row(scratch, code, y), set);
+        let m = sets::both(roles::row(scratch, code, y), set);
         found = sets::grown(found, y, m != 0);
         y += 1;
     }
@@ -59,7 +59,7 @@ fn fill_left(scratch: &mut [u8], size: u64, c: Chain, x: u64)
     ensures { λ _. ⌜ Aside (words (now (scratch .entry))) (words (now (scratch .exit))) ⌝ }
     ensures { λ _. ⌜ ((I : Interpretation) → Chained I (words (now (scratch .entry))) size c → AllLeft I (words (now (scratch .exit))) c x) ⌝ }
 {
-    let mut set = sets::without(sets::whole(size), rows::row(scratch, c.sup, x));
+    let mut set = sets::without(sets::whole(size), roles::row(scratch, c.sup, x));
     sets::kept::put_set(scratch, LEFT, set);
     let parts = c.parts;
     let mut k: u32 = 0;
@@ -78,7 +78,7 @@ fn next(scratch: &[u8], size: u64, c: Chain, x: u64, k: u32, y: u64) -> u64
 {
     let code = part(scratch, size, c, c.parts - 1 - k);
     let left = sets::kept::get_set(scratch, LEFT + k as usize);
-    sets::least(sets::both(rows::row(scratch, code, y), left))
+    sets::least(sets::both(roles::row(scratch, code, y), left))
 }
 
 // The elements of the least path from x on are shown.

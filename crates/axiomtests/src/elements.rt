@@ -1,7 +1,7 @@
 // Axioms whose condition speaks of one element, 21 to 24, 29 and 35: the set of those that break it.
-use crate::lists;
-use crate::lists::Sets;
-use crate::rows;
+use crate::members;
+use crate::members::Sets;
+use crate::roles;
 use extents::Trial;
 use sets::places::CONCEPTS;
 ghost use mathlib.Core.Path.{_≡_};
@@ -18,7 +18,7 @@ fn sub_class(scratch: &[u8], t: Trial, at: usize, count: u32) -> u64
 {
     let sub = words::get_word(scratch, at + 1);
     let sup = words::get_word(scratch, at + 2);
-    sets::without(rows::concept(scratch, sub), rows::concept(scratch, sup))
+    sets::without(extents::set_of(scratch, sub), extents::set_of(scratch, sup))
 }
 
 // EquivalentClasses.
@@ -34,7 +34,7 @@ fn equivalent(scratch: &[u8], t: Trial, at: usize, count: u32) -> u64
         first: CONCEPTS,
         step: 1,
     };
-    lists::unlike(scratch, l, t.size as u64)
+    members::unlike(scratch, l, t.size as u64)
 }
 
 // DisjointClasses.
@@ -50,7 +50,7 @@ fn disjoint(scratch: &[u8], t: Trial, at: usize, count: u32) -> u64
         first: CONCEPTS,
         step: 1,
     };
-    lists::clashes(scratch, l, true)
+    members::clashes(scratch, l, true)
 }
 
 // DisjointUnion.
@@ -67,8 +67,8 @@ fn disjoint_union(store: &[u8], scratch: &[u8], t: Trial, at: usize, count: u32)
         step: 1,
     };
     let class = words::get_word(scratch, at + 1) as usize;
-    let uncovered = sets::differ(sets::kept::get_set(store, class), lists::some(scratch, l));
-    sets::either(uncovered, lists::clashes(scratch, l, true))
+    let uncovered = sets::differ(sets::kept::get_set(store, class), members::some(scratch, l));
+    sets::either(uncovered, members::clashes(scratch, l, true))
 }
 
 // IrreflexiveRole.
@@ -77,7 +77,7 @@ fn irreflexive(scratch: &[u8], t: Trial, at: usize, count: u32) -> u64
     ensures { λ r. ⌜ ((w : List ℕ) → Elements w (words (now (scratch .entry))) t 29 at count r) ⌝ }
 {
     let code = words::get_word(scratch, at + 1);
-    rows::loops(scratch, t.size as u64, code)
+    sets::kept::loops(scratch, code, t.size)
 }
 
 // ReflexiveRole.
@@ -87,7 +87,7 @@ fn reflexive(scratch: &[u8], t: Trial, at: usize, count: u32) -> u64
 {
     let code = words::get_word(scratch, at + 1);
     let size = t.size as u64;
-    sets::without(sets::whole(size), rows::loops(scratch, size, code))
+    sets::without(sets::whole(size), sets::kept::loops(scratch, code, t.size))
 }
 
 pub fn element_mask(store: &[u8], scratch: &[u8], t: Trial, kind: u32, at: usize, count: u32) -> u64

@@ -2,9 +2,9 @@
 pub mod breaks;
 pub mod chains;
 pub mod elements;
-pub mod lists;
+pub mod members;
 pub mod pairs;
-pub mod rows;
+pub mod roles;
 
 use breaks::Breaks;
 use chains::Chain;
@@ -28,12 +28,12 @@ ghost use Rattle.states.specs.Masks.{maskOf};
 ghost use Rattle.states.specs.Test.{axiomsVerdict};
 ghost use Rattle.sets.specs.Verdicts.{verdictIn};
 ghost use Rattle.extents.specs.Ready.{Ready, Fits, ConceptSets, SetsThere};
-ghost use Rattle.axiomtests.specs.Breaking.{leastIn, IsSet, Aside};
+ghost use Rattle.axiomtests.specs.Breaking.{leastIn, Aside};
 ghost use Rattle.axiomtests.specs.Lines.{LineIn, LineThere, Broken, ofElement, ofPair};
 
 // The least element of a set, if it has one.
 fn show_one(scratch: &mut [u8], m: u64) -> Breaks
-    requires { ⌜ IsSet m × (scratchBytes ≤ length (now scratch)) ⌝ }
+    requires { ⌜ scratchBytes ≤ length (now scratch) ⌝ }
     ensures { λ _. ⌜ Aside (words (now (scratch .entry))) (words (now (scratch .exit))) ⌝ }
     ensures { λ r. ⌜ ((n : ℕ) (t : List ℕ → Bool) → n ≤ 64 → m ≡ maskOf n (λ x. not (t (x ∷ []))) → leastIn (words (now (scratch .exit))) r ≡ leastOf (rises 0 n) 1 t) ⌝ }
 {
@@ -46,7 +46,7 @@ fn show_one(scratch: &mut [u8], m: u64) -> Breaks
 
 // An element and the least of a set, if it has one.
 fn show_two(scratch: &mut [u8], x: u64, m: u64) -> Breaks
-    requires { ⌜ IsSet m × (x < 64) × (scratchBytes ≤ length (now scratch)) ⌝ }
+    requires { ⌜ (x < 64) × (scratchBytes ≤ length (now scratch)) ⌝ }
     ensures { λ _. ⌜ Aside (words (now (scratch .entry))) (words (now (scratch .exit))) ⌝ }
     ensures { λ r. ⌜ ((n : ℕ) (t : List ℕ → Bool) → n ≤ 64 → m ≡ maskOf n (λ y. not (t (y ∷ []))) → leastIn (words (now (scratch .exit))) r ≡ behind x (leastOf (rises 0 n) 1 t)) ⌝ }
 {
@@ -65,7 +65,10 @@ fn assertion(store: &[u8], scratch: &[u8], t: Trial, at: usize, count: u32) -> B
 {
     let c = words::get_word(scratch, at + 1);
     let class = t.base as usize + words::get_word(scratch, at + 2) as usize;
-    let named = sets::both(rows::concept(scratch, c), sets::kept::get_set(store, class));
+    let named = sets::both(
+        extents::set_of(scratch, c),
+        sets::kept::get_set(store, class),
+    );
     if named == 0 {
         return Breaks::Shown(0);
     }

@@ -1,8 +1,8 @@
 // Axioms whose condition speaks of two elements, 25, 26 and 30 to 34: for a first element x the set of those that break it
 // behind x, and the first x with one.
-use crate::lists;
-use crate::lists::Sets;
-use crate::rows;
+use crate::members;
+use crate::members::Sets;
+use crate::roles;
 use extents::Trial;
 use sets::places::ROWS;
 ghost use mathlib.Core.Path.{_≡_};
@@ -24,10 +24,10 @@ fn domain(scratch: &[u8], t: Trial, at: usize, count: u32, x: u64) -> u64
 {
     let code = words::get_word(scratch, at + 1);
     let c = words::get_word(scratch, at + 2);
-    if sets::has(rows::concept(scratch, c), x) {
+    if sets::has(extents::set_of(scratch, c), x) {
         return 0;
     }
-    rows::row(scratch, code, x)
+    roles::row(scratch, code, x)
 }
 
 // ObjectPropertyRange.
@@ -37,7 +37,7 @@ fn range(scratch: &[u8], t: Trial, at: usize, count: u32, x: u64) -> u64
 {
     let code = words::get_word(scratch, at + 1);
     let c = words::get_word(scratch, at + 2);
-    sets::without(rows::row(scratch, code, x), rows::concept(scratch, c))
+    sets::without(roles::row(scratch, code, x), extents::set_of(scratch, c))
 }
 
 // AsymmetricRole.
@@ -47,8 +47,8 @@ fn asymmetric(scratch: &[u8], t: Trial, at: usize, count: u32, x: u64) -> u64
 {
     let code = words::get_word(scratch, at + 1);
     sets::both(
-        rows::row(scratch, code, x),
-        rows::row(scratch, rows::turned(code), x),
+        roles::row(scratch, code, x),
+        roles::row(scratch, roles::turned(code), x),
     )
 }
 
@@ -66,7 +66,7 @@ fn disjoint_roles(scratch: &[u8], t: Trial, at: usize, count: u32, x: u64) -> u6
         first: first,
         step: 64,
     };
-    lists::clashes(scratch, l, false)
+    members::clashes(scratch, l, false)
 }
 
 // InverseObjectProperties.
@@ -77,8 +77,8 @@ fn inverse(scratch: &[u8], t: Trial, at: usize, count: u32, x: u64) -> u64
     let a = words::get_word(scratch, at + 1);
     let b = words::get_word(scratch, at + 2);
     sets::differ(
-        rows::row(scratch, a, x),
-        rows::row(scratch, rows::turned(b), x),
+        roles::row(scratch, a, x),
+        roles::row(scratch, roles::turned(b), x),
     )
 }
 
@@ -89,7 +89,7 @@ fn sub_role(scratch: &[u8], t: Trial, at: usize, count: u32, x: u64) -> u64
 {
     let sub = words::get_word(scratch, at + 1);
     let sup = words::get_word(scratch, at + 2);
-    sets::without(rows::row(scratch, sub, x), rows::row(scratch, sup, x))
+    sets::without(roles::row(scratch, sub, x), roles::row(scratch, sup, x))
 }
 
 // EquivalentObjectProperties.
@@ -106,7 +106,7 @@ fn equivalent_roles(scratch: &[u8], t: Trial, at: usize, count: u32, x: u64) -> 
         first: first,
         step: 64,
     };
-    lists::unlike(scratch, l, t.size as u64)
+    members::unlike(scratch, l, t.size as u64)
 }
 
 fn pair_mask(scratch: &[u8], t: Trial, kind: u32, at: usize, count: u32, x: u64) -> u64

@@ -3,15 +3,14 @@ use mathlib.Core.Path.{_≡_, refl, sym, ap, _∙_, subst}
 use mathlib.Core.Bool.{Bool, true, false, _&&_, _||_}
 use mathlib.Core.List.{List, [], _∷_}
 use mathlib.Core.Logic.{inl, inr}
-use Prim.Native.Nat.{ℕ, zero, suc, _+_, _*_, _<_, _≤_}
+use Prim.Native.Nat.{ℕ, _+_, _*_, _<_, _≤_}
 use native.Mathlib.Omega.{arith}
 use lib.ListN.{length}
 use lib.Dec.{eqb, leb}
 use borrow.Author.Tests.{eq-eqb, ne-eqb, eqb-true, eqb-false, le-leb}
 use Rattle.ir.specs.Pick.{pick}
-use Rattle.ir.specs.Roles.{roleId, roleCode, roleOf, flipped, role-code, flip-id}
+use Rattle.ir.specs.Roles.{roleId, roleCode, roleOf, flipped, role-code, flip-id, code-below}
 use Rattle.ir.specs.declared.role.Role.{Role}
-use Rattle.ir.specs.declared.role.Role.the-variants.{Named, Inverse}
 use Rattle.ir.specs.declared.atom.Atom.{Atom}
 use Rattle.ir.specs.declared.atom.Atom.the-variants.{Class, Exists, AtMost, AtLeast, Equal, Role as RoleAtom}
 use Rattle.ir.specs.declared.atom.Qualifier.{Qualifier}
@@ -19,43 +18,26 @@ use Rattle.ir.specs.declared.atom.Qualifier.the-variants.{Unqualified, Qualifie
 use Rattle.rules.specs.Base.{any, contains}
 use Rattle.rules.specs.Deck.{mostRoles}
 use Rattle.rules.specs.Run.{scratchBytes}
-use Rattle.rules.specs.Semantics.{Interpretation, elementsBelow, one, count, related, qualifies, atomHolds, chosen}
+use Rattle.rules.specs.Semantics.{Interpretation, elementsBelow, count, related, qualifies, atomHolds, chosen}
 use Rattle.meaning.specs.Truth.{by-truth}
+use Rattle.meaning.specs.InverseMap.{flip-turns}
 use Rattle.states.specs.Conditions.{rises}
+use Rattle.states.specs.LeastLaws.{count-rising}
 use Rattle.states.specs.Masks.{maskOf}
 use Rattle.states.specs.MaskLaws.{mask-same, mask-empty}
 use Rattle.states.specs.ScanLaws.{scanned}
 use Rattle.sets.specs.Kept.{setAt}
-use Rattle.sets.specs.Laid.{rowOf}
+use Rattle.sets.specs.Laid.{rowOf, Rows}
 use Rattle.clausetests.specs.Given.{Given, NamesRoles, OneIs, PairWith, AtomThere}
 use Rattle.clausetests.specs.ScanCode.{setOf}
 
--- ---- the rows of a role code, as sets of the first n elements
-abbrev pub Rows : List ℕ → ℕ → ℕ → (ℕ → ℕ → Bool) → Type 0
-Rows v code n R = (x : ℕ) → x < n → rowOf v code x ≡ maskOf n (R x)
-
--- what the code asks of the bytes to read them
+-- what the code asks of the bytes to read the rows of a role code
 abbrev pub RowsThere : ℕ → ℕ → List ℕ → Type 0
 RowsThere code n scratch = (code < 2 * mostRoles) × (n ≤ 64) × (scratchBytes ≤ length scratch)
 
 -- how many of a set x is related to
 abbrev pub countIn : ℕ → (ℕ → ℕ → Bool) → (ℕ → Bool) → ℕ → ℕ
 countIn n R f x = count (λ y. R x y && f y) (rises 0 n)
-
--- ---- counts over the elements, rising and falling
-count-more : (f : ℕ → Bool) (a n : ℕ) → count f (rises a (suc n)) ≡ count f (rises a n) + one (f (a + n))
-unfolding rises
-count-more f a zero = let e : a ≡ a + 0 = omega arith in ap (λ (x : ℕ). one (f x) + 0) e ∙ omega arith
-count-more f a (suc n) = let e : suc a + n ≡ a + suc n = omega arith in let q = count-more f (suc a) n in let r = ap (λ (x : ℕ). one (f x)) e in omega arith
-
-pub count-rising : (n : ℕ) (f : ℕ → Bool) → count f (elementsBelow n) ≡ count f (rises 0 n)
-unfolding elementsBelow rises
-count-rising zero f = refl
-count-rising (suc n) f =
-    let e : 0 + n ≡ n = omega arith in
-    let r = count-rising n f in
-    let s : count f (rises 0 (suc n)) ≡ count f (rises 0 n) + one (f n) = count-more f 0 n ∙ ap (λ (x : ℕ). count f (rises 0 n) + one (f x)) e in
-    omega arith
 
 any-count : (f : ℕ → Bool) (l : List ℕ) → any f l ≡ leb 1 (count f l)
 any-count f [] = refl
@@ -66,8 +48,7 @@ eqb-turn p q = by-truth (eqb p q) (λ e. e ∙ sym (eq-eqb q p (sym (eqb-true p 
 
 -- ---- of a state that is laid out
 pub code-small : (r : Role) (code roles : ℕ) → roleId r < roles → code ≡ roleCode r → code < 2 * roles
-code-small (Named i) code roles h e = omega arith
-code-small (Inverse i) code roles h e = omega arith
+code-small r code roles h e = rw e (code-below r roles h)
 
 pub turned-id : (r s : Role) (b : Bool) → s ≡ pick b (flipped r) r → roleId s ≡ roleId r
 turned-id r s true e = ap roleId e ∙ flip-id r
@@ -142,10 +123,6 @@ module _ (I : Interpretation) (roles size : ℕ) (text w v : List ℕ) (G : Give
   row-atom : (free x m : ℕ) (a b : Atom) → a ≡ b → m ≡ maskOf (I .size) (λ y. atomHolds I (chosen (λ _. x) free y) b) → m ≡ maskOf (I .size) (λ y. atomHolds I (chosen (λ _. x) free y) a)
   row-atom free x m a b e q = q ∙ ap (λ (c : Atom). maskOf (I .size) (λ y. atomHolds I (chosen (λ _. x) free y) c)) (sym e)
 
-  turn : (r : Role) (x y : ℕ) → related I (flipped r) x y ≡ related I r y x
-  turn (Named i) x y = refl
-  turn (Inverse i) x y = refl
-
   module _ (free x m : ℕ) (a : Atom) (h : x < size) (P : PairWith free a) where
     pub row-is : (r s : Role) (u y code : ℕ) → a ≡ RoleAtom r u y → NamesRoles roles a → s ≡ pick (eqb u free) (flipped r) r → code ≡ roleCode s → m ≡ rowOf v code x → m ≡ maskOf (I .size) (λ z. atomHolds I (chosen (λ _. x) free z) a)
     row-is r s u y code e N es ec em = row-atom free x m a (RoleAtom r u y) e (go (subst (PairWith free) e P))
@@ -157,7 +134,7 @@ module _ (I : Interpretation) (roles size : ℕ) (text w v : List ℕ) (G : Give
         at q eq l = em ∙ rows-of q code l (ec ∙ ap roleCode eq) x h ∙ ap (λ (n : ℕ). maskOf n (related I q x)) (G .elements)
 
         go : OneIs free u y → m ≡ maskOf (I .size) (λ z. atomHolds I (chosen (λ _. x) free z) (RoleAtom r u y))
-        go (inl p) = rw (eq-eqb u free (p .0), ne-eqb y free (p .1)) (at (flipped r) (rw (eq-eqb u free (p .0)) at es) (subst (λ (i : ℕ). i < roles) (sym (flip-id r)) k) ∙ mask-same (I .size) (related I (flipped r) x) (λ z. related I r z x) (λ z _. turn r x z))
+        go (inl p) = rw (eq-eqb u free (p .0), ne-eqb y free (p .1)) (at (flipped r) (rw (eq-eqb u free (p .0)) at es) (subst (λ (i : ℕ). i < roles) (sym (flip-id r)) k) ∙ mask-same (I .size) (related I (flipped r) x) (λ z. related I r z x) (λ z _. flip-turns I r x z))
         go (inr p) = rw (ne-eqb u free (p .1), eq-eqb y free (p .0)) (at r (rw (ne-eqb u free (p .1)) at es) k)
 
     pub one-is : (u y : ℕ) → a ≡ Equal u y → ((n : ℕ) (f : ℕ → Bool) → x < n → 0 ≡ maskOf n f → m ≡ maskOf n (λ z. f z || eqb z x)) → m ≡ maskOf (I .size) (λ z. atomHolds I (chosen (λ _. x) free z) a)

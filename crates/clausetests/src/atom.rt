@@ -4,52 +4,27 @@ use ir::atom::Atom;
 use ir::atom::Qualifier;
 use ir::role::Role;
 use sets::kept;
-use sets::places;
 ghost use mathlib.Core.Path.{_≡_};
-ghost use mathlib.Core.Bool.{Bool, _&&_};
+ghost use mathlib.Core.Bool.{Bool};
 ghost use mathlib.Core.List.{List};
-ghost use Prim.Native.Nat.{ℕ, _+_, _*_, _<_, _≤_};
-ghost use lib.ListN.{length};
+ghost use Prim.Native.Nat.{ℕ, _+_, _<_, _≤_};
 ghost use lib.Dec.{leb};
 ghost use Rattle.words.specs.Words.{words};
 ghost use Rattle.ir.specs.Pick.{pick};
 ghost use Rattle.ir.specs.Roles.{flipped};
 ghost use Rattle.ir.specs.declared.atom.Atom.the-variants as Atoms;
-ghost use Rattle.rules.specs.Run.{scratchBytes};
 ghost use Rattle.rules.specs.Semantics.{Interpretation, qualifies, atomHolds, chosen};
 ghost use Rattle.states.specs.Masks.{maskOf};
-ghost use Rattle.sets.specs.Laid.{rowOf};
+ghost use Rattle.sets.specs.Laid.{Rows};
 ghost use Rattle.clausetests.specs.Given.{Given, NamesRoles, PairWith, AtomThere};
-ghost use Rattle.clausetests.specs.SetLaws.{Rows, RowsThere, countIn};
-
-// What x is related to by a role code.
-fn row(scratch: &[u8], code: u32, x: u32) -> u64
-    requires { ⌜ RowsThere code (x + 1) (now scratch) ⌝ }
-    ensures { λ r. ⌜ r ≡ rowOf (words (now (scratch .entry))) code x ⌝ }
-{
-    kept::get_set(scratch, places::ROWS + 64 * (code as usize) + x as usize)
-}
-
-// The elements that are related to themselves.
-fn loops(scratch: &[u8], code: u32, size: u32) -> u64
-    requires { ⌜ RowsThere code size (now scratch) ⌝ }
-    ensures { λ r. ⌜ ((R : ℕ → ℕ → Bool) → Rows (words (now (scratch .entry))) code size R → r ≡ maskOf size (λ x. R x x)) ⌝ }
-{
-    let mut m: u64 = 0;
-    let mut x: u32 = 0;
-    while x < size {
-        m = sets::grown(m, x as u64, sets::has(row(scratch, code, x), x as u64));
-        x += 1;
-    }
-    m
-}
+ghost use Rattle.clausetests.specs.SetLaws.{RowsThere, countIn};
 
 // How many of a set x is related to.
 fn count_in(scratch: &[u8], code: u32, x: u32, among: u64) -> u32
     requires { ⌜ RowsThere code (x + 1) (now scratch) ⌝ }
     ensures { λ r. ⌜ ((n : ℕ) (R : ℕ → ℕ → Bool) (f : ℕ → Bool) → x < n → Rows (words (now (scratch .entry))) code n R → among ≡ maskOf n f → r ≡ countIn n R f x) ⌝ }
 {
-    sets::size(sets::both(row(scratch, code, x), among))
+    sets::size(sets::both(kept::row(scratch, code, x), among))
 }
 
 // The elements that are related to at most n of a set.
@@ -98,7 +73,7 @@ pub fn atom_set(text: &[u8], store: &[u8], scratch: &[u8], a: Atom, size: u32) -
 {
     match a {
         Atom::Class(c, _) => class::class_set(text, store, c, size),
-        Atom::Role(r, _, _) => loops(scratch, r.code(), size),
+        Atom::Role(r, _, _) => kept::loops(scratch, r.code(), size),
         Atom::Exists(r, c, _) => at_least(
             scratch,
             r.code(),
@@ -140,7 +115,7 @@ pub fn atom_row(scratch: &[u8], a: Atom, free: u32, x: u32, size: u32) -> u64
     ensures { λ r. ⌜ ((I : Interpretation) (roles : ℕ) (text w : List ℕ) → Given I roles size text w (words (now (scratch .entry))) → NamesRoles roles a → r ≡ maskOf (I .size) (λ y. atomHolds I (chosen (λ _. x) «free» y) a)) ⌝ }
 {
     match a {
-        Atom::Role(r, u, _) => row(scratch, turned(r, u == free).code(), x),
+        Atom::Role(r, u, _) => kept::row(scratch, turned(r, u == free).code(), x),
         Atom::Equal(_, _) => sets::with(0, x as u64),
         Atom::Class(_, _) => 0,
         Atom::Exists(_, _, _) => 0,

@@ -3,7 +3,7 @@ use mathlib.Core.Path.{_≡_, refl, sym, ap, subst, _∙_}
 use mathlib.Core.Bool.{Bool, true, false}
 use mathlib.Core.List.{List}
 use Prim.{Unit}
-use Prim.Native.Nat.{ℕ, _+_, _*_, _-_, _/_, _%_, _<_, _≤_, _^_}
+use Prim.Native.Nat.{ℕ, _+_, _*_, _-_, _<_, _≤_, _^_}
 use native.Mathlib.Omega.{arith}
 use borrow.Author.Tests.{eqb-true, leb-true}
 use mathlib.Core.Logic.{_⊎_, ⊎-elim, inl, inr}
@@ -32,8 +32,8 @@ use Rattle.axioms.specs.Wholes.{Clausified}
 use Rattle.axioms.specs.WholeLaws.{did-clausified}
 use Rattle.axioms.specs.OnwardLaws.{clausified-is}
 use Rattle.lists.specs.Listed.{Listed}
-use Rattle.clausifier.specs.Rows.{rowAxiom, Row}
-use Rattle.clausifier.specs.RowLaws.{sub-class-is, equivalent-is, disjoint-is, union-is, domain-is, range-is}
+use Rattle.ontology.specs.Rows.{rowAxiom, sub-class-is, equivalent-is, disjoint-is, union-is, domain-is, range-is}
+use Rattle.clausifier.specs.Rows.{Row}
 
 -- ---- rules that do the same
 -- the axiom is another's
@@ -71,7 +71,7 @@ module _ (w : List ℕ) (k : Counters) (kind at count : ℕ) (R : Row w k kind a
     equivalent-fits = leb-true 1 count (ok-fields 22 e)
 
     equivalents-is : rowAxiom w kind at count ≡ EquivalentClasses (run w (at + 1) (count - 1))
-    equivalents-is = of-kind 22 (EquivalentClasses (run w (at + 1) (count - 1))) e (equivalent-is w at count equivalent-fits)
+    equivalents-is = of-kind 22 (EquivalentClasses (run w (at + 1) (count - 1))) e (equivalent-is w at count)
 
     pub equivalent-asks : Listed w k (at + 1) (count - 1)
     equivalent-asks = listed 1 equivalent-fits (subst (AxiomIn (R .bounds) (k .concepts)) equivalents-is (R .inside))
@@ -85,7 +85,7 @@ module _ (w : List ℕ) (k : Counters) (kind at count : ℕ) (R : Row w k kind a
     disjoint-fits = leb-true 1 count (ok-fields 23 e)
 
     disjoints-is : rowAxiom w kind at count ≡ DisjointClasses (run w (at + 1) (count - 1))
-    disjoints-is = of-kind 23 (DisjointClasses (run w (at + 1) (count - 1))) e (disjoint-is w at count disjoint-fits)
+    disjoints-is = of-kind 23 (DisjointClasses (run w (at + 1) (count - 1))) e (disjoint-is w at count)
 
     pub disjoint-asks : Listed w k (at + 1) (count - 1)
     disjoint-asks = listed 1 disjoint-fits (subst (AxiomIn (R .bounds) (k .concepts)) disjoints-is (R .inside))

@@ -31,8 +31,8 @@ use Rattle.leaves.specs.StepLaws.{alike-same}
 use Rattle.axioms.specs.RoleAxioms.{handAt, irreflexive, notBoth}
 use Rattle.axioms.specs.Wholes.{Clausified}
 use Rattle.lists.specs.Listed.{RolesListed, pairDisjoint}
-use Rattle.clausifier.specs.Rows.{rowAxiom, Row}
-use Rattle.clausifier.specs.RowLaws.{chain-is, transitive-is, irreflexive-is, asymmetric-is, disjoint-roles-is}
+use Rattle.ontology.specs.Rows.{rowAxiom, chain-is, transitive-is, irreflexive-is, asymmetric-is, disjoint-roles-is}
+use Rattle.clausifier.specs.Rows.{Row}
 use Rattle.inverse.specs.AxiomLaws.{code-small}
 use Rattle.clausifier.specs.ArmLaws.{axiom-as, did-arm, ok-fields, of-kind}
 
@@ -90,7 +90,7 @@ module _ (w : List ℕ) (k : Counters) (kind at count : ℕ) (R : Row w k kind a
   roles-fit = leb-true 1 count (ok-fields w k kind at count R 31 e)
 
   roles-is : rowAxiom w kind at count ≡ DisjointObjectProperties (map roleOf (run w (at + 1) (count - 1)))
-  roles-is = of-kind w k kind at count R 31 (DisjointObjectProperties (map roleOf (run w (at + 1) (count - 1)))) e (disjoint-roles-is w at count roles-fit)
+  roles-is = of-kind w k kind at count R 31 (DisjointObjectProperties (map roleOf (run w (at + 1) (count - 1)))) e (disjoint-roles-is w at count)
 
   pub roles-asks : RolesListed w (at + 1) (count - 1)
   roles-asks =

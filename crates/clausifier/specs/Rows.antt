@@ -5,13 +5,9 @@ use mathlib.Core.List.{List}
 use Prim.Native.Nat.{ℕ, _+_, _≤_}
 use Rattle.ir.specs.Scratch.{numbersAt, linesAt}
 use Rattle.ir.specs.declared.counters.Counters.{Counters}
-use Rattle.rules.specs.Concept.{Axiom}
-use Rattle.rules.specs.Deck.{mostClasses, mostRoles, sectionOf, fieldsOk, axiomOf}
+use Rattle.rules.specs.Deck.{mostClasses, mostRoles, sectionOf, fieldsOk}
 use Rattle.rules.specs.Invariants.{Bounds, AxiomIn}
-use Rattle.pool.specs.Layout.{run}
-
-abbrev pub rowAxiom : List ℕ → (kind at count : ℕ) → Axiom
-rowAxiom w kind at count = axiomOf kind (run w at count)
+use Rattle.ontology.specs.Rows.{rowAxiom}
 
 -- its line is one of its kind, and its numbers are those of a deck
 pub record Row (w : List ℕ) (k : Counters) (kind at count : ℕ) : Type 0 where

@@ -18,9 +18,10 @@ ghost use Rattle.rules.specs.Axioms.{clausifyAxiom};
 ghost use Rattle.tables.specs.Drawn.{Sized};
 ghost use Rattle.hands.specs.Hands.{four};
 ghost use Rattle.ontology.specs.Layout.{axiomAt};
+ghost use Rattle.ontology.specs.Rows.{rowAxiom};
 ghost use Rattle.axioms.specs.Wholes.{Clausifying, ClausifyingAfter, Clausified};
 ghost use Rattle.clausifier.specs.Arms.{AxiomOf};
-ghost use Rattle.clausifier.specs.Rows.{rowAxiom, Row};
+ghost use Rattle.clausifier.specs.Rows.{Row};
 
 // The arms over classes, 21 to 26.
 fn clausify_classes(

@@ -7,9 +7,8 @@ use lib.ListN.{length, getD, take, drop, take-append-drop}
 use lib.Seq.{length-take-le}
 use Rattle.words.specs.Words.{words}
 use Rattle.ir.specs.Records.{qualifierWord}
-use Rattle.ir.specs.Roles.{roleId, roleCode}
+use Rattle.ir.specs.Roles.{roleId, roleCode, code-below}
 use Rattle.ir.specs.declared.role.Role.{Role}
-use Rattle.ir.specs.declared.role.Role.the-variants.{Named, Inverse}
 use Rattle.ir.specs.declared.atom.Atom.{Atom}
 use Rattle.ir.specs.declared.atom.Atom.the-variants.{Class, Exists, AtMost, AtLeast, Equal, Role as RoleAtom}
 use Rattle.ir.specs.declared.atom.Qualifier.{Qualifier}
@@ -26,9 +25,8 @@ use Rattle.contraction.specs.InHands.{Plain, AtomThere, PlainRun}
 
 -- ---- atoms within the bounds
 module _ (B : Bounds) (fresh vars : ℕ) (roles : B .roles ≤ mostRoles) (classes : fresh < 2 ^ 31) where
-  code-below : (r : Role) → roleId r < B .roles → roleCode r < 2 * mostRoles
-  code-below (Named i) h = omega arith
-  code-below (Inverse i) h = omega arith
+  code-small : (r : Role) → roleId r < B .roles → roleCode r < 2 * mostRoles
+  code-small r h = code-below r mostRoles (omega arith)
 
   qualifier-below : (q : Qualifier) → QualifierIn fresh q → qualifierWord q < 2 ^ 32
   qualifier-below Unqualified h = omega arith
@@ -36,10 +34,10 @@ module _ (B : Bounds) (fresh vars : ℕ) (roles : B .roles ≤ mostRoles) (class
 
   pub plain-in : (x : Atom) → AtomIn B fresh vars x → Plain x
   plain-in (Class k v) h = record { fits = omega arith; role = omega arith }
-  plain-in (RoleAtom r u v) h = record { fits = omega (arith, h .0); role = code-below r (h .0) }
-  plain-in (Exists r k v) h = record { fits = (omega (arith, h .0), omega (arith, h .1)); role = code-below r (h .0) }
-  plain-in (AtMost r q n v) h = record { fits = (omega (arith, h .0), qualifier-below q (h .1)); role = code-below r (h .0) }
-  plain-in (AtLeast r q n v) h = record { fits = (omega (arith, h .0), qualifier-below q (h .1)); role = code-below r (h .0) }
+  plain-in (RoleAtom r u v) h = record { fits = omega (arith, h .0); role = code-small r (h .0) }
+  plain-in (Exists r k v) h = record { fits = (omega (arith, h .0), omega (arith, h .1)); role = code-small r (h .0) }
+  plain-in (AtMost r q n v) h = record { fits = (omega (arith, h .0), qualifier-below q (h .1)); role = code-small r (h .0) }
+  plain-in (AtLeast r q n v) h = record { fits = (omega (arith, h .0), qualifier-below q (h .1)); role = code-small r (h .0) }
   plain-in (Equal u v) h = record { fits = tt; role = omega arith }
 
   module _ (x : Clause) (I : ClauseIn B fresh vars x) where

@@ -1,19 +1,15 @@
 -- A loop in hand: a part of the atom table, and two atoms behind it. Assumes nothing.
-use mathlib.Core.Path.{_≡_, refl, sym, ap, subst, _∙_}
-use mathlib.Core.Bool.{Bool, true, false}
+use mathlib.Core.Path.{_≡_, sym, ap, subst, _∙_}
 use mathlib.Core.List.{List, [], _∷_, _++_}
-use Prim.Native.Nat.{ℕ, _+_, _*_, _/_, _%_, _<_, _≤_, _^_}
+use Prim.Native.Nat.{ℕ, _+_, _*_, _/_, _<_, _≤_, _^_}
 use native.Mathlib.Omega.{arith}
-use lib.Dec.{eqb}
 use lib.ListN.{length, take, drop, length-append}
 use lib.Seq.{sets, sets-eq, length-sets, length-take-le, take-take, take-at}
 use Rattle.words.specs.Words.{words}
 use Rattle.words.specs.Laws.{length-words}
-use Rattle.ir.specs.Pick.{pick}
-use Rattle.ir.specs.Roles.{roleId, roleOf}
+use Rattle.ir.specs.Roles.{roleId, roleOf, id-half}
 use Rattle.ir.specs.Records.{six}
 use Rattle.ir.specs.declared.role.Role.{Role}
-use Rattle.ir.specs.declared.role.Role.the-variants.{Named, Inverse}
 use Rattle.ir.specs.declared.atom.Atom.{Atom}
 use Rattle.ir.specs.declared.atom.Atom.the-variants.{Role as RoleAtom}
 use Rattle.rules.specs.Run.{flat}
@@ -34,15 +30,8 @@ hand-put w w' base n b en e fit =
     record { long = en; are = t1 ∙ ap (λ (u : List ℕ). u ++ flat b) (sym t2) }
 
 -- ---- a role by its code
-pub role-half : (c : ℕ) → roleId (roleOf c) ≡ c / 2
-role-half c = by (eqb (c % 2) 0)
-  where
-    by : (b : Bool) → roleId (pick b (Named (c / 2)) (Inverse (c / 2))) ≡ c / 2
-    by true = refl
-    by false = refl
-
 pub role-fits : (c : ℕ) (r : Role) → r ≡ roleOf c → c < 2 ^ 32 → roleId r < 2 ^ 31
-role-fits c r e h = let k : roleId r ≡ c / 2 = ap roleId e ∙ role-half c in omega arith
+role-fits c r e h = let k : roleId r ≡ c / 2 = ap roleId e ∙ id-half c in omega arith
 
 -- ---- the part s, R(v, fresh) and R(v, v)
 module _ (s w w1 w2 w3 : List ℕ) (nb code v fresh : ℕ) (r : Role) (er : r ≡ roleOf code) (en : nb ≡ length s / 24) (fit : 6 * (handAt + nb + 2) ≤ length w)

@@ -1,27 +1,21 @@
 -- The loops over a line's numbers: from number k on. Assumes nothing.
-use mathlib.Core.Path.{_≡_, refl, sym, subst, _∙_}
+use mathlib.Core.Path.{_≡_, refl, subst}
 use mathlib.Core.Bool.{Bool, true, false}
-use mathlib.Core.List.{List, [], _∷_}
-use Prim.Native.Nat.{ℕ, _+_, _*_, _/_, _%_, _<_, _≤_}
+use mathlib.Core.List.{List, _∷_}
+use Prim.Native.Nat.{ℕ, _+_, _*_, _%_, _<_, _≤_}
 use native.Mathlib.Omega.{arith}
 use borrow.Author.Tests.{eq-eqb, ne-eqb, lt-ltb, le-ltb, leb-true, leb-false}
-use lib.Dec.{eqb, ltb, leb}
-use lib.ListN.{length, getD, drop}
+use lib.Dec.{ltb, leb}
+use lib.ListN.{getD, drop}
 use Rattle.ir.specs.Pick.{pick}
 use Rattle.ir.specs.Records.{sameWords}
-use Rattle.ir.specs.Roles.{roleId, roleOf}
-use Rattle.ir.specs.declared.role.Role.the-variants.{Named, Inverse}
 use Rattle.rules.specs.Base.{all}
 use Rattle.rules.specs.Deck.{rising, deepest}
 use Rattle.rules.specs.Invariants.{Each}
-use Rattle.rules.specs.TextLaws.{pick-by, by-test}
+use Rattle.rules.specs.TextLaws.{by-test}
 use Rattle.text.specs.Rows.{rowAt}
 use Rattle.text.specs.RowLaws.{next, row-inside, row-past}
-use Rattle.deck.specs.Index.{hashBy, hashOf}
-
--- the id of a role code
-pub role-half : (c : ℕ) → roleId (roleOf c) ≡ c / 2
-role-half c = pick-by (λ r. roleId r ≡ c / 2) (eqb (c % 2) 0) (Named (c / 2)) (Inverse (c / 2)) (λ _. refl) (λ _. refl)
+use Rattle.deck.specs.Index.{hashBy}
 
 -- number k is x
 module _ (s : List ℕ) (p n k x : ℕ) (h : k < n) (e : x ≡ getD (rowAt s p n) k 0) where

@@ -8,9 +8,7 @@ use lib.ListN.{length, getD, take, drop}
 use lib.Seq.{sets, length-sets}
 use Rattle.words.specs.Words.{words}
 use Rattle.words.specs.Runs.{getD-sets-before, getD-sets-after}
-use Rattle.ir.specs.Roles.{roleId, roleCode}
-use Rattle.ir.specs.declared.role.Role.{Role}
-use Rattle.ir.specs.declared.role.Role.the-variants.{Named, Inverse}
+use Rattle.ir.specs.Roles.{roleId, code-below}
 use Rattle.ir.specs.declared.atom.Atom.{Atom}
 use Rattle.ir.specs.declared.atom.Atom.the-variants.{Class, Exists, AtMost, AtLeast, Equal, Role as RoleAtom}
 use Rattle.rules.specs.Deck.{mostRoles}
@@ -31,14 +29,10 @@ use Rattle.decomposition.specs.Bodies.{PartsThere, OnlyKeep}
 use Rattle.decomposition.specs.PlainLaws.{other}
 
 -- ---- class and role atoms
-code-small : (r : Role) → roleId r < 1024 → roleCode r < 2048
-code-small (Named i) h = omega arith
-code-small (Inverse i) h = omega arith
-
 module _ (B : Bounds) (fresh vars : ℕ) (roles : B .roles ≤ mostRoles) (classes : fresh ≤ 2097152) where
   tame-atom : (a : Atom) → AtomIn B fresh vars a → isTreeAtom a ≡ true → Tame a
   tame-atom (Class k v) h e = let q : k < fresh = h .0 in omega arith
-  tame-atom (RoleAtom r u v) h e = let q : roleId r < B .roles = h .0 in code-small r (omega arith)
+  tame-atom (RoleAtom r u v) h e = let q : roleId r < B .roles = h .0 in code-below r mostRoles (omega arith)
   tame-atom (Exists r k v) h e = absurd (let q : _≡_ {A = ℕ} 0 1 = cc in omega arith)
   tame-atom (AtMost r q n v) h e = absurd (let q : _≡_ {A = ℕ} 0 1 = cc in omega arith)
   tame-atom (AtLeast r q n v) h e = absurd (let q : _≡_ {A = ℕ} 0 1 = cc in omega arith)

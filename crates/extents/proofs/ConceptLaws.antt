@@ -7,7 +7,7 @@ use native.Mathlib.Omega.{arith}
 use lib.Dec.{eqb}
 use lib.ListN.{length}
 use borrow.Author.Tests.{eqb-true, eqb-false}
-use Rattle.ir.specs.Roles.{roleId, roleOf, code-role}
+use Rattle.ir.specs.Roles.{roleId, roleOf, code-in}
 use Rattle.rules.specs.Concept.{Concept}
 use Rattle.rules.specs.Concept.{Top, Bot, Atomic, Nominal, SelfRestriction, Not, And, Or, Some, All, Min, Max}
 use Rattle.rules.specs.Pool.{at, members}
@@ -27,8 +27,9 @@ use Rattle.states.specs.MaskLaws.{mask-empty, mask-same}
 use Rattle.sets.specs.Kept.{setAt}
 use Rattle.sets.specs.Places.{conceptsAt}
 use Rattle.extents.specs.Ready.{Ready, ConceptSets}
-use Rattle.extents.specs.ReadyLaws.{code-below, class-set, individual-set, code-row}
-use Rattle.extents.specs.Sets.{Rows, restricted}
+use Rattle.extents.specs.ReadyLaws.{class-set, individual-set, code-row}
+use Rattle.sets.specs.Laid.{Rows}
+use Rattle.extents.specs.Sets.{restricted}
 
 -- the four restrictions
 four : {P : Type 0} (k : ℕ) → 9 ≤ k → k ≤ 12 → (k ≡ 9 → P) → (k ≡ 10 → P) → (k ≡ 11 → P) → (k ≡ 12 → P) → P
@@ -74,9 +75,6 @@ module _ (d : Known) (I : Interpretation) (w v : List ℕ) (R : Ready d I w v) (
   pub kind-some : 1 ≤ kind
   kind-some = kinds .0
 
-  code-in : roleId (roleOf code) < d .header .roles → code < 2 * d .header .roles
-  code-in q = subst (λ (k : ℕ). k < 2 * d .header .roles) (code-role code) (code-below (roleOf code) (d .header .roles) q)
-
   role-rows : code < 2 * d .header .roles → Rows v code (I .size) (related I (roleOf code))
   role-rows q x l = code-row d I w v R code x q l
 
@@ -108,7 +106,7 @@ module _ (d : Known) (I : Interpretation) (w v : List ℕ) (R : Ready d I w v) (
   -- ---- Self, Not
   pub self-code : kind ≡ 5 → code < 2 * d .header .roles
   unfolding conceptFrom
-  self-code k = code-in (bounded (SelfRestriction (roleOf code)) (concept-is v c 5 k))
+  self-code k = code-in code (d .header .roles) (bounded (SelfRestriction (roleOf code)) (concept-is v c 5 k))
 
   pub self-set : kind ≡ 5 → (s r : ℕ) → s ≡ I .size → ((f : ℕ → ℕ → Bool) → Rows v code s f → r ≡ maskOf s (λ x. f x x)) → r ≡ maskOf (I .size) (m c)
   unfolding conceptFrom
@@ -162,7 +160,7 @@ module _ (d : Known) (I : Interpretation) (w v : List ℕ) (R : Ready d I w v) (
       (λ k. let b = bounded (Max number (roleOf code) child) (concept-is v c 12 k) in (b .1, b .2))
 
   pub restriction-code : 9 ≤ kind → code < 2 * d .header .roles
-  restriction-code l = code-in (restriction-in l .0)
+  restriction-code l = code-in code (d .header .roles) (restriction-in l .0)
 
   pub restriction-child : 9 ≤ kind → child < c
   restriction-child l = restriction-in l .1

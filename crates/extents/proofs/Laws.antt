@@ -2,35 +2,22 @@
 use mathlib.Core.Path.{_≡_, refl, sym, ap, _∙_, subst}
 use mathlib.Core.Bool.{Bool, true, false, not, _&&_}
 use mathlib.Core.List.{List, [], _∷_, _++_}
-use Prim.Native.Nat.{ℕ, zero, suc, _+_, _<_}
+use Prim.Native.Nat.{ℕ, _+_, _<_}
 use native.Mathlib.Omega.{arith}
-use native.Mathlib.Nat.{zero-add}
 use native.Mathlib.Numerals.{add-one}
 use lib.Dec.{eqb}
 use lib.ListN.{getD}
 use Rattle.rules.specs.Base.{all, any}
 use Rattle.rules.specs.Invariants.{Each}
 use Rattle.rules.specs.JointLaws.{Joint}
-use Rattle.rules.specs.Semantics.{elementsBelow, implies, one, count}
+use Rattle.rules.specs.Semantics.{elementsBelow, implies, count}
 use Rattle.meaning.specs.Truth.{all-same}
 use Rattle.meaning.specs.Joints.{joins, over, joins-unit, over-append, not-any}
-use Rattle.states.specs.Conditions.{rises}
 use Rattle.states.specs.LeastLaws.{all-rising}
 use Rattle.states.specs.Masks.{maskOf, mask-none}
 use Rattle.states.specs.MaskLaws.{mask-same}
 use Rattle.pool.specs.Layout.{membersAt, run}
 use Rattle.pool.specs.Tabs.{tab-snoc, tab-each}
-
--- ---- the elements, rising and falling
-count-snoc : (f : ℕ → Bool) (x n : ℕ) → count f (rises x (suc n)) ≡ count f (rises x n) + one (f (x + n))
-unfolding rises
-count-snoc f x zero = let e : x + 0 ≡ x = omega arith in rw e (omega arith)
-count-snoc f x (suc n) = let e : suc x + n ≡ x + suc n = omega arith in let q = count-snoc f (suc x) n in omega (arith, rw e at q)
-
-pub count-rising : (n : ℕ) (f : ℕ → Bool) → count f (elementsBelow n) ≡ count f (rises 0 n)
-unfolding elementsBelow rises
-count-rising zero f = refl
-count-rising (suc n) f = let q = count-snoc f 0 n in omega (arith, rw (zero-add n) at q, count-rising n f)
 
 -- ---- tests
 twice : (b : Bool) → not (not b) ≡ b

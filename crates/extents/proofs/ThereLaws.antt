@@ -19,7 +19,8 @@ use Rattle.sets.specs.Places.{conceptsAt}
 use Rattle.extents.specs.declared.Trial.{Trial}
 use Rattle.extents.specs.Ready.{Fits, ReadyThere}
 use Rattle.extents.specs.ReadyLaws.{class-room, code-few}
-use Rattle.extents.specs.Sets.{IsSet, ConceptThere, Rows, restricted}
+use Rattle.sets.specs.Laid.{Rows}
+use Rattle.extents.specs.Sets.{IsSet, ConceptThere, restricted}
 use Rattle.extents.proofs.ConceptLaws.{kind-some, top-set, bot-set, class-in, atomic-set, individual-in, nominal-set, self-code, self-set, not-child, not-set, list-room, list-few, and-set, or-set, restriction-code, restriction-child, restriction-set}
 
 -- ---- what may be read

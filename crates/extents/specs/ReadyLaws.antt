@@ -10,8 +10,7 @@ use lib.Dec.{eqb}
 use Rattle.words.specs.Words.{words}
 use Rattle.words.specs.Laws.{length-words}
 use Rattle.ir.specs.declared.role.Role.{Role}
-use Rattle.ir.specs.declared.role.Role.the-variants.{Named, Inverse}
-use Rattle.ir.specs.Roles.{roleId, roleCode, roleOf, role-code}
+use Rattle.ir.specs.Roles.{roleId, roleCode, roleOf, role-code, code-below}
 use Rattle.rules.specs.Pool.{members}
 use Rattle.rules.specs.Deck.{Known}
 use Rattle.rules.specs.DeckLaws.{DeckIn}
@@ -105,10 +104,6 @@ module _ (d : Known) (I : Interpretation) (w v : List ℕ) (R : Ready d I w v) w
     }
 
 -- ---- roles of the deck
-pub code-below : (r : Role) (n : ℕ) → roleId r < n → roleCode r < 2 * n
-code-below (Named i) n h = omega arith
-code-below (Inverse i) n h = omega arith
-
 pub role-row : (d : Known) (I : Interpretation) (w v : List ℕ) → Ready d I w v → (r : Role) (x : ℕ) → roleId r < d .header .roles → x < I .size
     → rowOf v (roleCode r) x ≡ maskOf (I .size) (related I r x)
 role-row d I w v R r x h l = code-row d I w v R (roleCode r) x (code-below r (d .header .roles) h) l ∙ ap (λ (s : Role). maskOf (I .size) (related I s x)) (role-code r)

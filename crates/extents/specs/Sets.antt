@@ -12,7 +12,6 @@ use Rattle.rules.specs.Deck.{Known}
 use Rattle.rules.specs.Run.{scratchBytes}
 use Rattle.rules.specs.Semantics.{Interpretation, means, elementsBelow, implies, count}
 use Rattle.states.specs.Masks.{maskOf}
-use Rattle.sets.specs.Laid.{rowOf}
 use Rattle.extents.specs.declared.Trial.{Trial}
 use Rattle.extents.specs.Ready.{Ready, Fits, ConceptSets}
 
@@ -29,10 +28,6 @@ pub record ConceptThere (scratch : List ℕ) (t : Trial) (c : ℕ) : Type 0 wher
   pub fits : Fits known meant t
   pub space : scratchBytes ≤ length scratch
   pub below : c < length (known .concepts)
-
--- what each of n elements is related to by a role code
-abbrev pub Rows : List ℕ → ℕ → ℕ → (ℕ → ℕ → Bool) → Type 0
-Rows v code n f = (x : ℕ) → x < n → rowOf v code x ≡ maskOf n (f x)
 
 -- Some, All, Min or Max at an element that is related to those of f, where the filler has those of g
 abbrev pub restricted : (kind number n : ℕ) → (f g : ℕ → Bool) → Bool

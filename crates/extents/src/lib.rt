@@ -88,7 +88,7 @@ fn composed_set(scratch: &[u8], c: u32, t: Trial) -> u64
     let number = record::number(scratch, c);
     let child = record::child(scratch, c);
     match kind {
-        5 => restriction::self_set(scratch, role, t.size),
+        5 => kept::loops(scratch, role, t.size),
         6 => complement(scratch, child, t.size),
         7 => joint::joint_set(scratch, Joint::And, child, number, t.size),
         _ => joint::joint_set(scratch, Joint::Or, child, number, t.size),

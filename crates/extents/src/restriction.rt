@@ -1,4 +1,4 @@
-// Self, Some, All, Min and Max: which elements they have, by what each is related to.
+// Some, All, Min and Max: which elements they have, by what each is related to.
 use sets::kept;
 ghost use mathlib.Core.Path.{_≡_};
 ghost use mathlib.Core.Bool.{Bool, _&&_};
@@ -10,7 +10,8 @@ ghost use Rattle.rules.specs.Base.{all as allOf, any as anyOf};
 ghost use Rattle.rules.specs.Run.{scratchBytes};
 ghost use Rattle.rules.specs.Semantics.{elementsBelow, implies, count};
 ghost use Rattle.states.specs.Masks.{maskOf};
-ghost use Rattle.extents.specs.Sets.{Rows, restricted};
+ghost use Rattle.sets.specs.Laid.{Rows};
+ghost use Rattle.extents.specs.Sets.{restricted};
 
 // Whether one of the row is in the set.
 pub fn some(row: u64, set: u64) -> bool
@@ -62,22 +63,6 @@ pub fn restriction_set(scratch: &[u8], kind: u32, number: u32, code: u32, set: u
     while x < n {
         let row = kept::row(scratch, code, x);
         let here = holds(kind, number, row, set);
-        m = sets::grown(m, x as u64, here);
-        x += 1;
-    }
-    m
-}
-
-// The elements that are related to themselves.
-pub fn self_set(scratch: &[u8], code: u32, n: u32) -> u64
-    requires { ⌜ (code < 2048) × (n ≤ 64) × (scratchBytes ≤ length (now scratch)) ⌝ }
-    ensures { λ r. ⌜ ((f : ℕ → ℕ → Bool) → Rows (words (now (scratch .entry))) code n f → r ≡ maskOf n (λ x. f x x)) ⌝ }
-{
-    let mut m: u64 = 0;
-    let mut x: u32 = 0;
-    while x < n {
-        let row = kept::row(scratch, code, x);
-        let here = sets::has(row, x as u64);
         m = sets::grown(m, x as u64, here);
         x += 1;
     }

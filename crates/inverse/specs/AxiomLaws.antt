@@ -1,25 +1,25 @@
 -- The loop over the axioms. Assumes nothing.
 use mathlib.Core.Path.{_≡_, refl, sym, ap, subst, _∙_}
-use mathlib.Core.Bool.{Bool, true, false}
+use mathlib.Core.Bool.{true}
 use mathlib.Core.List.{List, []}
-use Prim.Native.Nat.{ℕ, suc, _+_, _*_, _-_, _/_, _%_, _<_, _≤_}
+use Prim.Native.Nat.{ℕ, suc, _+_, _*_, _-_, _<_, _≤_}
 use native.Mathlib.Omega.{arith}
 use native.Mathlib.Nat.{zero-add}
-use borrow.Author.Tests.{eqb-true, leb-true}
-use lib.Dec.{eqb, leb}
+use borrow.Author.Tests.{eqb-true}
 use lib.ListN.{length, getD}
 use Rattle.words.specs.Words.{words}
 use Rattle.ir.specs.Scratch.{axiomsAt, numbersAt, linesAt}
-use Rattle.ir.specs.Roles.{roleOf}
+use Rattle.ir.specs.Roles.{roleOf, code-in}
 use Rattle.rules.specs.Concept.{Axiom, InverseObjectProperties}
-use Rattle.rules.specs.Deck.{mostRoles, sectionOf, fixedOf, isListKind, fieldsOk, axiomOf}
+use Rattle.rules.specs.Deck.{mostRoles, sectionOf, fieldsOk, axiomOf}
 use Rattle.rules.specs.Inverse.{InverseCanon, declared, inverseOf, buildFrom}
 use Rattle.rules.specs.Invariants.{Bounds, RoleIn, AxiomIn}
 use Rattle.pool.specs.Layout.{tab}
-use Rattle.pool.specs.Tabs.{getD-tab, tab-each}
+use Rattle.pool.specs.Tabs.{tab-each}
 use Rattle.deck.proofs.KindLaws.{axiom-kinds}
 use Rattle.ontology.specs.Layout.{axiomStart, axiomCount, axiomNumber, axiomRow, axiomAt, axiomsOf, AxiomsHeld}
 use Rattle.ontology.specs.KeptAxioms.{axiom-kept, axioms-kept, held-axioms}
+use Rattle.ontology.specs.Rows.{inverse-is}
 use Rattle.inverse.specs.Layout.{Mapped, Beside, Building}
 use Rattle.inverse.specs.BuildLaws.{beside-refl, beside-trans}
 
@@ -38,44 +38,15 @@ module _ (w : List ℕ) (n i : ℕ) (H : AxiomsHeld w n) (h : i < n) (k : axiomN
   pub three : axiomCount w i ≡ 3
   three = eqb-true (axiomCount w i) 3 (subst (λ (x : ℕ). fieldsOk x (axiomCount w i) ≡ true) k (H .fields i h))
 
-  number : (j : ℕ) → j < 3 → getD (axiomRow w i) j 0 ≡ axiomNumber w i j
-  number j l = getD-tab (λ x. getD w x 0) 0 (numbersAt + axiomStart w i) (axiomCount w i) j (omega (arith, three))
-
   pub inverse-axiom : axiomAt w i ≡ InverseObjectProperties (roleOf (axiomNumber w i 1)) (roleOf (axiomNumber w i 2))
-  unfolding axiomOf
-  inverse-axiom =
-      ap (λ (x : ℕ). axiomOf x (axiomRow w i)) k
-      ∙ ap (λ (x : ℕ). InverseObjectProperties (roleOf x) (roleOf (getD (axiomRow w i) 2 0))) (number 1 (omega arith))
-      ∙ ap (λ (x : ℕ). InverseObjectProperties (roleOf (axiomNumber w i 1)) (roleOf x)) (number 2 (omega arith))
+  inverse-axiom = ap (λ (x : ℕ). axiomOf x (axiomRow w i)) k ∙ inverse-is w (numbersAt + axiomStart w i) (axiomCount w i) three
 
 -- the code of a role of the deck
 pub code-small : (B : Bounds) (c : ℕ) → B .roles ≤ mostRoles → RoleIn B (roleOf c) → c < 2 * mostRoles
-code-small B c l h = by (eqb (c % 2) 0) refl
-  where
-    by : (b : Bool) → eqb (c % 2) 0 ≡ b → c < 2 * mostRoles
-    by true e = let q : c / 2 < B .roles = rw e at h in omega arith
-    by false e = let q : c / 2 < B .roles = rw e at h in omega arith
-
--- a line has its kind
-abbrev Some : ℕ → Type 0
-Some k = (n : ℕ) → fieldsOk k n ≡ true → 1 ≤ n
-
-some-fields : (k : ℕ) → sectionOf k ≡ 4 → Some k
-some-fields k e n h = by (isListKind k) refl
-  where
-    by : (b : Bool) → isListKind k ≡ b → 1 ≤ n
-    by true q = let z : leb (1 + fixedOf k) n ≡ true = sym (rw q refl) ∙ h in omega (arith, leb-true (1 + fixedOf k) n z)
-    by false q = let z : eqb n (1 + fixedOf k) ≡ true = sym (rw q refl) ∙ h in omega (arith, eqb-true n (1 + fixedOf k) z)
+code-small B c l h = omega (arith, code-in c (B .roles) h)
 
 -- ---- the numbers that the code reads
 module _ (s : List ℕ) (n i : ℕ) (A : Building s n) (h : i < n) where
-  pub kind-inside : numbersAt + axiomStart (words s) i + 0 < linesAt
-  kind-inside =
-      let H = A .held in
-      let q = H .within i h in
-      let c = some-fields (axiomNumber (words s) i 0) (H .kinds i h) (axiomCount (words s) i) (H .fields i h) in
-      omega arith
-
   pub axiom-idle : (k : ℕ) → k ≡ axiomNumber (words s) i 0 → (k ≡ 32 → ⊥) → (m : InverseCanon) → Mapped (words s) m mostRoles → Mapped (words s) (inverseOf m (axiomAt (words s) i)) mostRoles
   axiom-idle k e d m M = subst (λ (x : InverseCanon). Mapped (words s) x mostRoles) (sym (other-kind m (axiomRow (words s) i) (axiomNumber (words s) i 0) (A .held .kinds i h) (λ z. d (e ∙ z)))) M
 

@@ -54,6 +54,21 @@ code-by c false e = let h : c % 2 ≡ 0 → ⊥ = eqb-false (c % 2) 0 e in let k
 pub code-role : (c : ℕ) → roleCode (roleOf c) ≡ c
 code-role c = code-by c (eqb (c % 2) 0) refl
 
+-- a code by its id
+pub id-half : (c : ℕ) → roleId (roleOf c) ≡ c / 2
+id-half c = by (eqb (c % 2) 0)
+  where
+    by : (b : Bool) → roleId (pick b (Named (c / 2)) (Inverse (c / 2))) ≡ c / 2
+    by true = refl
+    by false = refl
+
+pub code-in : (c n : ℕ) → roleId (roleOf c) < n → c < 2 * n
+code-in c n h = let e = id-half c in omega arith
+
+pub code-below : (r : Role) (n : ℕ) → roleId r < n → roleCode r < 2 * n
+code-below (Named i) n h = omega arith
+code-below (Inverse i) n h = omega arith
+
 pub role-code-inj : (r s : Role) → roleCode r ≡ roleCode s → r ≡ s
 role-code-inj r s e = sym (role-code r) ∙ ap roleOf e ∙ role-code s
 

@@ -10,10 +10,10 @@ use lib.Dec.{eqb, ltb}
 use borrow.Author.Tests.{eqb-true, eqb-false, ltb-true, ltb-false}
 use Rattle.words.specs.Words.{words}
 use Rattle.ir.specs.Pick.{pick}
-use Rattle.ir.specs.Roles.{roleId, roleCode, roleOf}
+use Rattle.ir.specs.Roles.{roleId, roleOf, code-below}
 use Rattle.ir.specs.declared.counters.Counters.{Counters}
 use Rattle.ir.specs.declared.role.Role.{Role}
-use Rattle.ir.specs.declared.role.Role.the-variants.{Named, Inverse}
+use Rattle.ir.specs.declared.role.Role.the-variants.{Named}
 use Rattle.ir.specs.declared.atom.Atom.the-variants.{Class, AtLeast}
 use Rattle.ir.specs.declared.atom.Qualifier.the-variants.{Unqualified}
 use Rattle.rules.specs.Concept.{Concept}
@@ -198,23 +198,19 @@ counts-restrict (All r d) h = absurd (omega arith)
 counts-restrict (Min n r d) h = tt
 counts-restrict (Max n r d) h = tt
 
-role-code-small : (r : Role) (n : ℕ) → roleId r < n → roleCode r < 2 * n
-role-code-small (Named i) n h = omega arith
-role-code-small (Inverse i) n h = omega arith
-
 role-bounded : (B : Bounds) (c : ℕ) (e : Concept) → Bounded B c e → HasRole e → B .roles ≤ mostRoles → plain e .role < 2 * mostRoles
 role-bounded B c Top b h m = absurd h
 role-bounded B c Bot b h m = absurd h
 role-bounded B c (Atomic a) b h m = absurd h
 role-bounded B c (Nominal i) b h m = absurd h
-role-bounded B c (SelfRestriction r) b h m = omega (arith, role-code-small r (B .roles) b)
+role-bounded B c (SelfRestriction r) b h m = omega (arith, code-below r (B .roles) b)
 role-bounded B c (Not d) b h m = absurd h
 role-bounded B c (And l) b h m = absurd h
 role-bounded B c (Or l) b h m = absurd h
-role-bounded B c (Some r d) b h m = omega (arith, role-code-small r (B .roles) (b .0))
-role-bounded B c (All r d) b h m = omega (arith, role-code-small r (B .roles) (b .0))
-role-bounded B c (Min n r d) b h m = omega (arith, role-code-small r (B .roles) (b .1))
-role-bounded B c (Max n r d) b h m = omega (arith, role-code-small r (B .roles) (b .1))
+role-bounded B c (Some r d) b h m = omega (arith, code-below r (B .roles) (b .0))
+role-bounded B c (All r d) b h m = omega (arith, code-below r (B .roles) (b .0))
+role-bounded B c (Min n r d) b h m = omega (arith, code-below r (B .roles) (b .1))
+role-bounded B c (Max n r d) b h m = omega (arith, code-below r (B .roles) (b .1))
 
 -- ---- a negated concept
 module _ (env : Env) (pool : Pool) (v a : ℕ) where

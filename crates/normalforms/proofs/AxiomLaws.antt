@@ -1,8 +1,8 @@
 -- A line of an axiom kind, with the right number of fields, is its axiom's line. Assumes nothing.
 use mathlib.Core.Path.{_≡_, refl}
-use mathlib.Core.Bool.{true, false}
+use mathlib.Core.Bool.{true}
 use mathlib.Core.List.{List, [], _∷_, map}
-use Prim.Native.Nat.{ℕ, zero, suc, _≤_}
+use Prim.Native.Nat.{ℕ}
 use native.Mathlib.Omega.{arith}
 use borrow.Author.Tests.{eqb-true, leb-true}
 use lib.Dec.{eqb, leb}
@@ -59,13 +59,3 @@ axiom-line r =
     (λ e h. rw (codes (drop 1 r), e) (one-more r h))
     (λ e h. rw (code-role (getD r 1 0), e) (two r h))
     (λ e h. rw e (three r h))
-
--- a kind's line has at least its kind
-pub fields-some : (n k : ℕ) → sectionOf k ≡ 4 → fieldsOk k n ≡ true → 1 ≤ n
-fields-some zero =
-    axiom-kinds (λ k. fieldsOk k 0 ≡ true → 1 ≤ 0)
-    no no no no no no no no no no no no no no no no
-  where
-    no : {P : Type 0} → false ≡ true → P
-    no h = absurd (let z : _≡_ {A = ℕ} 0 1 = cc in omega arith)
-fields-some (suc n) = λ k s h. omega arith

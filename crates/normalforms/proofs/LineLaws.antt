@@ -15,10 +15,11 @@ use Rattle.pool.specs.Tabs.{length-tab, getD-tab, run-part}
 use Rattle.pool.specs.Held.{Held}
 use Rattle.pool.specs.HeldLaws.{record-kind, list-within, list-run}
 use Rattle.ontology.specs.Layout.{axiomStart, axiomCount, axiomNumber, axiomRow, axiomAt, axiomsOf, AxiomsHeld}
+use Rattle.ontology.specs.KeptAxioms.{fields-some}
 use Rattle.rows.specs.Rows.{columnsText, Put}
 use Rattle.rows.specs.RowLaws.{length-line, put-line, put-field-first, Left, left-all, left-fits, left-more, left-none}
 use Rattle.normalforms.specs.Forms.{recordLine, conceptLine, axiomLineOf, conceptsText, axiomsText}
-use Rattle.normalforms.proofs.AxiomLaws.{axiom-line, fields-some}
+use Rattle.normalforms.proofs.AxiomLaws.{axiom-line}
 
 -- ---- a concept's line
 -- a record that is no list, whatever its child is called
@@ -81,7 +82,7 @@ module _ (w : List ℕ) (n : ℕ) (A : AxiomsHeld w n) (i : ℕ) (h : i < n) whe
   pub axiom-is : axiomLineOf (axiomAt w i) ≡ axiomRow w i
   axiom-is =
       let k = axiomNumber w i 0 in
-      let f = fields-some (axiomCount w i) k (A .kinds i h) (A .fields i h) in
+      let f = fields-some k (axiomCount w i) (A .fields i h) in
       let e : k ≡ getD (axiomRow w i) 0 0 = sym (getD-tab (λ j. getD w j 0) 0 (numbersAt + axiomStart w i) (axiomCount w i) 0 f) in
       axiom-line (axiomRow w i) k (A .kinds i h) e (rw row-long (A .fields i h))
 

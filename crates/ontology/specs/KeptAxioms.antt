@@ -16,12 +16,15 @@ use Rattle.pool.specs.Tabs.{tab-same}
 use Rattle.ontology.specs.Layout.{axiomStart, axiomCount, axiomNumber, axiomRow, axiomAt, axiomsOf, AxiomsHeld}
 
 -- a line has its kind
-fields-some : (k n : ℕ) → fieldsOk k n ≡ true → 1 ≤ n
+pub fields-some : (k n : ℕ) → fieldsOk k n ≡ true → 1 ≤ n
 fields-some k n = go (isListKind k)
   where
     go : (b : Bool) → pick b (leb (1 + fixedOf k) n) (eqb n (1 + fixedOf k)) ≡ true → 1 ≤ n
     go true e = omega (arith, leb-true (1 + fixedOf k) n e)
     go false e = omega (arith, eqb-true n (1 + fixedOf k) e)
+
+pub kind-inside : (w : List ℕ) (n i : ℕ) → AxiomsHeld w n → i < n → numbersAt + axiomStart w i + 0 < linesAt
+kind-inside w n i H h = let q = fields-some (axiomNumber w i 0) (axiomCount w i) (H .fields i h) in omega (arith, H .within i h)
 
 module _ (w w' : List ℕ) (n : ℕ) (H : AxiomsHeld w n) (K : (j : ℕ) → axiomsAt ≤ j → j < linesAt → getD w' j 0 ≡ getD w j 0) where
   start-kept : (i : ℕ) → i < n → axiomStart w' i ≡ axiomStart w i

@@ -37,6 +37,12 @@ module _ {A : Type 0} (f : ℕ → A) where
       let d : i + k + 1 ≡ i + (k + 1) = omega arith in
       rw (e, d) refl
 
+  pub drop-tab : (i n k : ℕ) → drop k (tab f i n) ≡ tab f (i + k) (n - k)
+  unfolding tab
+  drop-tab i n zero = let a : i + 0 ≡ i = omega arith in let b : n - 0 ≡ n = omega arith in rw (a, b) refl
+  drop-tab i zero (suc k) = let b : 0 - suc k ≡ 0 = omega arith in rw b refl
+  drop-tab i (suc n) (suc k) = let a : i + 1 + k ≡ i + suc k = omega arith in let b : suc n - suc k ≡ n - k = omega arith in rw (← a, b) (drop-tab (i + 1) n k)
+
   pub tab-end : (i k n : ℕ) → n ≤ k → tab f (i + k) (n - k) ≡ []
   unfolding tab
   tab-end i k n h = let e : n - k ≡ 0 = omega arith in rw e refl

@@ -6,7 +6,7 @@ use Prim.Native.Nat.{ℕ, zero, suc, _+_, _*_, _-_, _<_, _≤_}
 use native.Mathlib.Omega.{arith}
 use native.Mathlib.Nat.{zero-add}
 use borrow.Author.Tests.{eqb-true, leb-true}
-use lib.ListN.{getD, drop}
+use lib.ListN.{getD}
 use Rattle.words.specs.Words.{words}
 use Rattle.ir.specs.Scratch.{axiomsAt, numbersAt, linesAt}
 use Rattle.ir.specs.Roles.{roleOf}
@@ -17,8 +17,9 @@ use Rattle.rules.specs.State.{Env}
 use Rattle.rules.specs.Reflexive.{canonId, declaredReflexive, edgesAmong, roleEdges}
 use Rattle.deck.proofs.KindLaws.{axiom-kinds}
 use Rattle.pool.specs.Layout.{tab, run}
-use Rattle.pool.specs.Tabs.{getD-tab, tab-each, tab-same}
+use Rattle.pool.specs.Tabs.{tab-each, tab-same}
 use Rattle.ontology.specs.Layout.{axiomStart, axiomCount, axiomNumber, axiomRow, axiomAt}
+use Rattle.ontology.specs.Rows.{rowAxiom, sub-role-is, equivalent-roles-is, reflexive-is}
 use Rattle.inverse.specs.Layout.{RolesHeld, Building}
 use Rattle.inverse.specs.AxiomLaws.{code-small}
 use Rattle.reflexive.specs.Flags.{OnlyFlags}
@@ -46,12 +47,6 @@ undeclared env set r =
     axiom-kinds (Undeclared env set r) (λ _. refl) (λ _. refl) (λ _. refl) (λ _. refl) (λ _. refl) (λ _. refl) (λ _. refl) (λ _. refl) (λ _. refl) (λ _. refl) (λ _. refl) (λ _. refl) (λ _. refl) (λ _. refl)
     (λ h. absurd (h refl)) (λ _. refl)
 
--- a list but its first
-tail-tab : {A : Type 0} (f : ℕ → A) (i n : ℕ) → 1 ≤ n → drop 1 (tab f i n) ≡ tab f (i + 1) (n - 1)
-unfolding tab
-tail-tab f i zero h = absurd (omega arith)
-tail-tab f i (suc n) h = let e : suc n - 1 ≡ n = omega arith in rw e refl
-
 map-tab : {A B : Type 0} (g : A → B) (f : ℕ → A) (i n : ℕ) → map g (tab f i n) ≡ tab (λ j. g (f j)) i n
 unfolding tab
 map-tab g f i zero = refl
@@ -65,8 +60,8 @@ module _ (s : List ℕ) (n i : ℕ) (A : Building s n) (h : i < n) where
   fields : (k : ℕ) → axiomNumber (words s) i 0 ≡ k → fieldsOk k (axiomCount (words s) i) ≡ true
   fields k e = subst (λ (x : ℕ). fieldsOk x (axiomCount (words s) i) ≡ true) e (A .held .fields i h)
 
-  number : (j : ℕ) → j < axiomCount (words s) i → getD (axiomRow (words s) i) j 0 ≡ axiomNumber (words s) i j
-  number j l = getD-tab (λ x. getD (words s) x 0) 0 (numbersAt + axiomStart (words s) i) (axiomCount (words s) i) j l
+  of-kind : (k : ℕ) → axiomNumber (words s) i 0 ≡ k → axiomAt (words s) i ≡ rowAxiom (words s) k (numbersAt + axiomStart (words s) i) (axiomCount (words s) i)
+  of-kind k e = ap (λ (x : ℕ). axiomOf x (axiomRow (words s) i)) e
 
   module _ (k : axiomNumber (words s) i 0 ≡ 33) where
     three : axiomCount (words s) i ≡ 3
@@ -76,11 +71,7 @@ module _ (s : List ℕ) (n i : ℕ) (A : Building s n) (h : i < n) where
     sub-inside j l = omega (arith, A .held .within i h, three)
 
     sub-axiom : axiomAt (words s) i ≡ SubObjectPropertyOf (roleOf (axiomNumber (words s) i 1)) (roleOf (axiomNumber (words s) i 2))
-    unfolding axiomOf
-    sub-axiom =
-        ap (λ (x : ℕ). axiomOf x (axiomRow (words s) i)) k
-        ∙ ap (λ (x : ℕ). SubObjectPropertyOf (roleOf x) (roleOf (getD (axiomRow (words s) i) 2 0))) (number 1 (omega (arith, three)))
-        ∙ ap (λ (x : ℕ). SubObjectPropertyOf (roleOf (axiomNumber (words s) i 1)) (roleOf x)) (number 2 (omega (arith, three)))
+    sub-axiom = of-kind 33 k ∙ sub-role-is (words s) (numbersAt + axiomStart (words s) i) (axiomCount (words s) i) three
 
     sub-in : RoleIn (A .bounds) (roleOf (axiomNumber (words s) i 1)) × RoleIn (A .bounds) (roleOf (axiomNumber (words s) i 2))
     sub-in = subst (AxiomIn (A .bounds) (A .concepts)) sub-axiom axiom-in
@@ -105,8 +96,7 @@ module _ (s : List ℕ) (n i : ℕ) (A : Building s n) (h : i < n) where
     reflexive-inside = omega (arith, A .held .within i h, two)
 
     reflexive-axiom : axiomAt (words s) i ≡ ReflexiveRole (roleOf (axiomNumber (words s) i 1))
-    unfolding axiomOf
-    reflexive-axiom = ap (λ (x : ℕ). axiomOf x (axiomRow (words s) i)) k ∙ ap (λ (x : ℕ). ReflexiveRole (roleOf x)) (number 1 (omega (arith, two)))
+    reflexive-axiom = of-kind 35 k ∙ reflexive-is (words s) (numbersAt + axiomStart (words s) i) (axiomCount (words s) i) two
 
     pub reflexive-small : (x : ℕ) → x ≡ axiomNumber (words s) i 1 → x < 2 * mostRoles
     reflexive-small x e = rw e (code-small (A .bounds) (axiomNumber (words s) i 1) (A .few) (subst (AxiomIn (A .bounds) (A .concepts)) reflexive-axiom axiom-in))
@@ -119,10 +109,7 @@ module _ (s : List ℕ) (n i : ℕ) (A : Building s n) (h : i < n) where
     some = leb-true 1 (axiomCount (words s) i) (fields 34 k)
 
     equal-axiom : axiomAt (words s) i ≡ EquivalentObjectProperties (map roleOf (run (words s) (numbersAt + axiomStart (words s) i + 1) (axiomCount (words s) i - 1)))
-    unfolding axiomOf
-    equal-axiom =
-        ap (λ (x : ℕ). axiomOf x (axiomRow (words s) i)) k
-        ∙ ap (λ (l : List ℕ). EquivalentObjectProperties (map roleOf l)) (tail-tab (λ j. getD (words s) j 0) (numbersAt + axiomStart (words s) i) (axiomCount (words s) i) some)
+    equal-axiom = of-kind 34 k ∙ equivalent-roles-is (words s) (numbersAt + axiomStart (words s) i) (axiomCount (words s) i)
 
     equal-in : Each (RoleIn (A .bounds)) (tab (λ j. roleOf (getD (words s) j 0)) (numbersAt + axiomStart (words s) i + 1) (axiomCount (words s) i - 1))
     equal-in =

@@ -1,16 +1,15 @@
 -- Laws of a line's text, and of texts that are written one behind the other. Assumes nothing.
 use mathlib.Core.Path.{_≡_, refl, sym, ap, ap₂, subst, _∙_}
-use mathlib.Core.Bool.{Bool, true, false}
 use mathlib.Core.List.{List, [], _∷_, _++_, append-assoc, append-nil}
 use Prim.Native.Nat.{ℕ, zero, suc, _+_, _*_, _-_, _/_, _%_, _<_, _≤_, _^_}
 use native.Mathlib.Omega.{arith}
 use native.Mathlib.Numerals.{add-one}
 use lib.ListN.{length, getD, set, take, drop, replicate, length-append, length-drop, length-replicate}
 use lib.Seq.{sets, length-sets, take-suc, length-take-le, getD-drop}
-use lib.Dec.{ltb}
 use borrow.Author.Tests.{lt-ltb, le-ltb}
 use Rattle.words.specs.Runs.{sets-append, sets-cons, sets-snoc}
-use Rattle.rules.specs.Lister.{decimalWith, decimalBy, decimal, fieldText, fieldsText}
+use Rattle.rules.specs.Lister.{decimalBy, decimal, fieldText, fieldsText}
+use Rattle.rules.specs.PrintLaws.{length-decimal}
 use Rattle.rows.specs.Rows.{columnsText, Put, textsOf, textsLeft}
 
 pub line-text : (l : List ℕ) → fieldsText l ≡ columnsText l ++ (10 ∷ [])
@@ -134,15 +133,6 @@ written-more s at n rest (suc j) out w h =
     }
 
 -- lengths
-length-decimal : (f n : ℕ) (ds : List ℕ) → length (decimalBy f n ds) ≤ f + length ds
-unfolding decimalBy
-length-decimal zero n ds = omega arith
-length-decimal (suc f) n ds = by (length-decimal f (n / 10) ((48 + n % 10) ∷ ds)) (ltb n 10)
-  where
-    by : length (decimalBy f (n / 10) ((48 + n % 10) ∷ ds)) ≤ f + suc (length ds) → (b : Bool) → length (decimalWith (λ m es. decimalBy f m es) n ds b) ≤ suc f + length ds
-    by h true = omega arith
-    by h false = omega arith
-
 pub length-field : (n : ℕ) → length (fieldText n) ≡ 11
 length-field n =
     let h : length (decimal n) ≤ 10 + 0 = length-decimal 10 n [] in

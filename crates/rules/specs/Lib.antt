@@ -39,6 +39,7 @@ pub mod RoomLaws
 pub mod TextLaws
 pub mod DeckLaws
 pub mod Lister
+pub mod PrintLaws
 pub mod Ascii
 pub mod Compute
 pub mod Semantics

@@ -1,6 +1,7 @@
 -- An interpretation laid out: the words w of the store have a set for each class, the words v of scratch what each element is
 -- related to by each role code.
 use mathlib.Core.Path.{_≡_}
+use mathlib.Core.Bool.{Bool}
 use mathlib.Core.List.{List}
 use Prim.Native.Nat.{ℕ, _+_, _*_, _<_, _≤_}
 use lib.ListN.{length, getD}
@@ -16,6 +17,10 @@ use Rattle.sets.specs.Places.{rowsAt}
 -- what element x is related to by a role code
 abbrev pub rowOf : List ℕ → ℕ → ℕ → ℕ
 rowOf v code x = setAt v (rowsAt + 64 * code + x)
+
+-- what each of n elements is related to by it
+abbrev pub Rows : List ℕ → ℕ → ℕ → (ℕ → ℕ → Bool) → Type 0
+Rows v code n f = (x : ℕ) → x < n → rowOf v code x ≡ maskOf n (f x)
 
 -- every class that the store has room for, and the codes of so many roles
 pub record Laid (I : Interpretation) (roles : ℕ) (w v : List ℕ) : Type 0 where

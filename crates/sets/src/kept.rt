@@ -1,12 +1,14 @@
 // Sets in lent words, two words each.
 use crate::places::ROWS;
 ghost use mathlib.Core.Path.{_≡_};
-ghost use Prim.Native.Nat.{_≤_, _<_, _+_, _*_};
+ghost use mathlib.Core.Bool.{Bool};
+ghost use Prim.Native.Nat.{ℕ, _≤_, _<_, _+_, _*_};
 ghost use lib.ListN.{length};
 ghost use Rattle.words.specs.Words.{words};
 ghost use Rattle.rules.specs.Run.{scratchBytes};
+ghost use Rattle.states.specs.Masks.{maskOf};
 ghost use Rattle.sets.specs.Kept.{setAt, setPut};
-ghost use Rattle.sets.specs.Laid.{rowOf};
+ghost use Rattle.sets.specs.Laid.{rowOf, Rows};
 
 pub fn get_set(s: &[u8], i: usize) -> u64
     requires { ⌜ 8 * i + 8 ≤ length (now s) ⌝ }
@@ -32,4 +34,20 @@ pub fn row(scratch: &[u8], code: u32, x: u32) -> u64
 {
     let at = ROWS + 64 * (code as usize) + x as usize;
     get_set(scratch, at)
+}
+
+// The elements, of the first n, that are related to themselves.
+pub fn loops(scratch: &[u8], code: u32, n: u32) -> u64
+    requires { ⌜ (code < 2048) × (n ≤ 64) × (scratchBytes ≤ length (now scratch)) ⌝ }
+    ensures { λ r. ⌜ ((f : ℕ → ℕ → Bool) → Rows (words (now (scratch .entry))) code n f → r ≡ maskOf n (λ x. f x x)) ⌝ }
+{
+    let mut m: u64 = 0;
+    let mut x: u32 = 0;
+    while x < n {
+        let here = row(scratch, code, x);
+        let looped = crate::has(here, x as u64);
+        m = crate::grown(m, x as u64, looped);
+        x += 1;
+    }
+    m
 }

@@ -89,6 +89,7 @@ pub fn grown(m: u64, x: u64, b: bool) -> u64
 // The least element of a set that has one.
 pub fn least(m: u64) -> u64
     requires { ⌜ 0 < m ⌝ }
+    ensures { λ r. ⌜ r ≤ 64 ⌝ }
     ensures { λ r. ⌜ ((n : ℕ) (f : ℕ → Bool) → n ≤ 64 → m ≡ maskOf n f → (r ≡ firstWhere f (rises 0 n)) × (r < n)) ⌝ }
 {
     u64::trailing_zeros(m) as u64

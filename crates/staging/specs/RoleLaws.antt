@@ -6,9 +6,9 @@ use native.Mathlib.Omega.{arith}
 use lib.ListN.{getD}
 use Rattle.words.specs.Words.{words}
 use Rattle.ir.specs.Scratch.{rolesAt}
-use Rattle.ir.specs.Roles.{roleId, roleCode}
+use Rattle.ir.specs.Roles.{roleCode, code-below}
 use Rattle.ir.specs.declared.role.Role.{Role}
-use Rattle.ir.specs.declared.role.Role.the-variants.{Named, Inverse}
+use Rattle.ir.specs.declared.role.Role.the-variants.{Named}
 use Rattle.rules.specs.Concept.{Axiom}
 use Rattle.rules.specs.Concept.{SubClassOf, EquivalentClasses, DisjointClasses, DisjointUnion, ObjectPropertyDomain, ObjectPropertyRange, SubChain, TransitiveRole, IrreflexiveRole, AsymmetricRole, DisjointObjectProperties, InverseObjectProperties, SubObjectPropertyOf, EquivalentObjectProperties, ReflexiveRole, ClassAssertion}
 use Rattle.rules.specs.Inverse.{buildInverseCanon, canonRole}
@@ -46,14 +46,10 @@ module _ (B : Bounds) (m : ℕ) (l : B .roles ≤ m) where
   axiom-wider n (ClassAssertion _ _) h = h
 
 -- ---- the codes of the map
-code-below : (m : ℕ) (r : Role) → roleId r < m → roleCode r < 2 * m
-code-below m (Named i) h = omega arith
-code-below m (Inverse i) h = omega arith
-
 -- of axioms whose roles are below m
 pub canon-below : (B : Bounds) (n m : ℕ) (l : List Axiom) → B .roles ≤ m → Each (AxiomIn B n) l → (r : ℕ) → r < m → roleCode (canonRole (buildInverseCanon l) (Named r)) < 2 * m
 canon-below B n m l h u r i =
-    code-below m (canonRole (buildInverseCanon l) (Named r))
+    code-below (canonRole (buildInverseCanon l) (Named r)) m
     (canon-in (wider B m h) n l (each-map (AxiomIn B n) (AxiomIn (wider B m h) n) (axiom-wider B m h n) l u) (Named r) i)
 
 -- in scratch's bytes s

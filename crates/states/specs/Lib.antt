@@ -15,7 +15,6 @@ pub mod ScanLaws
 pub mod LiteralLaws
 pub mod Tried
 pub mod Examples
-pub mod PrintLaws
 pub mod Print
 pub mod PrintedLaws
 pub mod StatingLaws

@@ -18,7 +18,7 @@ use Rattle.rules.specs.EachLaws.{each-map, each-any}
 use Rattle.meaning.specs.Truth.{and-both, or-unit, by-truth, all-each}
 use Rattle.states.specs.State.{State, state, Seen, seen, stated, mostElements, restOk, lineOk, entered, ended, onLine, onStateRow, stateBy, onCount, readState}
 use Rattle.states.specs.LineLaws.{class-below}
-use Rattle.states.specs.PrintLaws.{row-printed, length-fields}
+use Rattle.rules.specs.PrintLaws.{row-printed, length-fields}
 use Rattle.states.specs.Print.{linesText, numbered, printed, IdsRise, ClassLine, RoleLine, Stating}
 
 -- by kind, then by id

@@ -8,9 +8,19 @@ use clausify::answer;
 ghost use mathlib.Core.Path.{_≡_};
 ghost use mathlib.Core.List.{List};
 ghost use Prim.Native.Nat.{ℕ};
-ghost use lib.ListN.{length};
+ghost use lib.ListN.{length, replicate};
 ghost use Rattle.states.specs.Test as Test;
+ghost use Rattle.trials.specs.declared.judged.Tried.the-variants as Said;
 ghost use Rattle.trials.specs.Tells.{TellThere, TellsAs, keptOf};
+
+// A refusal of the run: zeros in the store.
+fn refuse(n: u32, line: u32, store: &mut [u8]) -> Tried
+    ensures { λ r. ⌜ r ≡ Said.Refused n line ⌝ }
+    ensures { λ _. ⌜ now (store .exit) ≡ replicate (length (now (store .entry))) 0 ⌝ }
+{
+    words::clear(store);
+    Tried::Refused(n, line)
+}
 
 // By the axioms.
 pub fn tell_axioms(
@@ -28,10 +38,7 @@ pub fn tell_axioms(
             let judged = by_axioms::judge(deck, state, store, scratch, fresh_ids);
             report::report(judged, s, fresh_ids, visits, store, scratch)
         }
-        Reply::Refused(n, line) => {
-            words::clear(store);
-            Tried::Refused(n, line)
-        }
+        Reply::Refused(n, line) => refuse(n, line, store),
     }
 }
 
@@ -62,10 +69,7 @@ pub fn tell_clauses(
             );
             report::report(judged, s, fresh_ids, visits, store, scratch)
         }
-        Reply::Refused(n, line) => {
-            words::clear(store);
-            Tried::Refused(n, line)
-        }
+        Reply::Refused(n, line) => refuse(n, line, store),
     }
 }
 

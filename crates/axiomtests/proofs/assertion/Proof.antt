@@ -10,7 +10,7 @@ use Rattle.axiomtests.proofs.assertion.Statement.{statement}
 use Rattle.axiomtests.proofs.assertion.Tie as tie
 use Rattle.axiomtests.proofs.assertion.Reads as reads
 use Rattle.axiomtests.proofs.assertion.Lts as lts
-use Rattle.axiomtests.proofs.rows.concept.Reads as concept-reads
+use Rattle.extents.proofs.set_of.Reads as set-of-reads
 use Rattle.sets.proofs.both.Reads as both-reads
 use Rattle.sets.proofs.kept.get_set.Reads as get-set-reads
 use Rattle.words.proofs.get_word.Reads as get-word-reads
@@ -36,8 +36,8 @@ cast-class-2 c = search needs
 add-class : tie.Need-add-class
 add-class c = search needs
 
-concept-requires : tie.Need-concept-requires
-concept-requires c κs = let g = c .before .before in let P = g .before .before .before .pre in (concept-small (P .line) _ _ (g .get-word .ensures) (assertion-in (P .line) .0), P .space)
+set-of-requires : tie.Need-set-of-requires
+set-of-requires c κs = let g = c .before .before in let P = g .before .before .before .pre in (concept-small (P .line) _ _ (g .get-word .ensures) (assertion-in (P .line) .0), P .space)
 
 get-set-requires : tie.Need-get-set-requires
 get-set-requires c κs = let g = c .before in let P = g .before .before .before .before .before .pre in omega (arith, base-in (P .line), g .get-word2 .ensures, P .room)
@@ -54,7 +54,7 @@ returns c =
     let g1 = g2 .before .before in
     let s = g1 .before .before .before in
     let long : 16384 ≤ length (words (s .args .store .now)) = omega (arith, length-words (s .args .store .now), s .pre .room) in
-    λ d I L. assertion-broken L _ _ _ _ _ (g1 .get-word .ensures) (g2 .get-word2 .ensures) (k .concept .ensures) (j .get-set .ensures) long (b .both .ensures) (c .if1 .taken)
+    λ d I L. assertion-broken L _ _ _ _ _ (g1 .get-word .ensures) (g2 .get-word2 .ensures) (k .set-of .ensures) (j .get-set .ensures) long (b .both .ensures) (c .if1 .taken)
 
 returns-2 : tie.Need-returns-2
 returns-2 c =
@@ -65,7 +65,7 @@ returns-2 c =
     let g1 = g2 .before .before in
     let s = g1 .before .before .before in
     let long : 16384 ≤ length (words (s .args .store .now)) = omega (arith, length-words (s .args .store .now), s .pre .room) in
-    λ d I L. assertion-holds L _ _ _ _ _ (g1 .get-word .ensures) (g2 .get-word2 .ensures) (k .concept .ensures) (j .get-set .ensures) long (b .both .ensures) (c .if1 .left)
+    λ d I L. assertion-holds L _ _ _ _ _ (g1 .get-word .ensures) (g2 .get-word2 .ensures) (k .set-of .ensures) (j .get-set .ensures) long (b .both .ensures) (c .if1 .left)
 
 pub assertion-spec : {M : Type 1} → statement M
 assertion-spec =
@@ -78,7 +78,7 @@ assertion-spec =
     get-word-requires-2
     cast-class-2
     add-class
-    concept-requires
+    set-of-requires
     get-set-requires
     both-requires
     returns

@@ -4,7 +4,7 @@ use native.Mathlib.Omega.{arith}
 use Rattle.words.specs.Words.{words}
 use Rattle.ir.specs.Scratch.{numbersAt}
 use Rattle.states.specs.Conditions.{axiomBroken}
-use Rattle.axiomtests.proofs.ReadyLaws.{few-axioms, kind-inside, row-axiom, axiom-line, axiom-there}
+use Rattle.axiomtests.proofs.ReadyLaws.{few-axioms, kind-there, row-axiom, axiom-line, axiom-there}
 use borrow.Author.Needs.{needs}
 use Rattle.axiomtests.proofs.axiom_broken.Statement.{statement}
 use Rattle.axiomtests.proofs.axiom_broken.Tie as tie
@@ -16,7 +16,7 @@ use Rattle.ontology.proofs.axiom.number.Reads as number-reads
 use Rattle.ontology.proofs.axiom.start.Reads as start-reads
 
 number-requires : tie.Need-number-requires
-number-requires c κs = let s = c .before .before .before in let P = s .pre .0 in (few-axioms (P .known) (P .meant) _ _ _ _ (P .ready) (P .sets) (P .fits) (s .pre .1), omega (arith, P .space), kind-inside (P .known) (P .meant) _ _ _ _ (P .ready) (P .sets) (P .fits) (s .pre .1))
+number-requires c κs = let s = c .before .before .before in let P = s .pre .0 in (few-axioms (P .known) (P .meant) _ _ _ _ (P .ready) (P .sets) (P .fits) (s .pre .1), omega (arith, P .space), kind-there (P .known) (P .meant) _ _ _ _ (P .ready) (P .sets) (P .fits) (s .pre .1))
 
 start-requires : tie.Need-start-requires
 start-requires c κs = search needs

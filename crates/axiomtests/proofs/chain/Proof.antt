@@ -6,7 +6,8 @@ use borrow.Author.Tests.{leb-true}
 use Rattle.words.specs.Words.{words}
 use Rattle.rules.specs.Deck.{fieldsOk}
 use Rattle.states.specs.Conditions.{axiomBroken}
-use Rattle.axiomtests.specs.Lines.{rowAxiom, Line, LineIn}
+use Rattle.ontology.specs.Rows.{rowAxiom}
+use Rattle.axiomtests.specs.Lines.{Line, LineIn}
 use Rattle.axiomtests.proofs.ChainArmLaws.{chain-chained, chain-broken, transitive-chained, transitive-broken, chain-in, transitive-there}
 use borrow.Author.Needs.{needs}
 use Rattle.axiomtests.proofs.chain.Statement.{statement}

@@ -3,7 +3,7 @@ use Prim.Native.Nat.{ℕ}
 use Rattle.words.specs.Words.{words}
 use Rattle.pool.specs.Layout.{run}
 use Rattle.states.specs.Conditions.{rises, leastOf, axiomHoldsAt}
-use Rattle.axiomtests.specs.Lines.{rowAxiom}
+use Rattle.ontology.specs.Rows.{rowAxiom}
 use Rattle.axiomtests.proofs.KindLaws.{element-vars}
 use borrow.Author.Needs.{needs}
 use Rattle.axiomtests.proofs.element.Statement.{statement}
@@ -17,10 +17,7 @@ element-mask-requires : tie.Need-element-mask-requires
 element-mask-requires c κs = search needs
 
 show-one-requires : tie.Need-show-one-requires
-show-one-requires c κs =
-    let m = c .before in
-    let P = m .before .before .before .before .pre .0 in
-    (record { size = P .meant .size; of = _; few = P .line .ready .laid .few; is = m .element-mask .ensures (P .known) (P .meant) (P .line) }, P .space)
+show-one-requires c κs = c .before .before .before .before .before .pre .0 .space
 
 same-length : tie.Need-same-length
 same-length c = search needs

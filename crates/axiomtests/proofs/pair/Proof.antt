@@ -4,7 +4,7 @@ use Prim.Native.Nat.{ℕ}
 use Rattle.words.specs.Words.{words}
 use Rattle.pool.specs.Layout.{run}
 use Rattle.states.specs.Conditions.{rises, leastOf, axiomHoldsAt}
-use Rattle.axiomtests.specs.Lines.{rowAxiom}
+use Rattle.ontology.specs.Rows.{rowAxiom}
 use Rattle.axiomtests.proofs.LineLaws.{element-small}
 use Rattle.axiomtests.proofs.KindLaws.{pair-vars}
 use borrow.Author.Needs.{needs}
@@ -23,8 +23,7 @@ show-two-requires c κs =
     let m = c .before in
     let s = m .before .before .before in
     let P = s .pre .0 in
-    let F = m .first-pair .ensures in
-    (record { size = P .meant .size; of = _; few = P .line .ready .laid .few; is = F .set (P .known) (P .meant) (P .store) (P .line) }, element-small (P .line) _ (F .among), P .space)
+    (element-small (P .line) _ (m .first-pair .ensures .among), P .space)
 
 same-length : tie.Need-same-length
 same-length c = search needs

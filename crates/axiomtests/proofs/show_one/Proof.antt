@@ -22,7 +22,7 @@ least-requires : tie.Need-least-requires
 least-requires c κs = search needs
 
 cast-put-word : tie.Need-cast-put-word
-cast-put-word c = let S = c .before .before .before .before .pre .0 in record { fits = omega (arith, c .least .ensures (S .size) (S .of) (S .few) (S .is) .1, S .few) }
+cast-put-word c = record { fits = omega (arith, c .least .ensures .0) }
 
 put-word-requires : tie.Need-put-word-requires
 put-word-requires c κs = search needs
@@ -37,8 +37,8 @@ returns-2 c =
     let e = l .before .before in
     let s = e .before .before in
     let v = words (s .args .scratch .now) in
-    let long : shownAt < length v = omega (arith, length-words (s .args .scratch .now), s .pre .1) in
-    (aside-shown v _ 0 _ (omega arith) (p .put-word .ensures), λ n t h q. least-shown n _ t q _ _ (e .if1 .left) (l .least .ensures n (λ x. not (t (x ∷ []))) h q .0) (shown-first v _ _ long (p .put-word .ensures)))
+    let long : shownAt < length v = omega (arith, length-words (s .args .scratch .now), s .pre) in
+    (aside-shown v _ 0 _ (omega arith) (p .put-word .ensures), λ n t h q. least-shown n _ t q _ _ (e .if1 .left) (l .least .ensures .1 n (λ x. not (t (x ∷ []))) h q .0) (shown-first v _ _ long (p .put-word .ensures)))
 
 pub show-one-spec : {M : Type 1} → statement M
 show-one-spec =

@@ -33,7 +33,7 @@ least-requires : tie.Need-least-requires
 least-requires c κs = search needs
 
 cast-put-word-2 : tie.Need-cast-put-word-2
-cast-put-word-2 c = let S = c .before .before .before .before .before .before .before .before .pre .0 in record { fits = omega (arith, c .least .ensures (S .size) (S .of) (S .few) (S .is) .1, S .few) }
+cast-put-word-2 c = record { fits = omega (arith, c .least .ensures .0) }
 
 put-word-requires-2 : tie.Need-put-word-requires-2
 put-word-requires-2 c κs = search needs
@@ -49,9 +49,9 @@ returns-2 c =
     let e = p1 .before .before in
     let s = e .before .before in
     let v = words (s .args .scratch .now) in
-    let long : shownAt + 1 < length v = omega (arith, length-words (s .args .scratch .now), s .pre .2) in (
+    let long : shownAt + 1 < length v = omega (arith, length-words (s .args .scratch .now), s .pre .1) in (
       aside-trans v _ _ (aside-shown v _ 0 _ (omega arith) (p1 .put-word .ensures)) (aside-shown _ _ 1 _ (omega arith) (p2 .put-word2 .ensures)),
-      λ n t h q. least-behind n _ t q (s .args .x) _ _ (e .if1 .left) (l .least .ensures n (λ x. not (t (x ∷ []))) h q .0) (shown-second v _ _ _ _ long (p1 .put-word .ensures) (p2 .put-word2 .ensures)),
+      λ n t h q. least-behind n _ t q (s .args .x) _ _ (e .if1 .left) (l .least .ensures .1 n (λ x. not (t (x ∷ []))) h q .0) (shown-second v _ _ _ _ long (p1 .put-word .ensures) (p2 .put-word2 .ensures)),
     )
 
 pub show-two-spec : {M : Type 1} → statement M

@@ -25,8 +25,8 @@ number-requires c κs = search needs
 child-requires : tie.Need-child-requires
 child-requires c κs = search needs
 
-self-set-requires : tie.Need-self-set-requires
-self-set-requires c κs =
+loops-requires : tie.Need-loops-requires
+loops-requires c κs =
     let k = c .before .before .before .before in
     let s = k .before .before in
     let a = s .args in
@@ -64,7 +64,7 @@ returns c =
     let s = k .before .before in
     let a = s .args in
     λ w. is-self w (words (a .scratch .now)) (a .t) (a .c) (below-trial (a .scratch .now) (a .t) (a .c) (s .pre .0)) _ (sym (k .kind .ensures) ∙ c .before .match .keys1)
-    (rw (← c .before .before .before .before .role .ensures) (c .self-set .ensures))
+    (rw (← c .before .before .before .before .role .ensures) (c .loops .ensures))
 
 returns-2 : tie.Need-returns-2
 returns-2 c =
@@ -100,7 +100,7 @@ composed-set-spec =
     role-requires
     number-requires
     child-requires
-    self-set-requires
+    loops-requires
     complement-requires
     joint-set-requires
     joint-set-requires-2

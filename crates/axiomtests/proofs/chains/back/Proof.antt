@@ -15,7 +15,7 @@ use Rattle.axiomtests.proofs.chains.back.Statement.{statement}
 use Rattle.axiomtests.proofs.chains.back.Tie as tie
 use Rattle.axiomtests.proofs.chains.back.Reads as reads
 use Rattle.axiomtests.proofs.chains.back.Lts as lts
-use Rattle.axiomtests.proofs.rows.row.Reads as row-reads
+use Rattle.axiomtests.proofs.roles.row.Reads as row-reads
 use Rattle.sets.proofs.both.Reads as both-reads
 use Rattle.sets.proofs.grown.Reads as grown-reads
 

@@ -15,7 +15,7 @@ use Rattle.axiomtests.proofs.chains.fill_left.Reads as reads
 use Rattle.axiomtests.proofs.chains.fill_left.Lts as lts
 use Rattle.axiomtests.proofs.chains.back.Reads as back-reads
 use Rattle.axiomtests.proofs.chains.part.Reads as part-reads
-use Rattle.axiomtests.proofs.rows.row.Reads as row-reads
+use Rattle.axiomtests.proofs.roles.row.Reads as row-reads
 use Rattle.sets.proofs.kept.put_set.Reads as put-set-reads
 use Rattle.sets.proofs.whole.Reads as whole-reads
 use Rattle.sets.proofs.without.Reads as without-reads

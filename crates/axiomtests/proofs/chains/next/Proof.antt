@@ -13,7 +13,7 @@ use Rattle.axiomtests.proofs.chains.next.Tie as tie
 use Rattle.axiomtests.proofs.chains.next.Reads as reads
 use Rattle.axiomtests.proofs.chains.next.Lts as lts
 use Rattle.axiomtests.proofs.chains.part.Reads as part-reads
-use Rattle.axiomtests.proofs.rows.row.Reads as row-reads
+use Rattle.axiomtests.proofs.roles.row.Reads as row-reads
 use Rattle.sets.proofs.both.Reads as both-reads
 use Rattle.sets.proofs.kept.get_set.Reads as get-set-reads
 use Rattle.sets.proofs.least.Reads as least-reads
@@ -62,7 +62,7 @@ returns c =
     let P = s .pre in
     let a = s .args .c in
     let v = words (s .args .scratch .now) in
-    λ I C L. c .least .ensures (I .size) (λ w. related I (roleOf (partCode v a (a .parts - suc (s .args .k)))) (s .args .y) w && not (onward I (roleOf (a .sup)) (s .args .x) (lastParts v a (s .args .k)) w)) (omega (arith, C .sized, P .chain .few))
+    λ I C L. c .least .ensures .1 (I .size) (λ w. related I (roleOf (partCode v a (a .parts - suc (s .args .k)))) (s .args .y) w && not (onward I (roleOf (a .sup)) (s .args .x) (lastParts v a (s .args .k)) w)) (omega (arith, C .sized, P .chain .few))
     (next-mask v (s .args .size) a (s .args .x) (s .args .k) (s .args .y) _ _ _ _ (P .among) (P .element) (p .part .ensures) (r .row .ensures) (g .get-set .ensures) (b .both .ensures) I C L)
 
 pub next-spec : {M : Type 1} → statement M

@@ -9,7 +9,7 @@ use Rattle.axiomtests.proofs.elements.disjoint.Statement.{statement}
 use Rattle.axiomtests.proofs.elements.disjoint.Tie as tie
 use Rattle.axiomtests.proofs.elements.disjoint.Reads as reads
 use Rattle.axiomtests.proofs.elements.disjoint.Lts as lts
-use Rattle.axiomtests.proofs.lists.clashes.Reads as clashes-reads
+use Rattle.axiomtests.proofs.members.clashes.Reads as clashes-reads
 
 add-from : tie.Need-add-from
 add-from c = search needs

@@ -14,8 +14,8 @@ use Rattle.axiomtests.proofs.elements.disjoint_union.Statement.{stateme
 use Rattle.axiomtests.proofs.elements.disjoint_union.Tie as tie
 use Rattle.axiomtests.proofs.elements.disjoint_union.Reads as reads
 use Rattle.axiomtests.proofs.elements.disjoint_union.Lts as lts
-use Rattle.axiomtests.proofs.lists.some.Reads as some-reads
-use Rattle.axiomtests.proofs.lists.clashes.Reads as clashes-reads
+use Rattle.axiomtests.proofs.members.some.Reads as some-reads
+use Rattle.axiomtests.proofs.members.clashes.Reads as clashes-reads
 use Rattle.sets.proofs.differ.Reads as differ-reads
 use Rattle.sets.proofs.either.Reads as either-reads
 use Rattle.sets.proofs.kept.get_set.Reads as get-set-reads

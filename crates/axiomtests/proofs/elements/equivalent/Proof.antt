@@ -8,7 +8,7 @@ use Rattle.axiomtests.proofs.elements.equivalent.Statement.{statement}
 use Rattle.axiomtests.proofs.elements.equivalent.Tie as tie
 use Rattle.axiomtests.proofs.elements.equivalent.Reads as reads
 use Rattle.axiomtests.proofs.elements.equivalent.Lts as lts
-use Rattle.axiomtests.proofs.lists.unlike.Reads as unlike-reads
+use Rattle.axiomtests.proofs.members.unlike.Reads as unlike-reads
 
 add-from : tie.Need-add-from
 add-from c = search needs

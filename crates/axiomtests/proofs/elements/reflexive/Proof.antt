@@ -5,7 +5,7 @@ use Rattle.axiomtests.proofs.elements.reflexive.Statement.{statement}
 use Rattle.axiomtests.proofs.elements.reflexive.Tie as tie
 use Rattle.axiomtests.proofs.elements.reflexive.Reads as reads
 use Rattle.axiomtests.proofs.elements.reflexive.Lts as lts
-use Rattle.axiomtests.proofs.rows.loops.Reads as loops-reads
+use Rattle.sets.proofs.kept.loops.Reads as loops-reads
 use Rattle.sets.proofs.whole.Reads as whole-reads
 use Rattle.sets.proofs.without.Reads as without-reads
 use Rattle.words.proofs.get_word.Reads as get-word-reads

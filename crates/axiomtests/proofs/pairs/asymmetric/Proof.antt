@@ -5,8 +5,8 @@ use Rattle.axiomtests.proofs.pairs.asymmetric.Statement.{statement}
 use Rattle.axiomtests.proofs.pairs.asymmetric.Tie as tie
 use Rattle.axiomtests.proofs.pairs.asymmetric.Reads as reads
 use Rattle.axiomtests.proofs.pairs.asymmetric.Lts as lts
-use Rattle.axiomtests.proofs.rows.row.Reads as row-reads
-use Rattle.axiomtests.proofs.rows.turned.Reads as turned-reads
+use Rattle.axiomtests.proofs.roles.row.Reads as row-reads
+use Rattle.axiomtests.proofs.roles.turned.Reads as turned-reads
 use Rattle.sets.proofs.both.Reads as both-reads
 use Rattle.words.proofs.get_word.Reads as get-word-reads
 

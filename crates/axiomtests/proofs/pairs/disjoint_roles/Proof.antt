@@ -10,7 +10,7 @@ use Rattle.axiomtests.proofs.pairs.disjoint_roles.Statement.{statement}
 use Rattle.axiomtests.proofs.pairs.disjoint_roles.Tie as tie
 use Rattle.axiomtests.proofs.pairs.disjoint_roles.Reads as reads
 use Rattle.axiomtests.proofs.pairs.disjoint_roles.Lts as lts
-use Rattle.axiomtests.proofs.lists.clashes.Reads as clashes-reads
+use Rattle.axiomtests.proofs.members.clashes.Reads as clashes-reads
 
 add-from : tie.Need-add-from
 add-from c = search needs

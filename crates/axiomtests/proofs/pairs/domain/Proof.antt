@@ -11,8 +11,8 @@ use Rattle.axiomtests.proofs.pairs.domain.Statement.{statement}
 use Rattle.axiomtests.proofs.pairs.domain.Tie as tie
 use Rattle.axiomtests.proofs.pairs.domain.Reads as reads
 use Rattle.axiomtests.proofs.pairs.domain.Lts as lts
-use Rattle.axiomtests.proofs.rows.concept.Reads as concept-reads
-use Rattle.axiomtests.proofs.rows.row.Reads as row-reads
+use Rattle.extents.proofs.set_of.Reads as set-of-reads
+use Rattle.axiomtests.proofs.roles.row.Reads as row-reads
 use Rattle.sets.proofs.has.Reads as has-reads
 use Rattle.words.proofs.get_word.Reads as get-word-reads
 
@@ -28,8 +28,8 @@ add-get-word-2 c = search needs
 get-word-requires-2 : tie.Need-get-word-requires-2
 get-word-requires-2 c κs = search needs
 
-concept-requires : tie.Need-concept-requires
-concept-requires c κs = let P = c .before .before .before .pre .0 in (concept-small (P .line) _ _ (c .get-word2 .ensures) (domain-in (P .line) .1), P .space)
+set-of-requires : tie.Need-set-of-requires
+set-of-requires c κs = let P = c .before .before .before .pre .0 in (concept-small (P .line) _ _ (c .get-word2 .ensures) (domain-in (P .line) .1), P .space)
 
 has-requires : tie.Need-has-requires
 has-requires c κs = search needs
@@ -42,7 +42,7 @@ returns c =
     let s = g .before .before .before in
     λ d I w L.
     let among : s .args .x < I .size = omega (arith, s .pre .1, L .fits .size) in
-    domain-none L (s .args .x) (sym (h .has .ensures .1 (I .size) (means I (d .concepts) (getD (words (s .args .scratch .now)) (s .args .at + 2) 0)) among (concept-of L _ _ _ (g .get-word2 .ensures) (domain-in L .1) (k .concept .ensures))) ∙ c .if1 .taken)
+    domain-none L (s .args .x) (sym (h .has .ensures .1 (I .size) (means I (d .concepts) (getD (words (s .args .scratch .now)) (s .args .at + 2) 0)) among (concept-of L _ _ _ (g .get-word2 .ensures) (domain-in L .1) (k .set-of .ensures))) ∙ c .if1 .taken)
 
 row-requires : tie.Need-row-requires
 row-requires c κs = let g = c .before .before .before .before in let s = g .before .before in let P = s .pre .0 in (code-small (P .line) _ _ (g .get-word .ensures) (domain-in (P .line) .0), element-small (P .line) _ (s .pre .1), P .space)
@@ -56,7 +56,7 @@ returns-2 c =
     let s = g .before .before .before in
     λ d I w L.
     let among : s .args .x < I .size = omega (arith, s .pre .1, L .fits .size) in
-    domain-set L (s .args .x) _ _ (sym (h .has .ensures .1 (I .size) (means I (d .concepts) (getD (words (s .args .scratch .now)) (s .args .at + 2) 0)) among (concept-of L _ _ _ (g .get-word2 .ensures) (domain-in L .1) (k .concept .ensures))) ∙ e .if1 .left) (g .before .get-word .ensures) (s .pre .1) (c .row .ensures)
+    domain-set L (s .args .x) _ _ (sym (h .has .ensures .1 (I .size) (means I (d .concepts) (getD (words (s .args .scratch .now)) (s .args .at + 2) 0)) among (concept-of L _ _ _ (g .get-word2 .ensures) (domain-in L .1) (k .set-of .ensures))) ∙ e .if1 .left) (g .before .get-word .ensures) (s .pre .1) (c .row .ensures)
 
 pub domain-spec : {M : Type 1} → statement M
 domain-spec =
@@ -66,7 +66,7 @@ domain-spec =
     get-word-requires
     add-get-word-2
     get-word-requires-2
-    concept-requires
+    set-of-requires
     has-requires
     returns
     row-requires

@@ -8,7 +8,7 @@ use Rattle.axiomtests.proofs.pairs.equivalent_roles.Statement.{statemen
 use Rattle.axiomtests.proofs.pairs.equivalent_roles.Tie as tie
 use Rattle.axiomtests.proofs.pairs.equivalent_roles.Reads as reads
 use Rattle.axiomtests.proofs.pairs.equivalent_roles.Lts as lts
-use Rattle.axiomtests.proofs.lists.unlike.Reads as unlike-reads
+use Rattle.axiomtests.proofs.members.unlike.Reads as unlike-reads
 
 add-from : tie.Need-add-from
 add-from c = search needs

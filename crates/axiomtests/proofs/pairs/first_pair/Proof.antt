@@ -9,7 +9,8 @@ use Rattle.words.specs.Words.{words}
 use Rattle.meaning.specs.Truth.{by-truth}
 use Rattle.states.specs.Conditions.{axiomHoldsAt}
 use Rattle.extents.specs.declared.Trial.{Trial}
-use Rattle.axiomtests.specs.Lines.{rowAxiom, Behind}
+use Rattle.ontology.specs.Rows.{rowAxiom}
+use Rattle.axiomtests.specs.Lines.{Behind}
 use Rattle.axiomtests.proofs.PairLaws.{pair-here, pair-nowhere}
 use Rattle.axiomtests.proofs.pairs.first_pair.Statement.{statement}
 use Rattle.axiomtests.proofs.pairs.first_pair.Tie as tie

@@ -5,8 +5,8 @@ use Rattle.axiomtests.proofs.pairs.inverse.Statement.{statement}
 use Rattle.axiomtests.proofs.pairs.inverse.Tie as tie
 use Rattle.axiomtests.proofs.pairs.inverse.Reads as reads
 use Rattle.axiomtests.proofs.pairs.inverse.Lts as lts
-use Rattle.axiomtests.proofs.rows.row.Reads as row-reads
-use Rattle.axiomtests.proofs.rows.turned.Reads as turned-reads
+use Rattle.axiomtests.proofs.roles.row.Reads as row-reads
+use Rattle.axiomtests.proofs.roles.turned.Reads as turned-reads
 use Rattle.sets.proofs.differ.Reads as differ-reads
 use Rattle.words.proofs.get_word.Reads as get-word-reads
 

@@ -5,8 +5,8 @@ use Rattle.axiomtests.proofs.pairs.range.Statement.{statement}
 use Rattle.axiomtests.proofs.pairs.range.Tie as tie
 use Rattle.axiomtests.proofs.pairs.range.Reads as reads
 use Rattle.axiomtests.proofs.pairs.range.Lts as lts
-use Rattle.axiomtests.proofs.rows.concept.Reads as concept-reads
-use Rattle.axiomtests.proofs.rows.row.Reads as row-reads
+use Rattle.extents.proofs.set_of.Reads as set-of-reads
+use Rattle.axiomtests.proofs.roles.row.Reads as row-reads
 use Rattle.sets.proofs.without.Reads as without-reads
 use Rattle.words.proofs.get_word.Reads as get-word-reads
 
@@ -25,8 +25,8 @@ get-word-requires-2 c κs = search needs
 row-requires : tie.Need-row-requires
 row-requires c κs = let s = c .before .before .before in let P = s .pre .0 in (code-small (P .line) _ _ (c .before .get-word .ensures) (range-in (P .line) .0), element-small (P .line) _ (s .pre .1), P .space)
 
-concept-requires : tie.Need-concept-requires
-concept-requires c κs = let P = c .before .before .before .before .pre .0 in (concept-small (P .line) _ _ (c .before .get-word2 .ensures) (range-in (P .line) .1), P .space)
+set-of-requires : tie.Need-set-of-requires
+set-of-requires c κs = let P = c .before .before .before .before .pre .0 in (concept-small (P .line) _ _ (c .before .get-word2 .ensures) (range-in (P .line) .1), P .space)
 
 without-requires : tie.Need-without-requires
 without-requires c κs = search needs
@@ -38,7 +38,7 @@ returns c =
     let g2 = r .before in
     let g1 = g2 .before in
     let s = g1 .before .before in
-    λ d I w L. range-set L (s .args .x) _ _ _ _ _ (s .pre .1) (g1 .get-word .ensures) (g2 .get-word2 .ensures) (r .row .ensures) (k .concept .ensures) (c .without .ensures)
+    λ d I w L. range-set L (s .args .x) _ _ _ _ _ (s .pre .1) (g1 .get-word .ensures) (g2 .get-word2 .ensures) (r .row .ensures) (k .set-of .ensures) (c .without .ensures)
 
 pub range-spec : {M : Type 1} → statement M
 range-spec =
@@ -49,6 +49,6 @@ range-spec =
     add-get-word-2
     get-word-requires-2
     row-requires
-    concept-requires
+    set-of-requires
     without-requires
     returns)

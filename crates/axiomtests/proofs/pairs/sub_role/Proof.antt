@@ -5,7 +5,7 @@ use Rattle.axiomtests.proofs.pairs.sub_role.Statement.{statement}
 use Rattle.axiomtests.proofs.pairs.sub_role.Tie as tie
 use Rattle.axiomtests.proofs.pairs.sub_role.Reads as reads
 use Rattle.axiomtests.proofs.pairs.sub_role.Lts as lts
-use Rattle.axiomtests.proofs.rows.row.Reads as row-reads
+use Rattle.axiomtests.proofs.roles.row.Reads as row-reads
 use Rattle.sets.proofs.without.Reads as without-reads
 use Rattle.words.proofs.get_word.Reads as get-word-reads
 

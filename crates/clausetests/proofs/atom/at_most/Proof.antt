@@ -6,7 +6,8 @@ use lib.Dec.{leb}
 use borrow.Author.Needs.{needs}
 use Rattle.words.specs.Words.{words}
 use Rattle.states.specs.Masks.{maskOf}
-use Rattle.clausetests.specs.SetLaws.{Rows, countIn}
+use Rattle.sets.specs.Laid.{Rows}
+use Rattle.clausetests.specs.SetLaws.{countIn}
 use Rattle.clausetests.proofs.atom.at_most.Statement.{statement}
 use Rattle.clausetests.proofs.atom.at_most.Tie as tie
 

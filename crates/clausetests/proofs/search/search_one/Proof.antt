@@ -1,8 +1,5 @@
-use mathlib.Core.Path.{sym, _∙_}
-use Prim.Native.Nat.{_/_, _%_, _^_}
+use mathlib.Core.Path.{_∙_}
 use native.Mathlib.Omega.{arith}
-use lib.Dec.{eqb}
-use Rattle.states.specs.MaskLaws.{mask-digits}
 use Rattle.clausetests.proofs.SearchLaws.{last-none, last-some}
 use borrow.Author.Needs.{needs}
 use Rattle.clausetests.proofs.search.search_one.Statement.{statement}
@@ -18,13 +15,13 @@ least-requires : tie.Need-least-requires
 least-requires c κs = search needs
 
 cast-x : tie.Need-cast-x
-cast-x c = let m = c .before .before .args .m in omega (arith, c .least .ensures 64 (λ x. eqb (m / 2 ^ x % 2) 1) (omega arith) (sym (mask-digits 64 m (c .before .before .fits .m .fits))) .1)
+cast-x c = omega (arith, c .least .ensures .0)
 
 alone-requires : tie.Need-alone-requires
 alone-requires c κs = search needs
 
 returns-2 : tie.Need-returns-2
-returns-2 c = let l = c .before in λ n j two F h e. c .alone .ensures 1 (omega arith) ∙ last-some n two j F (l .before .before .args .m) _ e (l .before .if1 .left) (l .least .ensures n (F j) h e .0)
+returns-2 c = let l = c .before in λ n j two F h e. c .alone .ensures 1 (omega arith) ∙ last-some n two j F (l .before .before .args .m) _ e (l .before .if1 .left) (l .least .ensures .1 n (F j) h e .0)
 
 pub search-one-spec : {M : Type 1} → statement M
 search-one-spec =

@@ -1,7 +1,8 @@
 use borrow.Author.Needs.{needs}
-use Rattle.clausifier.specs.RowLaws.{axiom-few, kind-inside, row-axiom, axiom-row}
+use Rattle.clausifier.specs.RowLaws.{axiom-few, row-axiom, axiom-row}
 use Rattle.clausifier.specs.ArmLaws.{axiom-as}
 use Rattle.ontology.specs.Layout.{axiomAt}
+use Rattle.ontology.specs.KeptAxioms.{kind-inside}
 use Rattle.words.specs.Words.{words}
 use native.Mathlib.Omega.{arith}
 use mathlib.Core.Path.{sym}
@@ -10,7 +11,7 @@ use Rattle.clausifier.proofs.axiom.clausify_axiom.Tie as tie
 
 number-requires : tie.Need-number-requires
 number-requires c κs =
-    let s = c .before .before .before .before .before in (axiom-few (words (s .args .scratch .now)) (s .args .k) (s .args .i) (s .pre .1), omega (arith, s .pre .0 .space), kind-inside (words (s .args .scratch .now)) (s .args .k) (s .args .i) (s .pre .1))
+    let s = c .before .before .before .before .before in (axiom-few (words (s .args .scratch .now)) (s .args .k) (s .args .i) (s .pre .1), omega (arith, s .pre .0 .space), kind-inside (words (s .args .scratch .now)) (s .pre .1 .count) (s .args .i) (s .pre .1 .axioms .held) (s .pre .1 .among))
 
 start-requires : tie.Need-start-requires
 start-requires c κs = search needs

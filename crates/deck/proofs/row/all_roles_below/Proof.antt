@@ -4,10 +4,10 @@ use mathlib.Core.Path.{_≡_, refl, _∙_}
 use Prim.Native.Nat.{_-_}
 use lib.ListN.{drop}
 use lib.Dec.{ltb}
-use Rattle.ir.specs.Roles.{roleId, roleOf}
+use Rattle.ir.specs.Roles.{roleId, roleOf, id-half}
 use Rattle.rules.specs.Base.{all}
 use Rattle.text.specs.Rows.{rowAt}
-use Rattle.deck.proofs.RowLaws.{role-half, all-yes, all-no, all-end}
+use Rattle.deck.proofs.RowLaws.{all-yes, all-no, all-end}
 use Rattle.deck.proofs.row.all_roles_below.Statement.{statement}
 use Rattle.deck.proofs.row.all_roles_below.Tie as tie
 
@@ -24,7 +24,7 @@ field-requires : tie.Need-field-requires Inv-loop μ-loop
 field-requires c κs = search needs
 
 returns : tie.Need-returns Inv-loop μ-loop
-returns c = all-no (c .before .before .before .before .before .args .deck .now) (c .before .before .before .before .before .args .p) (c .before .before .before .before .before .args .n) (c .before .before .before .loop .k) _ (c .before .before .loop-test .taken) (c .before .field .ensures) (λ x. ltb (roleId (roleOf x)) (c .before .before .before .before .before .args .roles)) (rw role-half (le-ltb _ _ (c .if1 .taken))) ∙ c .before .before .before .loop .inv
+returns c = all-no (c .before .before .before .before .before .args .deck .now) (c .before .before .before .before .before .args .p) (c .before .before .before .before .before .args .n) (c .before .before .before .loop .k) _ (c .before .before .loop-test .taken) (c .before .field .ensures) (λ x. ltb (roleId (roleOf x)) (c .before .before .before .before .before .args .roles)) (rw id-half (le-ltb _ _ (c .if1 .taken))) ∙ c .before .before .before .loop .inv
 
 add-k : tie.Need-add-k Inv-loop μ-loop
 add-k c = search needs
@@ -33,7 +33,7 @@ loop-less : tie.Need-loop-less Inv-loop μ-loop
 loop-less c = search needs
 
 loop-again : tie.Need-loop-again Inv-loop μ-loop
-loop-again c = all-yes (c .before .before .before .before .before .args .deck .now) (c .before .before .before .before .before .args .p) (c .before .before .before .before .before .args .n) (c .before .before .before .loop .k) _ (c .before .before .loop-test .taken) (c .before .field .ensures) (λ x. ltb (roleId (roleOf x)) (c .before .before .before .before .before .args .roles)) (rw role-half (lt-ltb _ _ (c .if1 .left))) ∙ c .before .before .before .loop .inv
+loop-again c = all-yes (c .before .before .before .before .before .args .deck .now) (c .before .before .before .before .before .args .p) (c .before .before .before .before .before .args .n) (c .before .before .before .loop .k) _ (c .before .before .loop-test .taken) (c .before .field .ensures) (λ x. ltb (roleId (roleOf x)) (c .before .before .before .before .before .args .roles)) (rw id-half (lt-ltb _ _ (c .if1 .left))) ∙ c .before .before .before .loop .inv
 
 returns-2 : tie.Need-returns-2 Inv-loop μ-loop
 returns-2 c = all-end (c .before .before .before .args .deck .now) (c .before .before .before .args .p) (c .before .before .before .args .n) (c .before .loop .k) (c .loop-test .left) (λ x. ltb (roleId (roleOf x)) (c .before .before .before .args .roles)) ∙ c .before .loop .inv

@@ -1,7 +1,7 @@
 use mathlib.Core.Path.{sym, ap, _∙_}
 use mathlib.Core.Bool.{_&&_}
 use lib.Dec.{leb}
-use Rattle.extents.proofs.Laws.{count-rising}
+use Rattle.states.specs.LeastLaws.{count-rising}
 use borrow.Author.Needs.{needs}
 use Rattle.extents.proofs.restriction.at_least.Statement.{statement}
 use Rattle.extents.proofs.restriction.at_least.Tie as tie

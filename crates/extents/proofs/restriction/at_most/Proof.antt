@@ -2,7 +2,7 @@ use mathlib.Core.Path.{sym, ap, _∙_}
 use mathlib.Core.Bool.{_&&_}
 use Prim.Native.Nat.{ℕ}
 use lib.Dec.{leb}
-use Rattle.extents.proofs.Laws.{count-rising}
+use Rattle.states.specs.LeastLaws.{count-rising}
 use borrow.Author.Needs.{needs}
 use Rattle.extents.proofs.restriction.at_most.Statement.{statement}
 use Rattle.extents.proofs.restriction.at_most.Tie as tie

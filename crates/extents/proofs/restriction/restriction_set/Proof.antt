@@ -5,7 +5,8 @@ use Prim.Native.Nat.{ℕ, _-_, _≤_}
 use native.Mathlib.Omega.{arith}
 use Rattle.words.specs.Words.{words}
 use Rattle.states.specs.Masks.{maskOf}
-use Rattle.extents.specs.Sets.{Rows, restricted}
+use Rattle.sets.specs.Laid.{Rows}
+use Rattle.extents.specs.Sets.{restricted}
 use Rattle.extents.proofs.restriction.restriction_set.Statement.{statement}
 use Rattle.extents.proofs.restriction.restriction_set.Tie as tie
 

@@ -1,7 +1,9 @@
 use mathlib.Core.Path.{sym, _∙_}
 use native.Mathlib.Omega.{arith}
+use Rattle.words.specs.Words.{words}
+use Rattle.ontology.specs.KeptAxioms.{kind-inside}
 use Rattle.inverse.specs.BuildLaws.{beside-refl}
-use Rattle.inverse.specs.AxiomLaws.{kind-inside, axiom-idle, roles-inside, first-small, second-small, axiom-entry}
+use Rattle.inverse.specs.AxiomLaws.{axiom-idle, roles-inside, first-small, second-small, axiom-entry}
 use borrow.Author.Needs.{needs}
 use Rattle.inverse.proofs.build.declare_axiom.Statement.{statement}
 use Rattle.inverse.proofs.build.declare_axiom.Tie as tie
@@ -11,7 +13,7 @@ use Rattle.inverse.proofs.build.declare.Reads as declare-reads
 use Rattle.ontology.proofs.axiom.number.Reads as number-reads
 
 number-requires : tie.Need-number-requires
-number-requires c κs = let a = c .before .before in (omega (arith, a .pre .0 .held .few, a .pre .1), a .pre .0 .space, kind-inside (a .args .scratch .now) _ _ (a .pre .0) (a .pre .1))
+number-requires c κs = let a = c .before .before in (omega (arith, a .pre .0 .held .few, a .pre .1), a .pre .0 .space, kind-inside (words (a .args .scratch .now)) _ _ (a .pre .0 .held) (a .pre .1))
 
 same-length : tie.Need-same-length
 same-length c = search needs

@@ -6,7 +6,7 @@ use native.Mathlib.Omega.{arith}
 use Rattle.words.specs.Words.{words}
 use Rattle.words.specs.Laws.{length-words}
 use Rattle.inverse.specs.Layout.{Building}
-use Rattle.inverse.specs.AxiomLaws.{kind-inside}
+use Rattle.ontology.specs.KeptAxioms.{kind-inside}
 use Rattle.reflexive.specs.Steps.{declaredIds, Ready, Walk}
 use Rattle.reflexive.specs.FlagLaws.{id-small, begun-empty, walk-at, walk-end}
 use Rattle.reflexive.specs.AxiomLaws.{reflexive-inside, reflexive-small}
@@ -42,7 +42,7 @@ number-requires c κs =
     let a = c .before .before .before .before .before .before .before .before in
     let h = c .before .loop-test .taken in
     let A = walk-building s (L .scratch) 0 (L .size) (L .i) (a .args .n) (declaredIds (words s)) (L .inv .2) (L .inv .0) in
-    (omega (arith, A .held .few, h), A .space, kind-inside (L .scratch) (a .args .n) (L .i) A h)
+    (omega (arith, A .held .few, h), A .space, kind-inside (words (L .scratch)) (a .args .n) (L .i) (A .held) h)
 
 number-requires-2 : tie.Need-number-requires-2 Inv-loop μ-loop
 number-requires-2 c κs =

@@ -3,7 +3,7 @@ use Prim.Native.Nat.{ℕ, _+_, _-_}
 use native.Mathlib.Omega.{arith}
 use Rattle.words.specs.Words.{words}
 use Rattle.ir.specs.Scratch.{numbersAt}
-use Rattle.inverse.specs.AxiomLaws.{kind-inside}
+use Rattle.ontology.specs.KeptAxioms.{kind-inside}
 use Rattle.reflexive.specs.FlagLaws.{id-small}
 use Rattle.reflexive.specs.AxiomLaws.{sub-inside, sub-small, sup-small, some, equal-codes}
 use Rattle.reflexive.specs.WalkLaws.{edges-none, edges-sub, edges-equal}
@@ -23,7 +23,7 @@ number-requires : tie.Need-number-requires
 number-requires c κs =
     let a = c .before .before in
     let A = a .pre .1 in
-    (omega (arith, A .building .held .few, A .below), A .building .space, kind-inside (a .args .scratch .now) (A .count) (a .args .i) (A .building) (A .below))
+    (omega (arith, A .building .held .few, A .below), A .building .space, kind-inside (words (a .args .scratch .now)) (A .count) (a .args .i) (A .building .held) (A .below))
 
 number-requires-2 : tie.Need-number-requires-2
 number-requires-2 c κs =

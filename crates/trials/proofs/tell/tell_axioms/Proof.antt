@@ -1,10 +1,7 @@
 use lib.ListN.{length}
-use Rattle.trials.specs.declared.judged.Tried.the-variants.{Refused}
-use mathlib.Core.Path.{_≡_, refl, sym, ap, subst, _∙_}
-use mathlib.Core.List.{List}
+use mathlib.Core.Path.{sym, ap, subst, _∙_}
 use Prim.Native.Nat.{ℕ}
 use native.Mathlib.Omega.{arith}
-use Rattle.words.specs.Words.{words}
 use Rattle.rules.specs.DeckLaws.{read-in}
 use Rattle.states.specs.State.{readState}
 use Rattle.states.specs.Test.{axioms, storeTable}
@@ -20,7 +17,7 @@ use Rattle.trials.proofs.tell.tell_axioms.Reads as reads
 use Rattle.trials.proofs.tell.tell_axioms.Lts as lts
 use Rattle.trials.proofs.by_axioms.judge.Reads as judge-reads
 use Rattle.trials.proofs.report.report.Reads as report-reads
-use Rattle.words.proofs.clear.Reads as clear-reads
+use Rattle.trials.proofs.tell.refuse.Reads as refuse-reads
 
 -- src/tell.rt:27:25
 enum-known-reply : tie.Need-enum-known-reply
@@ -57,8 +54,8 @@ enum-known-reply-2 : tie.Need-enum-known-reply-2
 enum-known-reply-2 c = search needs
 
 -- src/tell.rt:32:13
-clear-requires : tie.Need-clear-requires
-clear-requires c κs = search needs
+refuse-requires : tie.Need-refuse-requires
+refuse-requires c κs = search needs
 
 -- src/tell.rt:16:1
 same-length : tie.Need-same-length
@@ -93,7 +90,7 @@ returns-2 : tie.Need-returns-2
 returns-2 c = λ m n.
     let a = c .before .before .before .before .before .before .before .before .before .before .before .args in
     let v = c .before .before .before .before .before .reply2 .given in
-    subst (λ x. TellsAs axioms (a .deck .now) (a .state .now) m n (length (a .store .now)) x (c .before .before .clear .last .0) (Refused (v .0 .0) (v .0 .1 .0))) (sym (v .1)) (refl, c .before .before .clear .ensures)
+    subst (λ x. TellsAs axioms (a .deck .now) (a .state .now) m n (length (a .store .now)) x (c .before .before .refuse .last .1 .1 .0) (c .before .before .refuse .result)) (sym (v .1)) (c .before .before .refuse .ensures)
 
 pub tell-axioms-spec : {M : Type 1} → statement M
 tell-axioms-spec =
@@ -103,7 +100,7 @@ tell-axioms-spec =
     judge-requires
     report-requires
     enum-known-reply-2
-    clear-requires
+    refuse-requires
     same-length
     same-length-2
     returns

@@ -1,10 +1,7 @@
 use lib.ListN.{length}
-use Rattle.trials.specs.declared.judged.Tried.the-variants.{Refused}
-use mathlib.Core.Path.{_≡_, refl, sym, ap, subst, _∙_}
-use mathlib.Core.List.{List}
+use mathlib.Core.Path.{sym, ap, subst, _∙_}
 use Prim.Native.Nat.{ℕ}
 use native.Mathlib.Omega.{arith}
-use Rattle.words.specs.Words.{words}
 use Rattle.rules.specs.DeckLaws.{read-in}
 use Rattle.states.specs.State.{readState}
 use Rattle.states.specs.Test.{clauses, storeTable}
@@ -20,7 +17,7 @@ use Rattle.trials.proofs.tell.tell_clauses.Reads as reads
 use Rattle.trials.proofs.tell.tell_clauses.Lts as lts
 use Rattle.trials.proofs.by_clauses.judge.Reads as judge-reads
 use Rattle.trials.proofs.report.report.Reads as report-reads
-use Rattle.words.proofs.clear.Reads as clear-reads
+use Rattle.trials.proofs.tell.refuse.Reads as refuse-reads
 
 -- src/tell.rt:52:25
 enum-known-reply : tie.Need-enum-known-reply
@@ -67,8 +64,8 @@ enum-known-reply-2 : tie.Need-enum-known-reply-2
 enum-known-reply-2 c = search needs
 
 -- src/tell.rt:59:13
-clear-requires : tie.Need-clear-requires
-clear-requires c κs = search needs
+refuse-requires : tie.Need-refuse-requires
+refuse-requires c κs = search needs
 
 -- src/tell.rt:39:1
 same-length : tie.Need-same-length
@@ -104,7 +101,7 @@ returns-2 : tie.Need-returns-2
 returns-2 c =
     let a = c .before .before .before .before .before .before .before .before .before .before .before .before .before .args in
     let v = c .before .before .before .before .before .reply2 .given in
-    subst (λ x. TellsAs clauses (a .deck .now) (a .state .now) (a .clauses .now) (a .atoms .now) (length (a .store .now)) x (c .before .before .clear .last .0) (Refused (v .0 .0) (v .0 .1 .0))) (sym (v .1)) (refl, c .before .before .clear .ensures)
+    subst (λ x. TellsAs clauses (a .deck .now) (a .state .now) (a .clauses .now) (a .atoms .now) (length (a .store .now)) x (c .before .before .refuse .last .1 .1 .0) (c .before .before .refuse .result)) (sym (v .1)) (c .before .before .refuse .ensures)
 
 pub tell-clauses-spec : {M : Type 1} → statement M
 tell-clauses-spec =
@@ -114,7 +111,7 @@ tell-clauses-spec =
     judge-requires
     report-requires
     enum-known-reply-2
-    clear-requires
+    refuse-requires
     same-length
     same-length-2
     returns

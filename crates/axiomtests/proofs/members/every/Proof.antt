@@ -3,11 +3,11 @@ use native.Mathlib.Omega.{arith}
 use Rattle.words.specs.Words.{words}
 use Rattle.axiomtests.proofs.ListLaws.{Found, everyAt, found-none, found-all, every-next}
 use borrow.Author.Needs.{needs}
-use Rattle.axiomtests.proofs.lists.every.Statement.{statement}
-use Rattle.axiomtests.proofs.lists.every.Tie as tie
-use Rattle.axiomtests.proofs.lists.every.Reads as reads
-use Rattle.axiomtests.proofs.lists.every.Lts as lts
-use Rattle.axiomtests.proofs.lists.member.Reads as member-reads
+use Rattle.axiomtests.proofs.members.every.Statement.{statement}
+use Rattle.axiomtests.proofs.members.every.Tie as tie
+use Rattle.axiomtests.proofs.members.every.Reads as reads
+use Rattle.axiomtests.proofs.members.every.Lts as lts
+use Rattle.axiomtests.proofs.members.member.Reads as member-reads
 use Rattle.sets.proofs.both.Reads as both-reads
 use Rattle.sets.proofs.whole.Reads as whole-reads
 

@@ -8,11 +8,10 @@ use lib.ListN.{length, take, drop, replicate, length-append, length-replicate}
 use lib.Seq.{take-append-seam, drop-append-seam}
 use lib.Dec.{ltb, leb}
 use borrow.Author.Tests.{lt-ltb, le-leb, ne-eqb, ltb-true, ltb-false}
 use Rattle.rules.specs.Text.{mostNumber, columnsOfField, spaces, digits, column, columns, numberIn, number, row, rowBy, rowOf}
-use Rattle.rules.specs.TextLaws.{number-columns}
+use Rattle.rules.specs.TextLaws.{by-test, number-columns}
 use Rattle.rules.specs.Lister.{decimalBy, decimal, fieldText, fieldsText}
 use Rattle.rules.specs.Invariants.{Each}
-use Rattle.meaning.specs.Truth.{by-truth}
 
 -- ---- digits
 -- 10 ^ j
@@ -37,7 +36,7 @@ column-next n h m =
 decimal-columns : (f n : ℕ) (ds : List ℕ) → n < tens (suc f) → n ≤ mostNumber → columns spaces (decimalBy (suc f) n ds) ≡ columns (digits n) ds
 unfolding decimalBy columns
 decimal-columns zero n ds h m = rw (lt-ltb n 10 (omega arith)) (ap (λ x. columns x ds) (column-first n (omega arith)))
-decimal-columns (suc f) n ds h m = by-truth (ltb n 10)
+decimal-columns (suc f) n ds h m = by-test (ltb n 10)
     (λ e. rw e (ap (λ x. columns x ds) (column-first n (ltb-true n 10 e))))
     (λ e. let k = ltb-false n 10 e in rw e (decimal-columns f (n / 10) ((48 + n % 10) ∷ ds) (omega arith) (omega arith) ∙ ap (λ x. columns x ds) (column-next n k m)))
 
@@ -47,10 +46,10 @@ spaces-columns zero l = refl
 spaces-columns (suc k) l = spaces-columns k l
 
 -- ---- a field
-length-decimal : (f n : ℕ) (ds : List ℕ) → length (decimalBy f n ds) ≤ f + length ds
+pub length-decimal : (f n : ℕ) (ds : List ℕ) → length (decimalBy f n ds) ≤ f + length ds
 unfolding decimalBy
 length-decimal zero n ds = omega arith
-length-decimal (suc f) n ds = by-truth (ltb n 10) (λ e. rw e (omega arith)) (λ e. rw e (omega (arith, length-decimal f (n / 10) ((48 + n % 10) ∷ ds))))
+length-decimal (suc f) n ds = by-test (ltb n 10) (λ e. rw e (omega arith)) (λ e. rw e (omega (arith, length-decimal f (n / 10) ((48 + n % 10) ∷ ds))))
 
 -- what stands behind the field's first column, which is a space
 abbrev pub fieldRest : ℕ → List ℕ

@@ -1,9 +1,9 @@
 use mathlib.Core.Path.{refl}
 use borrow.Author.Needs.{needs}
-use Rattle.axiomtests.proofs.lists.clashing.Statement.{statement}
-use Rattle.axiomtests.proofs.lists.clashing.Tie as tie
-use Rattle.axiomtests.proofs.lists.clashing.Reads as reads
-use Rattle.axiomtests.proofs.lists.clashing.Lts as lts
+use Rattle.axiomtests.proofs.members.clashing.Statement.{statement}
+use Rattle.axiomtests.proofs.members.clashing.Tie as tie
+use Rattle.axiomtests.proofs.members.clashing.Reads as reads
+use Rattle.axiomtests.proofs.members.clashing.Lts as lts
 
 returns : tie.Need-returns
 returns c = search needs

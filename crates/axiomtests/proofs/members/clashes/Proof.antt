@@ -10,11 +10,11 @@ use Rattle.states.specs.MaskLaws.{mask-empty}
 use Rattle.axiomtests.specs.Lists.{clashesAt}
 use Rattle.axiomtests.proofs.ListLaws.{Found, found-none, found-all, pairs-next}
 use borrow.Author.Needs.{needs}
-use Rattle.axiomtests.proofs.lists.clashes.Statement.{statement}
-use Rattle.axiomtests.proofs.lists.clashes.Tie as tie
-use Rattle.axiomtests.proofs.lists.clashes.Reads as reads
-use Rattle.axiomtests.proofs.lists.clashes.Lts as lts
-use Rattle.axiomtests.proofs.lists.clash_behind.Reads as clash-behind-reads
+use Rattle.axiomtests.proofs.members.clashes.Statement.{statement}
+use Rattle.axiomtests.proofs.members.clashes.Tie as tie
+use Rattle.axiomtests.proofs.members.clashes.Reads as reads
+use Rattle.axiomtests.proofs.members.clashes.Lts as lts
+use Rattle.axiomtests.proofs.members.clash_behind.Reads as clash-behind-reads
 use Rattle.sets.proofs.either.Reads as either-reads
 
 abbrev Inv-loop : tie.InvT-loop

@@ -3,12 +3,12 @@ use Rattle.words.specs.Words.{words}
 use Rattle.axiomtests.specs.Lists.{numbersOf}
 use Rattle.axiomtests.proofs.ListLaws.{someAt, everyAt, unlike-mask}
 use borrow.Author.Needs.{needs}
-use Rattle.axiomtests.proofs.lists.unlike.Statement.{statement}
-use Rattle.axiomtests.proofs.lists.unlike.Tie as tie
-use Rattle.axiomtests.proofs.lists.unlike.Reads as reads
-use Rattle.axiomtests.proofs.lists.unlike.Lts as lts
-use Rattle.axiomtests.proofs.lists.every.Reads as every-reads
-use Rattle.axiomtests.proofs.lists.some.Reads as some-reads
+use Rattle.axiomtests.proofs.members.unlike.Statement.{statement}
+use Rattle.axiomtests.proofs.members.unlike.Tie as tie
+use Rattle.axiomtests.proofs.members.unlike.Reads as reads
+use Rattle.axiomtests.proofs.members.unlike.Lts as lts
+use Rattle.axiomtests.proofs.members.every.Reads as every-reads
+use Rattle.axiomtests.proofs.members.some.Reads as some-reads
 use Rattle.sets.proofs.without.Reads as without-reads
 
 some-requires : tie.Need-some-requires

@@ -5,9 +5,9 @@ use Prim.Native.Nat.{ℕ, _-_, _≤_}
 use native.Mathlib.Omega.{arith}
 use Rattle.words.specs.Words.{words}
 use Rattle.states.specs.Masks.{maskOf}
-use Rattle.extents.specs.Sets.{Rows}
-use Rattle.extents.proofs.restriction.self_set.Statement.{statement}
-use Rattle.extents.proofs.restriction.self_set.Tie as tie
+use Rattle.sets.specs.Laid.{Rows}
+use Rattle.sets.proofs.kept.loops.Statement.{statement}
+use Rattle.sets.proofs.kept.loops.Tie as tie
 
 abbrev Inv-loop : tie.InvT-loop
 Inv-loop scratch code n m₀ x₀ m x = (x ≤ n) × ((f : ℕ → ℕ → Bool) → Rows (words scratch) code n f → m ≡ maskOf x (λ y. f y y))
@@ -57,8 +57,8 @@ returns c =
     let q : L .x ≡ a .n = omega (arith, c .loop-test .left, L .inv .0) in
     λ f R. L .inv .1 f R ∙ ap (λ (k : ℕ). maskOf k (λ y. f y y)) q
 
-pub self-set-spec : {M : Type 1} → statement M
-self-set-spec =
+pub loops-spec : {M : Type 1} → statement M
+loops-spec =
     tie.close
     (tie.spec
     Inv-loop

@@ -7,12 +7,12 @@ use Rattle.states.specs.MaskLaws.{mask-empty}
 use Rattle.axiomtests.specs.Lists.{numbersFrom}
 use Rattle.axiomtests.proofs.ListLaws.{Found, clashBy, found-none, clash-next}
 use borrow.Author.Needs.{needs}
-use Rattle.axiomtests.proofs.lists.clash_behind.Statement.{statement}
-use Rattle.axiomtests.proofs.lists.clash_behind.Tie as tie
-use Rattle.axiomtests.proofs.lists.clash_behind.Reads as reads
-use Rattle.axiomtests.proofs.lists.clash_behind.Lts as lts
-use Rattle.axiomtests.proofs.lists.clash.Reads as clash-reads
-use Rattle.axiomtests.proofs.lists.member.Reads as member-reads
+use Rattle.axiomtests.proofs.members.clash_behind.Statement.{statement}
+use Rattle.axiomtests.proofs.members.clash_behind.Tie as tie
+use Rattle.axiomtests.proofs.members.clash_behind.Reads as reads
+use Rattle.axiomtests.proofs.members.clash_behind.Lts as lts
+use Rattle.axiomtests.proofs.members.clash.Reads as clash-reads
+use Rattle.axiomtests.proofs.members.member.Reads as member-reads
 use Rattle.sets.proofs.either.Reads as either-reads
 use Rattle.words.proofs.get_word.Reads as get-word-reads
 

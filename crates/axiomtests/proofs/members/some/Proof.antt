@@ -5,11 +5,11 @@ use Rattle.words.specs.Words.{words}
 use Rattle.states.specs.MaskLaws.{mask-empty}
 use Rattle.axiomtests.proofs.ListLaws.{Found, someAt, found-none, found-all, some-next}
 use borrow.Author.Needs.{needs}
-use Rattle.axiomtests.proofs.lists.some.Statement.{statement}
-use Rattle.axiomtests.proofs.lists.some.Tie as tie
-use Rattle.axiomtests.proofs.lists.some.Reads as reads
-use Rattle.axiomtests.proofs.lists.some.Lts as lts
-use Rattle.axiomtests.proofs.lists.member.Reads as member-reads
+use Rattle.axiomtests.proofs.members.some.Statement.{statement}
+use Rattle.axiomtests.proofs.members.some.Tie as tie
+use Rattle.axiomtests.proofs.members.some.Reads as reads
+use Rattle.axiomtests.proofs.members.some.Lts as lts
+use Rattle.axiomtests.proofs.members.member.Reads as member-reads
 use Rattle.sets.proofs.either.Reads as either-reads
 
 abbrev Inv-loop : tie.InvT-loop

@@ -6,12 +6,12 @@ use Rattle.words.specs.Words.{words}
 use Rattle.axiomtests.specs.Lists.{numberOf}
 use Rattle.axiomtests.proofs.ListLaws.{clash-both, clash-none}
 use borrow.Author.Needs.{needs}
-use Rattle.axiomtests.proofs.lists.clash.Statement.{statement}
-use Rattle.axiomtests.proofs.lists.clash.Tie as tie
-use Rattle.axiomtests.proofs.lists.clash.Reads as reads
-use Rattle.axiomtests.proofs.lists.clash.Lts as lts
-use Rattle.axiomtests.proofs.lists.clashing.Reads as clashing-reads
-use Rattle.axiomtests.proofs.lists.member.Reads as member-reads
+use Rattle.axiomtests.proofs.members.clash.Statement.{statement}
+use Rattle.axiomtests.proofs.members.clash.Tie as tie
+use Rattle.axiomtests.proofs.members.clash.Reads as reads
+use Rattle.axiomtests.proofs.members.clash.Lts as lts
+use Rattle.axiomtests.proofs.members.clashing.Reads as clashing-reads
+use Rattle.axiomtests.proofs.members.member.Reads as member-reads
 use Rattle.sets.proofs.both.Reads as both-reads
 use Rattle.words.proofs.get_word.Reads as get-word-reads
 

@@ -1,10 +1,10 @@
 use mathlib.Core.Path.{refl}
 use Rattle.axiomtests.proofs.RoleLaws.{id-small}
 use borrow.Author.Needs.{needs}
-use Rattle.axiomtests.proofs.rows.turned.Statement.{statement}
-use Rattle.axiomtests.proofs.rows.turned.Tie as tie
-use Rattle.axiomtests.proofs.rows.turned.Reads as reads
-use Rattle.axiomtests.proofs.rows.turned.Lts as lts
+use Rattle.axiomtests.proofs.roles.turned.Statement.{statement}
+use Rattle.axiomtests.proofs.roles.turned.Tie as tie
+use Rattle.axiomtests.proofs.roles.turned.Reads as reads
+use Rattle.axiomtests.proofs.roles.turned.Lts as lts
 use Rattle.ir.proofs.role.Role.code.Reads as code-reads
 use Rattle.ir.proofs.role.Role.flip.Reads as flip-reads
 use Rattle.ir.proofs.role.Role.of_code.Reads as of-code-reads

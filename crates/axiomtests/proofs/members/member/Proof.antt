@@ -5,13 +5,13 @@ use native.Mathlib.Omega.{arith}
 use Rattle.words.specs.Words.{words}
 use Rattle.rules.specs.Run.{scratchBytes}
 use Rattle.sets.specs.Kept.{setAt}
-use Rattle.axiomtests.specs.declared.lists.Sets.{Sets}
+use Rattle.axiomtests.specs.declared.members.Sets.{Sets}
 use Rattle.axiomtests.specs.Lists.{numberOf, SetsIn}
 use borrow.Author.Needs.{needs}
-use Rattle.axiomtests.proofs.lists.member.Statement.{statement}
-use Rattle.axiomtests.proofs.lists.member.Tie as tie
-use Rattle.axiomtests.proofs.lists.member.Reads as reads
-use Rattle.axiomtests.proofs.lists.member.Lts as lts
+use Rattle.axiomtests.proofs.members.member.Statement.{statement}
+use Rattle.axiomtests.proofs.members.member.Tie as tie
+use Rattle.axiomtests.proofs.members.member.Reads as reads
+use Rattle.axiomtests.proofs.members.member.Lts as lts
 use Rattle.sets.proofs.kept.get_set.Reads as get-set-reads
 use Rattle.words.proofs.get_word.Reads as get-word-reads
 
