@@ -2,3 +2,4 @@ pub mod Entry
 pub mod Replies
 pub mod NumberLaws
 pub mod MeaningLaws
+pub mod Trials
