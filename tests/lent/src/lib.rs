@@ -1,11 +1,13 @@
-//! The tables that a caller of the proved library lends: their sizes, buffers that are watched; its entry, and what a build
+//! The tables that a caller of the proved library lends: their sizes, buffers that are watched; its entries, and what a build
 //! script needs to link it.
 
 mod library;
 mod link;
 mod table;
 
-pub use library::{Clausify, gorvask_clausify_with_stats};
+pub use library::{
+    Clausify, Try, gorvask_clausify_with_stats, gorvask_try_axioms, gorvask_try_clauses,
+};
 pub use link::link;
 pub use table::Lent;
 
@@ -17,6 +19,9 @@ pub const DEFERRAL: usize = 8;
 
 /// The least bytes of scratch.
 pub const SCRATCH: usize = 1_572_864;
+
+/// The least bytes of the store of a state's test.
+pub const STORE: usize = 65_536;
 
 /// A word's four bytes, low byte first.
 #[must_use]

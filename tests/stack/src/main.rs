@@ -6,7 +6,7 @@ use std::thread;
 
 use deck::generate::{Shape, generate};
 use deck::random::Random;
-use stack::call::Tables;
+use stack::call::{Input, Replies, Tables, state};
 use stack::decks::decks;
 
 /// Shapes of generated decks that nest, and how many of each.
@@ -17,8 +17,8 @@ const PLENTY: usize = 16 << 20;
 
 struct Measured {
     name: String,
-    deck: Vec<u8>,
-    reply: u64,
+    input: Input,
+    replies: Replies,
     bytes: usize,
 }
 
@@ -62,12 +62,17 @@ fn measure(most: usize) -> Vec<Measured> {
             (name, generate(&mut rng, shape))
         });
     let all = decks.chain(drawn).map(|(name, deck)| {
-        let deck = deck::write(&deck);
-        let (reply, bytes) = tables.measured(&deck, most);
+        let input = Input {
+            state: state(deck.individuals, deck.roles),
+            deck: deck::write(&deck),
+        };
+        let (replies, bytes) = tables.measured(&input, most);
+        // Where the deck is accepted its axioms are tested.
+        assert!(replies[0] > 0 || replies[1] < 2, "{name}: {replies:?}");
         Measured {
             name,
-            deck,
-            reply,
+            input,
+            replies,
             bytes,
         }
     });
@@ -79,6 +84,6 @@ fn same_replies(calls: &[Measured]) -> usize {
     let mut tables = Tables::default();
     let same = calls
         .iter()
-        .filter(|call| tables.reply(&call.deck) == call.reply);
+        .filter(|call| tables.replies(&call.input) == call.replies);
     same.count()
 }
