@@ -1,7 +1,8 @@
-/* Gorvask: from a deck of axioms to DL-clauses.
+/* Gorvask: from a deck of axioms to DL-clauses, and a state of the layout tested against both.
  *
- * One function. It keeps no state, allocates nothing and reads no environment, so threads may call it side by side, each
- * with tables of its own. It always ends, and every byte that it was lent is decided by the deck and the lent sizes. */
+ * Three functions. They keep nothing between calls, allocate nothing and read no environment, so threads may call them side by
+ * side, each with tables of its own. A call always ends, and every byte that it was lent is decided by the deck, the state and
+ * the lent sizes. */
 #ifndef GORVASK_H
 #define GORVASK_H
 
@@ -42,6 +43,55 @@ uint64_t gorvask_clausify_with_stats(
     uint8_t *deferrals, size_t deferrals_len,
     uint8_t *numbers, size_t numbers_len,
     uint8_t *scratch, size_t scratch_len);
+
+/* ---- A state of the layout
+ *
+ * The state is a text in a deck's columns: 50 and the number of elements, 1 to 64; then 51, a class and its elements; 52, a
+ * role's id and its pairs; 53, an individual and its element. Lines stand by kind, then by id, each id once; elements, counted
+ * from 0, and pairs strictly rise. 51 takes the deck's classes and the fresh ones; each individual has its line 53. An
+ * individual's class holds its element alone; any other class or role without a line is empty. The state's length has no limit.
+ *
+ * One function tests the deck's axioms, in the order of their lines, the other the clauses that the deck gives, in theirs. The
+ * deck is run for both. The tables are those of gorvask_clausify_with_stats, but for `numbers`: in its place stands `store`,
+ * with at least so many bytes. With 8 * (8192 + the atom records lent) it is quick for every deck. THE DECK, THE STATE AND THE
+ * FIVE TABLES MUST BE DISJOINT. */
+#define GORVASK_STORE_BYTES 65536u
+#define GORVASK_MOST_ELEMENTS 64u
+#define GORVASK_MOST_SHOWN 129u
+
+/* The reply is GORVASK_HOLDS, GORVASK_BROKEN, or a refusal's number times 2^32 plus a line: of 13 the state's, of any other the
+ * deck's, 0 where none is named. With a verdict clauses, atoms and deferrals hold the run's records, then zeros, and the store
+ * the words below, then zeros. After a refusal all of them are zeros. Scratch is all zeros either way. */
+uint64_t gorvask_try_axioms(
+    const uint8_t *deck, size_t deck_len,
+    const uint8_t *state, size_t state_len,
+    uint8_t *clauses, size_t clauses_len,
+    uint8_t *atoms, size_t atoms_len,
+    uint8_t *deferrals, size_t deferrals_len,
+    uint8_t *store, size_t store_len,
+    uint8_t *scratch, size_t scratch_len);
+
+uint64_t gorvask_try_clauses(
+    const uint8_t *deck, size_t deck_len,
+    const uint8_t *state, size_t state_len,
+    uint8_t *clauses, size_t clauses_len,
+    uint8_t *atoms, size_t atoms_len,
+    uint8_t *deferrals, size_t deferrals_len,
+    uint8_t *store, size_t store_len,
+    uint8_t *scratch, size_t scratch_len);
+
+enum gorvask_tried { GORVASK_HOLDS = 0, GORVASK_BROKEN = 1 };
+
+/* The store begins with the ten numbers, as enum gorvask_number has them; then, zeros where all hold: the line of the first
+ * broken axiom or the number of the first broken clause, from 0, how many elements are shown, and these. They are the least
+ * that break it, compared one by one: a clause's variables in rising order, an axiom's as the standard's condition has them. An
+ * assertion shows none. */
+enum gorvask_store_word {
+    GORVASK_STORE_NUMBERS = 0,
+    GORVASK_STORE_BROKEN = 10,
+    GORVASK_STORE_SHOWN = 11,
+    GORVASK_STORE_ELEMENTS = 12
+};
 
 /* ---- Records
  *
@@ -111,7 +161,7 @@ enum gorvask_number {
  *
  * Lines are checked from the first, each for 2 to 9 in turn. 10 to 12 come with the axiom's line, or 0 after the last
  * axiom. 12 may go away with larger tables: lend twice the records and call again, up to the most. It stays where a single
- * body or head passes 256 atoms. */
+ * body or head passes 256 atoms. 13 and 14 are of the tests alone, and follow 12. */
 enum gorvask_refusal {
     GORVASK_WRONG_SIZE = 1,     /* a lent table has the wrong size: see above (line 0) */
     GORVASK_BAD_COLUMNS = 2,    /* the deck exceeds 65,536 bytes (line 0), or the line breaks the column layout */
@@ -126,7 +176,9 @@ enum gorvask_refusal {
     GORVASK_LARGEST_BOUND = 9,  /* a Max with bound 4294967295 */
     GORVASK_VISITS_SPENT = 10,  /* more than 1,000,000 visits */
     GORVASK_POOL_FULL = 11,     /* more than 2,048 concepts or 16,384 list members in normal form */
-    GORVASK_NO_ROOM = 12        /* a body or head of more than 256 atoms, or a table's end */
+    GORVASK_NO_ROOM = 12,       /* a body or head of more than 256 atoms, or a table's end */
+    GORVASK_BAD_STATE = 13,     /* the state's first bad line, 1 if it is empty; 0 where only a line 53 is missing */
+    GORVASK_WIDE_CLAUSE = 14    /* a clause that is to be tested has over four distinct variables (line 0) */
 };
 
 /* ---- Reading */

@@ -1,6 +1,7 @@
 //! Roles and atoms.
 
 use std::fmt;
+use std::iter;
 
 use crate::notation::{self, Naming};
 
@@ -128,6 +129,18 @@ impl Atom {
             Self::Role(..) | Self::Equal(..) => None,
         }
     }
+
+    /// The variables that the atom names, one or two.
+    pub fn variables(self) -> impl Iterator<Item = Var> {
+        let (first, second) = match self {
+            Self::Role(_, u, v) | Self::Equal(u, v) => (u, Some(v)),
+            Self::Class(_, v)
+            | Self::Exists(_, _, v)
+            | Self::AtMost(_, _, _, v)
+            | Self::AtLeast(_, _, _, v) => (v, None),
+        };
+        iter::once(first).chain(second)
+    }
 }
 
 /// In logical notation, as `∃r0⁻.C4(x)`. An atom does not know its deck's counts, so a class is `C` and its id, whatever it
@@ -206,20 +219,22 @@ mod tests {
             (r.to_string(), turned.to_string()),
             ("r3".to_owned(), "r3⁻".to_owned())
         );
-        for (atom, text, class) in [
-            (Atom::Class(4, 2), "C4(y2)", Some(4)),
-            (Atom::Role(turned, 0, 1), "r3⁻(x,y1)", None),
-            (Atom::Exists(r, 0, 0), "∃r3.C0(x)", Some(0)),
-            (Atom::AtMost(r, None, 2, 0), "≤2 r3.⊤(x)", None),
+        for (atom, text, class, variables) in [
+            (Atom::Class(4, 2), "C4(y2)", Some(4), &[2][..]),
+            (Atom::Role(turned, 0, 1), "r3⁻(x,y1)", None, &[0, 1]),
+            (Atom::Exists(r, 0, 0), "∃r3.C0(x)", Some(0), &[0]),
+            (Atom::AtMost(r, None, 2, 0), "≤2 r3.⊤(x)", None, &[0]),
             (
                 Atom::AtLeast(turned, Some(7), 1, 1),
                 "≥1 r3⁻.C7(y1)",
                 Some(7),
+                &[1],
             ),
-            (Atom::Equal(0, 2), "x ≈ y2", None),
+            (Atom::Equal(0, 2), "x ≈ y2", None, &[0, 2]),
         ] {
             assert_eq!(atom.to_string(), text);
             assert_eq!(atom.class(), class);
+            assert!(atom.variables().eq(variables.iter().copied()));
         }
     }
 }

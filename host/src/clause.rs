@@ -1,10 +1,11 @@
 //! One clause, read from the tables.
 
+use std::collections::BTreeSet;
 use std::fmt;
 use std::iter::FusedIterator;
 use std::slice::ChunksExact;
 
-use crate::atom::Atom;
+use crate::atom::{Atom, Var};
 use crate::header::Header;
 use crate::names::Names;
 use crate::notation::{self, Naming, Written};
@@ -39,6 +40,13 @@ impl<'a> Clause<'a> {
     #[must_use]
     pub fn head(&self) -> Atoms<'a> {
         Atoms(self.head.chunks_exact(ATOM_BYTES))
+    }
+
+    /// The variables that its atoms name, each once, rising: in their order a test shows elements.
+    #[must_use]
+    pub fn variables(&self) -> BTreeSet<Var> {
+        let atoms = self.body().chain(self.head());
+        atoms.flat_map(Atom::variables).collect()
     }
 
     /// The counts of the clause's deck.

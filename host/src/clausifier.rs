@@ -82,7 +82,7 @@ impl Clausifier {
     }
 
     /// What is said at [`Clausifier::clausify`], with this for a call.
-    fn clausify_by(
+    pub(crate) fn clausify_by(
         &mut self,
         deck: &[u8],
         mut call: impl FnMut(&mut Tables, &[u8]) -> u64,

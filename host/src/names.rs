@@ -7,22 +7,27 @@ use std::str::FromStr;
 
 use crate::header::Header;
 
+/// The most elements of a state.
+const ELEMENTS: u32 = 64;
+
 /// What is named.
 #[derive(Clone, Copy, Debug, PartialEq, Eq, PartialOrd, Ord)]
 enum Sort {
     Class,
     Individual,
     Role,
+    Element,
 }
 
 impl Sort {
-    const ALL: [Self; 3] = [Self::Class, Self::Individual, Self::Role];
+    const ALL: [Self; 4] = [Self::Class, Self::Individual, Self::Role, Self::Element];
 
     fn word(self) -> &'static str {
         match self {
             Self::Class => "class",
             Self::Individual => "individual",
             Self::Role => "role",
+            Self::Element => "element",
         }
     }
 
@@ -31,15 +36,17 @@ impl Sort {
             Self::Class => "classes",
             Self::Individual => "individuals",
             Self::Role => "roles",
+            Self::Element => "elements",
         }
     }
 
-    /// The letters that stand before a number where there is no name.
+    /// The letters that stand before a number where there is no name. An element is written as two words there.
     fn letters(self) -> &'static [char] {
         match self {
             Self::Class => &['A', 'Q'],
             Self::Individual => &['i'],
             Self::Role => &['r'],
+            Self::Element => &[],
         }
     }
 
@@ -48,6 +55,20 @@ impl Sort {
             Self::Class => header.classes,
             Self::Individual => header.individuals,
             Self::Role => header.roles,
+            Self::Element => ELEMENTS,
+        }
+    }
+
+    /// Where one is named that is not there.
+    fn beyond(self, id: u32, header: Header) -> String {
+        let (word, count, plural) = (self.word(), self.count(header), self.plural());
+        match self {
+            Self::Element => {
+                format!("no state has an {word} {id}: it has at most {count} {plural}, from 0 on")
+            }
+            _ => format!(
+                "the deck has no {word} {id}: its header counts {count} {plural}, from 0 on"
+            ),
         }
     }
 }
@@ -59,10 +80,11 @@ struct Name {
     name: String,
 }
 
-/// Names for classes, individuals and roles, from a text with a line for each: `class 11 Locked`, `individual 0 S1`,
-/// `role 2 calls-normal`. Ids count from 0; a role's is its id and not its code. Empty lines and lines that begin with `#` say
-/// nothing. A name has no space and none of the signs that clauses are written with; within its sort it is given once, and it
-/// is not of the form that numbers without a name are written in (`A7`, `Q7`, `i7`, `r7`), so that it can mean one thing alone.
+/// Names for classes, individuals and roles, and for a state's elements, from a text with a line for each: `class 11 Locked`,
+/// `individual 0 S1`, `role 2 calls-normal`, `element 4 P1`. Ids count from 0; a role's is its id and not its code. Empty lines
+/// and lines that begin with `#` say nothing. A name has no space and none of the signs that clauses are written with; within
+/// its sort it is given once, and it is not of the form that numbers without a name are written in (`A7`, `Q7`, `i7`, `r7`), so
+/// that it can mean one thing alone.
 ///
 /// ```
 /// let names: gorvask::Names = "class 0 Signal\nrole 1 leads\n".parse()?;
@@ -91,14 +113,20 @@ impl Names {
         self.get(Sort::Role, id)
     }
 
+    /// The name of a state's element.
+    #[must_use]
+    pub fn element(&self, id: u32) -> Option<&str> {
+        self.get(Sort::Element, id)
+    }
+
     fn get(&self, sort: Sort, id: u32) -> Option<&str> {
         self.0.get(&(sort, id)).map(|name| name.name.as_str())
     }
 
-    /// Whether the deck has all that is named.
+    /// Whether the deck has all that is named. Elements are the states', which need not have all of them.
     ///
     /// # Errors
-    /// The first line that names something beyond the deck's counts.
+    /// The first line that names something beyond the deck's counts, or an element beyond what any state has.
     pub fn fit(&self, header: Header) -> Result<(), NamesError> {
         let is_beyond = |&(&(sort, id), _): &(&(Sort, u32), &Name)| id >= sort.count(header);
         let beyond = self.0.iter().filter(is_beyond);
@@ -106,12 +134,7 @@ impl Names {
             None => Ok(()),
             Some((&(sort, id), name)) => Err(NamesError {
                 line: name.line,
-                words: format!(
-                    "the deck has no {} {id}: its header counts {} {}, from 0 on",
-                    sort.word(),
-                    sort.count(header),
-                    sort.plural(),
-                ),
+                words: sort.beyond(id, header),
             }),
         }
     }
@@ -175,7 +198,7 @@ fn read(text: &str) -> Result<(Sort, u32, &str), String> {
     let is_sort = |known: &Sort| known.word() == sort;
     let Some(sort) = Sort::ALL.into_iter().find(is_sort) else {
         return Err(format!(
-            "a line begins with class, individual or role, and not with {sort:?}"
+            "a line begins with class, individual, role or element, and not with {sort:?}"
         ));
     };
     let Some(id) = number(id) else {

@@ -65,16 +65,16 @@ pub(crate) fn atom(f: &mut fmt::Formatter<'_>, atom: Atom, naming: Naming<'_>) -
     match atom {
         Atom::Class(id, v) => {
             class(f, id, naming)?;
-            write!(f, "({})", var(v))
+            write!(f, "({})", var_name(v))
         }
         Atom::Role(r, u, v) => {
             role(f, r, naming)?;
-            write!(f, "({},{})", var(u), var(v))
+            write!(f, "({},{})", var_name(u), var_name(v))
         }
         Atom::Exists(r, id, v) => filled(f, "∃", (r, Some(id), v), naming),
         Atom::AtMost(r, id, n, v) => filled(f, &format!("≤{n} "), (r, id, v), naming),
         Atom::AtLeast(r, id, n, v) => filled(f, &format!("≥{n} "), (r, id, v), naming),
-        Atom::Equal(u, v) => write!(f, "{} ≈ {}", var(u), var(v)),
+        Atom::Equal(u, v) => write!(f, "{} ≈ {}", var_name(u), var_name(v)),
     }
 }
 
@@ -92,7 +92,7 @@ fn filled(
         Some(id) => class(f, id, naming)?,
         None => f.write_str("⊤")?,
     }
-    write!(f, "({})", var(v))
+    write!(f, "({})", var_name(v))
 }
 
 fn class(f: &mut fmt::Formatter<'_>, id: ClassId, naming: Naming<'_>) -> fmt::Result {
@@ -121,7 +121,9 @@ pub(crate) fn role(f: &mut fmt::Formatter<'_>, role: Role, naming: Naming<'_>) -
     f.write_str(if role.is_inverse() { "⁻" } else { "" })
 }
 
-fn var(var: Var) -> impl fmt::Display {
+/// What a clause's variable is called: `x`, `y1`, `y2`, ...
+#[must_use]
+pub fn var_name(var: Var) -> impl fmt::Display {
     Written(move |f: &mut fmt::Formatter<'_>| {
         if var == X {
             f.write_str("x")

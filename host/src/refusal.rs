@@ -1,4 +1,4 @@
-//! Why a deck is refused.
+//! Why a deck or a state is refused.
 
 mod wording;
 
@@ -7,7 +7,7 @@ use std::fmt;
 
 use crate::words;
 
-/// A refusal: its number, and the deck's line that it names.
+/// A refusal: its number, and the line that it names, the state's of [`RefusalKind::BadState`] and the deck's of all others.
 #[derive(Clone, Copy, Debug, PartialEq, Eq, Hash)]
 pub struct Refusal {
     number: u32,
@@ -15,11 +15,11 @@ pub struct Refusal {
 }
 
 impl Refusal {
-    /// The refusal that a reply of the C interface tells, none where the deck is accepted.
+    /// The refusal that a reply of the C interface tells; none where the deck is accepted, or a test has its verdict.
     #[must_use]
     pub fn of_reply(reply: u64) -> Option<Self> {
         let [line, number] = words::of(&reply.to_le_bytes());
-        (reply != 0).then_some(Self { number, line })
+        (number != 0).then_some(Self { number, line })
     }
 
     /// What kind of refusal it is.
@@ -30,13 +30,13 @@ impl Refusal {
         known.unwrap_or(RefusalKind::Unknown)
     }
 
-    /// The number, 1 to 12.
+    /// The number, 1 to 14.
     #[must_use]
     pub fn number(self) -> u32 {
         self.number
     }
 
-    /// The line of the deck, from 1; none where no line is at fault.
+    /// The line, from 1; none where no line is at fault.
     #[must_use]
     pub fn line(self) -> Option<u32> {
         (self.line > 0).then_some(self.line)
@@ -47,6 +47,7 @@ impl Refusal {
     pub fn wrong(self) -> &'static str {
         match (self.number, self.line) {
             (2, 0) => wording::TOO_LONG,
+            (13, 0) => wording::NO_ELEMENT,
             _ => self.both()[0],
         }
     }
@@ -68,8 +69,12 @@ impl Refusal {
 /// The line, what is wrong, what to do, and the number.
 impl fmt::Display for Refusal {
     fn fmt(&self, f: &mut fmt::Formatter<'_>) -> fmt::Result {
-        if let Some(line) = self.line() {
-            write!(f, "line {line}: ")?;
+        match self.line() {
+            Some(line) if self.kind() == RefusalKind::BadState => {
+                write!(f, "line {line} of the state: ")?;
+            }
+            Some(line) => write!(f, "line {line}: ")?,
+            None => {}
         }
         let (wrong, remedy) = (self.wrong(), self.remedy());
         write!(f, "{wrong}; to do: {remedy} (refusal {})", self.number)
@@ -79,7 +84,7 @@ impl fmt::Display for Refusal {
 impl Error for Refusal {}
 
 /// The kinds of refusal, each with its number. Lines are checked from the first, each for 2 to 9 in turn; 10 to 12 come where
-/// the run meets them.
+/// the run meets them; 13 and 14, of a state's test, follow them.
 #[derive(Clone, Copy, Debug, PartialEq, Eq, PartialOrd, Ord, Hash)]
 #[repr(u8)]
 #[non_exhaustive]
@@ -110,11 +115,15 @@ pub enum RefusalKind {
     PoolFull = 11,
     /// A body or head of more than 256 atoms, or a table's end.
     NoRoom = 12,
+    /// A state's line that breaks the layout, or an individual without its line.
+    BadState = 13,
+    /// A clause that is to be tested has over four variables.
+    WideClause = 14,
 }
 
 impl RefusalKind {
     /// All that have a number, in the order of their numbers.
-    pub const ALL: [Self; 12] = [
+    pub const ALL: [Self; 14] = [
         Self::WrongSize,
         Self::BadColumns,
         Self::BadLine,
@@ -127,6 +136,8 @@ impl RefusalKind {
         Self::VisitsSpent,
         Self::PoolFull,
         Self::NoRoom,
+        Self::BadState,
+        Self::WideClause,
     ];
 
     /// The kind's number; none where it is unknown.

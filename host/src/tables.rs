@@ -2,6 +2,7 @@
 
 use crate::sizes::Sizes;
 use crate::sys::{self, ATOM_BYTES, CLAUSE_BYTES, DEFERRAL_BYTES, NUMBERS_BYTES, SCRATCH_BYTES};
+use crate::tried::Test;
 
 /// The five tables of a call.
 #[derive(Clone)]
@@ -109,6 +110,47 @@ impl Tables {
                 scratch.len(),
             )
         }
+    }
+
+    /// One call of a test with the tables as they are. The numbers are then those that the store begins with.
+    pub fn call_test(
+        &mut self,
+        test: Test,
+        (deck, state): (&[u8], &[u8]),
+        store: &mut [u8],
+    ) -> u64 {
+        let entry = match test {
+            Test::Axioms => sys::gorvask_try_axioms,
+            Test::Clauses => sys::gorvask_try_clauses,
+        };
+        let Self {
+            clauses,
+            atoms,
+            deferrals,
+            numbers,
+            scratch,
+        } = self;
+        // SAFETY: as above, the store among the tables; deck and state are only read, and may overlap each other.
+        let reply = unsafe {
+            entry(
+                deck.as_ptr(),
+                deck.len(),
+                state.as_ptr(),
+                state.len(),
+                clauses.as_mut_ptr(),
+                clauses.len(),
+                atoms.as_mut_ptr(),
+                atoms.len(),
+                deferrals.as_mut_ptr(),
+                deferrals.len(),
+                store.as_mut_ptr(),
+                store.len(),
+                scratch.as_mut_ptr(),
+                scratch.len(),
+            )
+        };
+        numbers.copy_from_slice(&store[..NUMBERS_BYTES]);
+        reply
     }
 }
 

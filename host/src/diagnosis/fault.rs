@@ -28,6 +28,11 @@ impl Fault {
         }
     }
 
+    /// The same, told by another number.
+    pub fn of_number(self, number: u32) -> Self {
+        Self { number, ..self }
+    }
+
     /// The same, of this line.
     pub fn on(self, line: u32) -> Diagnosis {
         let Self {

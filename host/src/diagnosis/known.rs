@@ -48,7 +48,7 @@ impl Known {
 
     /// Takes a line, which ends with its line feed if it has one, or tells what is wrong with it.
     pub fn enter(&mut self, line: u32, text: &[u8]) -> Result<(), Fault> {
-        let row = shape::row(self, layout::numbers(text)?)?;
+        let row = shape::row(self, layout::numbers("deck", text)?)?;
         limits::check(self, &row)?;
         names::check(self, &row)?;
         if self.section() != Some(row.kind.section) {

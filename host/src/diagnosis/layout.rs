@@ -1,4 +1,4 @@
-//! Refusal 2: the columns of a line.
+//! Refusal 2: the columns of a line. A state's lines have the same.
 
 use super::fault::Fault;
 
@@ -7,14 +7,16 @@ pub(super) const FIELD: usize = 11;
 /// Of UTF-8, and of UTF-16 with either byte first.
 const BYTE_ORDER_MARKS: [&[u8]; 3] = [b"\xef\xbb\xbf", b"\xff\xfe", b"\xfe\xff"];
 
-/// The numbers of a line, which ends with its line feed unless the deck lacks the last one.
-pub(super) fn numbers(text: &[u8]) -> Result<Vec<u32>, Fault> {
+/// The numbers of a line of something, which ends with its line feed unless the last one is missing.
+pub(super) fn numbers(what: &str, text: &[u8]) -> Result<Vec<u32>, Fault> {
     let is_strange = |&byte: &u8| !matches!(byte, b' ' | b'0'..=b'9' | b'\n');
     if let Some(place) = text.iter().position(is_strange) {
-        return Err(fault(stranger(&text[place..])).at(place));
+        return Err(fault(stranger(what, &text[place..])).at(place));
     }
     let Some(line) = text.strip_suffix(b"\n") else {
-        let cause = "the deck ends without a line feed; each line ends with one, the last one too";
+        let cause = format!(
+            "the {what} ends without a line feed; each line ends with one, the last one too"
+        );
         return Err(fault(cause).at(text.len()));
     };
     if line.is_empty() {
@@ -29,11 +31,11 @@ fn fault(cause: impl Into<String>) -> Fault {
 }
 
 /// What the first byte of `text` is, which is neither a digit nor a space.
-fn stranger(text: &[u8]) -> String {
+fn stranger(what: &str, text: &[u8]) -> String {
     let alone = "a line has digits and spaces alone";
     match text[0] {
         _ if BYTE_ORDER_MARKS.iter().any(|mark| text.starts_with(mark)) => {
-            "a byte order mark; save the deck as ASCII, without one".into()
+            format!("a byte order mark; save the {what} as ASCII, without one")
         }
         b'\r' => "a carriage return; a line ends with a line feed alone".into(),
         b'\t' => format!("a tab; numbers are set in columns of {FIELD} with spaces"),

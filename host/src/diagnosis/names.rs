@@ -42,7 +42,7 @@ fn beyond(known: &Known, section: Section, entry: Entry) -> Option<String> {
 }
 
 /// So many of them, numbered from 0.
-fn counted(count: u32, [one, more]: [&str; 2]) -> String {
+pub(super) fn counted(count: u32, [one, more]: [&str; 2]) -> String {
     match count {
         0 => format!("no {one}"),
         1 => format!("1 {one} (0)"),

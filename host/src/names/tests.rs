@@ -16,7 +16,7 @@ fn names(text: &str) -> Result<Names, String> {
 
 #[test]
 fn names_of_each_sort() {
-    let text = "# the junction\nclass 11 Locked\n\n  role\t2  calls-normal\r\nindividual 0 S1\nclass 0 S1\n";
+    let text = "# the junction\nclass 11 Locked\n\n  role\t2  calls-normal\r\nindividual 0 S1\nclass 0 S1\nelement 63 e1\n";
     let names = names(text).expect("names");
     assert_eq!(
         (names.class(11), names.class(0), names.class(1)),
@@ -30,6 +30,7 @@ fn names_of_each_sort() {
         (names.individual(0), names.individual(1)),
         (Some("S1"), None)
     );
+    assert_eq!((names.element(63), names.element(0)), (Some("e1"), None));
     assert_eq!(names.fit(HEADER), Ok(()));
 }
 
@@ -45,7 +46,7 @@ const BAD: &[(&str, &str)] = &[
     ),
     (
         "#\n\nclas 1 A",
-        "line 3: a line begins with class, individual or role, and not with \"clas\"",
+        "line 3: a line begins with class, individual, role or element, and not with \"clas\"",
     ),
     (
         "class one A",
@@ -91,6 +92,10 @@ const BAD: &[(&str, &str)] = &[
     (
         "class 1 A\nclass 1 B",
         "line 2: class 1 has a name already, by line 1",
+    ),
+    (
+        "element 1 P1\nelement 2 P1",
+        "line 2: P1 is the name of element 1 already, by line 1",
     ),
     (
         "class 1 A\n\nclass 7 A",
@@ -142,6 +147,10 @@ fn what_the_deck_has_not_is_told() {
         (
             "individual 2 a",
             "line 1: the deck has no individual 2: its header counts 2 individuals, from 0 on",
+        ),
+        (
+            "element 63 a\nelement 64 b",
+            "line 2: no state has an element 64: it has at most 64 elements, from 0 on",
         ),
     ] {
         let fit = names(text).expect("names").fit(HEADER);

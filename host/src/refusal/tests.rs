@@ -8,7 +8,9 @@ fn refusal(number: u64, line: u64) -> Refusal {
 
 #[test]
 fn a_reply_has_number_and_line() {
-    assert_eq!(Refusal::of_reply(0), None);
+    for verdict in [0, 1] {
+        assert_eq!(Refusal::of_reply(verdict), None);
+    }
     assert_eq!(refusal(12, 0).number(), 12);
     assert_eq!(refusal(12, 0).line(), None);
     assert_eq!(refusal(5, 4_294_967_295).line(), Some(u32::MAX));
@@ -20,7 +22,7 @@ fn kinds_are_numbered_from_one() {
         assert_eq!(kind.number(), Some(number));
         assert_eq!(refusal(u64::from(number), 3).kind(), kind);
     }
-    for number in [0, 13, 256, 268] {
+    for number in [15, 256, 268] {
         assert_eq!(refusal(number, 3).kind(), RefusalKind::Unknown);
         assert_eq!(u64::from(refusal(number, 3).number()), number);
     }
@@ -37,6 +39,13 @@ fn the_text_names_line_and_number() {
         refusal(2, 0)
             .to_string()
             .starts_with("the deck has over 65,536 bytes; ")
+    );
+    let of_state = refusal(13, 17).to_string();
+    assert!(of_state.starts_with("line 17 of the state: the state's line breaks "));
+    assert_eq!(
+        refusal(13, 0).to_string(),
+        "all of the state's lines are good, and an individual has no line 53; to do: correct the state's line, or give the \
+         individual one (refusal 13)"
     );
 }
 
@@ -64,16 +73,13 @@ fn sentence(words: &str) -> String {
 fn the_words_are_those_of_the_page_entries() {
     let page = concat!(env!("CARGO_MANIFEST_DIR"), "/../docs/ENTRIES.md");
     let page = fs::read_to_string(page).expect("the page");
-    for number in 1..=12 {
+    for number in 1..=14 {
         let refusal = refusal(u64::from(number), 5);
         let wrong = match number {
-            2 => {
-                let long = Refusal { line: 0, ..refusal };
-                format!(
-                    "At line 0: {}. Otherwise {}.",
-                    long.wrong(),
-                    refusal.wrong()
-                )
+            2 | 13 => {
+                let no_line = Refusal { line: 0, ..refusal };
+                let [no_line, line] = [no_line, refusal].map(Refusal::wrong);
+                format!("At line 0: {no_line}. Otherwise {line}.")
             }
             _ => sentence(refusal.wrong()),
         };

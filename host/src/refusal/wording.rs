@@ -1,10 +1,10 @@
-//! Words for whoever wrote the deck: the table of refusals in `docs/ENTRIES.md`.
+//! Words for whoever wrote the deck or the state: the table of refusals in `docs/ENTRIES.md`.
 
-/// What is wrong and what to do, of the numbers 1 to 12. Of number 2 it is what is wrong with a line.
-pub const OF_NUMBERS: [[&str; 2]; 12] = [
+/// What is wrong and what to do, of the numbers 1 to 14. Of 2 and 13 it is what is wrong with a line.
+pub const OF_NUMBERS: [[&str; 2]; 14] = [
     [
         "the calling program has lent a table of a wrong size: scratch too small, a table that is not whole records \
-         or too large, or `numbers` other than 40 bytes. The deck was not looked at",
+         or too large, `numbers` other than 40 bytes, or a store under 65,536 bytes. The deck was not looked at",
         "have the program corrected",
     ],
     [
@@ -61,10 +61,24 @@ pub const OF_NUMBERS: [[&str; 2]; 12] = [
         "lend larger tables; where they are the largest or one side is too long, split the axiom or the deck. The lister's \
          are fixed: 1,024 clauses, 2,048 atoms and 256 deferrals",
     ],
+    [
+        "the state's line breaks the columns, or a rule of states: first 50 and 1 to 64 elements; then 51, class and \
+         elements, 52, role id and pairs, 53, individual and element; by kind, then by id, each id once; elements are \
+         below the count, elements and pairs rise; 51 takes declared and fresh classes. An empty state is refused here \
+         at line 1",
+        "correct the state's line, or give the individual one",
+    ],
+    [
+        "a clause has over four distinct variables. The state is laid out well, and the axioms can be tested in it",
+        "test the axioms alone; or give a part of the rule a class of its own",
+    ],
 ];
 
 /// What is wrong where number 2 is about no line.
 pub const TOO_LONG: &str = "the deck has over 65,536 bytes";
+
+/// What is wrong where number 13 is about no line.
+pub const NO_ELEMENT: &str = "all of the state's lines are good, and an individual has no line 53";
 
 /// The same of a number that is not known.
 pub const OF_UNKNOWN: [&str; 2] = [

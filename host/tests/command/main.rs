@@ -9,5 +9,7 @@ mod names;
 mod process;
 mod promise;
 mod refusals;
+mod states;
+mod tries;
 mod usage;
 mod writes;

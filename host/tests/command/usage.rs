@@ -40,7 +40,7 @@ fn help_goes_to_standard_output() {
 
 #[test]
 fn the_help_has_the_statuses() {
-    for status in 0..=4 {
+    for status in 0..=5 {
         assert!(help().contains(&format!("\n  {status}  ")), "{status}");
     }
 }
@@ -66,40 +66,60 @@ fn version_commit_and_toolchain() {
     }
 }
 
+/// Words and what is told of them.
+const WRONG: &[(&[&str], &str)] = &[
+    (
+        &[""],
+        "the subcommand's name is empty; there are list, text, check, try",
+    ),
+    (
+        &["lst"],
+        "there is no subcommand lst; there are list, text, check, try",
+    ),
+    (
+        &["examples/junction.deck"],
+        "examples/junction.deck is no subcommand; to list a deck of that name: gorvask list examples/junction.deck",
+    ),
+    (
+        &["--unproved", "list"],
+        "--unproved is known to the script gorvask at the repository's root, and stands first",
+    ),
+    (
+        &["list", "a", "b"],
+        "one deck at a time, and not both a and b",
+    ),
+    (
+        &["list", "--names", "n"],
+        "there is no option --names (known here: --lister-tables); a deck of that name is given behind --",
+    ),
+    (
+        &["check", "-q"],
+        "there is no option -q (none is known here); a deck of that name is given behind --",
+    ),
+    (&["text", "--names"], "--names takes a value: FILE"),
+    (
+        &["try", "examples/junction.deck"],
+        "a state is tried with its deck, and both are named: gorvask try DECK STATE",
+    ),
+    (
+        &["try", "a", "b", "c"],
+        "one deck and one state at a time, and not c too",
+    ),
+    (
+        &["try", "-", "-"],
+        "the deck and the state cannot both be on standard input",
+    ),
+    (
+        &["try", "a", "b", "-q"],
+        "there is no option -q (known here: --axioms, --clauses, --rows, --names); a file of that name is given behind --",
+    ),
+    (&["try", "--rows=1", "a", "b"], "--rows takes no value"),
+    (&["--version", "x"], "--version stands alone"),
+];
+
 #[test]
 fn wrong_usage_is_told() {
-    for (words, told) in [
-        (
-            &[""][..],
-            "the subcommand's name is empty; there are list, text, check",
-        ),
-        (
-            &["lst"],
-            "there is no subcommand lst; there are list, text, check",
-        ),
-        (
-            &["examples/junction.deck"],
-            "examples/junction.deck is no subcommand; to list a deck of that name: gorvask list examples/junction.deck",
-        ),
-        (
-            &["--unproved", "list"],
-            "--unproved is known to the script gorvask at the repository's root, and stands first",
-        ),
-        (
-            &["list", "a", "b"],
-            "one deck at a time, and not both a and b",
-        ),
-        (
-            &["list", "--names", "n"],
-            "there is no option --names (known here: --lister-tables); a deck of that name is given behind --",
-        ),
-        (
-            &["check", "-q"],
-            "there is no option -q (none is known here); a deck of that name is given behind --",
-        ),
-        (&["text", "--names"], "--names takes a value: FILE"),
-        (&["--version", "x"], "--version stands alone"),
-    ] {
+    for (words, told) in WRONG {
         let ran = run(words);
         assert_eq!((ran.status, ran.out.as_str()), (Some(2), ""));
         assert_eq!(ran.err, format!("gorvask: {told}\n{HINT}"));

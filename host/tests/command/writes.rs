@@ -20,6 +20,8 @@ fn a_full_output_is_status_1() {
         &["check", "examples/junction.deck"],
         &["list", "/dev/null"],
         &["check", "/dev/null"],
+        &["try", "examples/junction.deck", "examples/junction.state"],
+        &["try", "--rows", "examples/junction.deck", "/dev/null"],
         &["--help"],
         &["--version"],
     ] {
@@ -38,8 +40,12 @@ fn a_full_output_is_status_1() {
 
 #[test]
 fn a_promise_that_cannot_be_told_is_status_1() {
-    for words in [["list", "examples/junction.deck"], ["list", "/dev/null"]] {
-        let output = command(&words).stderr(full()).output().expect("a run");
+    for words in [
+        &["list", "examples/junction.deck"][..],
+        &["list", "/dev/null"],
+        &["try", "examples/junction.deck", "/dev/null"],
+    ] {
+        let output = command(words).stderr(full()).output().expect("a run");
         assert_eq!(output.status.code(), Some(1));
     }
 }

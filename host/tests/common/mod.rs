@@ -17,6 +17,11 @@ pub fn deck(rows: &[Vec<u32>]) -> Vec<u8> {
     text.into_bytes()
 }
 
+/// A row of numbers in their columns.
+pub fn row(numbers: &[u32]) -> String {
+    String::from_utf8(deck(&[numbers.to_vec()])).expect("a text")
+}
+
 /// Document 01's worked deck: A0 below Some r0 A1.
 pub fn worked() -> Vec<u8> {
     deck(&[
@@ -35,6 +40,45 @@ pub fn equivalent(classes: u32, times: usize) -> Vec<u8> {
     let all: Vec<u32> = std::iter::once(22).chain(0..classes).collect();
     rows.extend(vec![all; times]);
     deck(&rows)
+}
+
+/// A below some r (B and C): one fresh class, 3. Its last clause, 2, is A(x) → some r 3 (x).
+pub fn with_fresh() -> Vec<u8> {
+    deck(&[
+        vec![0, 3, 0, 1, 3],
+        vec![3, 0],
+        vec![3, 1],
+        vec![3, 2],
+        vec![7, 1, 2],
+        vec![9, 0, 3],
+        vec![21, 0, 4],
+    ])
+}
+
+/// A state of [`with_fresh`]'s deck in which its axiom holds, with these rows for the fresh class.
+pub fn with_fresh_state(fresh: &[Vec<u32>]) -> Vec<u8> {
+    let mut rows = vec![
+        vec![50, 2],
+        vec![51, 0, 0],
+        vec![51, 1, 1],
+        vec![51, 2, 0, 1],
+    ];
+    rows.extend_from_slice(fresh);
+    rows.push(vec![52, 0, 0, 1]);
+    deck(&rows)
+}
+
+/// A clause of five variables: some r of some r of some r of some r A below A.
+pub fn wide() -> Vec<u8> {
+    deck(&[
+        vec![0, 1, 0, 1, 2],
+        vec![3, 0],
+        vec![9, 0, 0],
+        vec![9, 0, 1],
+        vec![9, 0, 2],
+        vec![9, 0, 3],
+        vec![21, 4, 0],
+    ])
 }
 
 /// A deck for each refusal from 2 to 12, with its line.

@@ -13,16 +13,74 @@ pub struct Form {
     pub value: Option<&'static str>,
 }
 
-/// The deck's file and the options.
+/// The files that a subcommand reads.
+#[derive(Clone, Copy, Debug, PartialEq, Eq)]
+pub enum Files {
+    /// A deck; without a name it is on standard input.
+    Deck,
+    /// A deck and a state, both of them named.
+    DeckAndState,
+}
+
+impl Files {
+    /// What the file at a place is, and each one behind the last.
+    fn at(self, place: usize) -> &'static str {
+        match (self, place) {
+            (Self::Deck, _) | (_, 0) => "deck",
+            (Self::DeckAndState, _) => "state",
+        }
+    }
+
+    fn nameless(self, place: usize) -> String {
+        let what = self.at(place);
+        let input = match self {
+            Self::Deck => "take - or nothing for standard input",
+            Self::DeckAndState => "take - for standard input",
+        };
+        format!("the {what}'s name is empty: name a file, or {input}")
+    }
+
+    /// Where these are as many as there can be, and this is one more.
+    fn one_too_many(self, files: &[OsString], file: &OsStr) -> Option<String> {
+        let file = file.to_string_lossy();
+        match (self, files) {
+            (Self::Deck, [first]) => {
+                let first = first.to_string_lossy();
+                Some(format!(
+                    "one deck at a time, and not both {first} and {file}"
+                ))
+            }
+            (Self::DeckAndState, [_, _]) => Some(format!(
+                "one deck and one state at a time, and not {file} too"
+            )),
+            _ => None,
+        }
+    }
+
+    /// Where these are not all that are needed, or cannot be read side by side.
+    fn amiss(self, files: &[OsString]) -> Option<&'static str> {
+        match (self, files) {
+            (Self::DeckAndState, [deck, state]) if deck == "-" && state == "-" => {
+                Some("the deck and the state cannot both be on standard input")
+            }
+            (Self::Deck, _) | (Self::DeckAndState, [_, _]) => None,
+            (Self::DeckAndState, _) => {
+                Some("a state is tried with its deck, and both are named: gorvask try DECK STATE")
+            }
+        }
+    }
+}
+
+/// The files and the options.
 #[derive(Debug, Default)]
 pub struct Arguments {
-    deck: Option<OsString>,
+    files: Vec<OsString>,
     options: Vec<(&'static str, OsString)>,
 }
 
 impl Arguments {
     /// The words behind a subcommand, options in any place. Behind `--` there are none.
-    pub fn read(words: &[OsString], forms: &[Form]) -> Result<Self, Failure> {
+    pub fn read(words: &[OsString], files: Files, forms: &[Form]) -> Result<Self, Failure> {
         let mut arguments = Self::default();
         let mut words = words.iter();
         let mut may_be_option = true;
@@ -32,18 +90,31 @@ impl Arguments {
             if is_option && word == "--" {
                 may_be_option = false;
             } else if is_option {
-                let option = option(word, forms, || words.next().cloned())?;
+                let option = option(word, files, forms, || words.next().cloned())?;
                 arguments.take_option(option)?;
             } else {
-                arguments.take_deck(word)?;
+                arguments.take_file(word, files)?;
             }
         }
-        Ok(arguments)
+        match files.amiss(&arguments.files) {
+            Some(words) => Err(Failure::Usage(words.to_owned())),
+            None => Ok(arguments),
+        }
     }
 
     /// The deck's file; none where it is on standard input.
     pub fn deck(&self) -> Option<&OsStr> {
-        self.deck.as_deref().filter(|deck| *deck != "-")
+        self.file(0)
+    }
+
+    /// The state's file; none where it is on standard input.
+    pub fn state(&self) -> Option<&OsStr> {
+        self.file(1)
+    }
+
+    fn file(&self, place: usize) -> Option<&OsStr> {
+        let file = self.files.get(place)?;
+        (file != "-").then_some(file)
     }
 
     /// The option's value, empty where it takes none; none where it is not given.
@@ -61,20 +132,14 @@ impl Arguments {
         Ok(())
     }
 
-    fn take_deck(&mut self, deck: &OsStr) -> Result<(), Failure> {
-        if deck.is_empty() {
-            return Err(Failure::Usage(
-                "the deck's name is empty: name a file, or take - or nothing for standard input"
-                    .to_owned(),
-            ));
+    fn take_file(&mut self, file: &OsStr, files: Files) -> Result<(), Failure> {
+        if file.is_empty() {
+            return Err(Failure::Usage(files.nameless(self.files.len())));
         }
-        if let Some(first) = &self.deck {
-            let [first, second] = [first, deck].map(OsStr::to_string_lossy);
-            return Err(Failure::Usage(format!(
-                "one deck at a time, and not both {first} and {second}"
-            )));
+        if let Some(words) = files.one_too_many(&self.files, file) {
+            return Err(Failure::Usage(words));
         }
-        self.deck = Some(deck.to_owned());
+        self.files.push(file.to_owned());
         Ok(())
     }
 }
@@ -82,12 +147,13 @@ impl Arguments {
 /// The option of a word, with the value from behind `=` or from the next word.
 fn option(
     word: &OsStr,
+    files: Files,
     forms: &[Form],
     next: impl FnOnce() -> Option<OsString>,
 ) -> Result<(&'static str, OsString), Failure> {
     let (name, value) = parted(word);
     let Some(form) = forms.iter().find(|form| form.name == name) else {
-        return Err(unknown(&word.to_string_lossy(), forms));
+        return Err(unknown(&word.to_string_lossy(), files, forms));
     };
     let name = form.name;
     match (form.value, value) {
@@ -107,104 +173,20 @@ fn parted(word: &OsStr) -> (&OsStr, Option<&OsStr>) {
     (OsStr::from_bytes(name), parts.next().map(OsStr::from_bytes))
 }
 
-fn unknown(word: &str, forms: &[Form]) -> Failure {
+fn unknown(word: &str, files: Files, forms: &[Form]) -> Failure {
     let known: Vec<&str> = forms.iter().map(|form| form.name).collect();
     let known = match known[..] {
         [] => "none is known here".to_owned(),
         _ => format!("known here: {}", known.join(", ")),
     };
+    let file = match files {
+        Files::Deck => "deck",
+        Files::DeckAndState => "file",
+    };
     Failure::Usage(format!(
-        "there is no option {word} ({known}); a deck of that name is given behind --"
+        "there is no option {word} ({known}); a {file} of that name is given behind --"
     ))
 }
 
 #[cfg(test)]
-mod tests {
-    use std::ffi::{OsStr, OsString};
-    use std::os::unix::ffi::OsStrExt;
-
-    use super::{Arguments, Form};
-    use crate::ended::Failure;
-
-    const FORMS: &[Form] = &[
-        Form {
-            name: "--names",
-            value: Some("FILE"),
-        },
-        Form {
-            name: "--flag",
-            value: None,
-        },
-    ];
-
-    fn read(words: &[&str]) -> Result<Arguments, String> {
-        let words: Vec<OsString> = words.iter().map(OsString::from).collect();
-        Arguments::read(&words, FORMS).map_err(|failure| match failure {
-            Failure::Usage(words) => words,
-            other => panic!("no fault of usage: {other:?}"),
-        })
-    }
-
-    #[test]
-    fn the_deck_in_any_place() {
-        for words in [
-            &["d", "--names", "n", "--flag"][..],
-            &["--flag", "--names=n", "d"],
-            &["--names", "n", "--flag", "--", "d"],
-        ] {
-            let arguments = read(words).expect("arguments");
-            assert_eq!(arguments.deck(), Some(OsStr::new("d")));
-            assert_eq!(arguments.option("--names"), Some(OsStr::new("n")));
-            assert_eq!(arguments.option("--flag"), Some(OsStr::new("")));
-        }
-        let behind = read(&["--", "--flag"]).expect("arguments");
-        assert_eq!(behind.deck(), Some(OsStr::new("--flag")));
-        assert_eq!(behind.option("--flag"), None);
-    }
-
-    #[test]
-    fn a_value_that_is_no_text() {
-        for (word, value) in [
-            (&b"--names=n\xff"[..], &b"n\xff"[..]),
-            (b"--names=a=\xfe", b"a=\xfe"),
-            (b"--names=", b""),
-        ] {
-            let words = [OsStr::from_bytes(word).to_owned()];
-            let arguments = Arguments::read(&words, FORMS).expect("arguments");
-            let names = arguments.option("--names");
-            assert_eq!(names, Some(OsStr::from_bytes(value)));
-        }
-    }
-
-    #[test]
-    fn standard_input() {
-        for words in [&[][..], &["-"], &["--", "-"], &["--names", "-"]] {
-            assert_eq!(read(words).expect("arguments").deck(), None);
-        }
-    }
-
-    #[test]
-    fn what_is_wrong_is_told() {
-        for (words, told) in [
-            (
-                &[""][..],
-                "the deck's name is empty: name a file, or take - or nothing for standard input",
-            ),
-            (&["a", "b"], "one deck at a time, and not both a and b"),
-            (&["-", "-"], "one deck at a time, and not both - and -"),
-            (&["--names"], "--names takes a value: FILE"),
-            (&["--flag=1"], "--flag takes no value"),
-            (&["--flag", "--flag"], "--flag is given twice"),
-            (
-                &["--fla"],
-                "there is no option --fla (known here: --names, --flag); a deck of that name is given behind --",
-            ),
-            (
-                &["-n"],
-                "there is no option -n (known here: --names, --flag); a deck of that name is given behind --",
-            ),
-        ] {
-            assert_eq!(read(words).map(|_| ()), Err(told.to_owned()));
-        }
-    }
-}
+mod tests;

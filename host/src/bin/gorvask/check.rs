@@ -3,9 +3,9 @@
 use gorvask::Clausifier;
 
 use crate::accepted::promise;
-use crate::arguments::Arguments;
-use crate::deck::Deck;
+use crate::arguments::{Arguments, Files};
 use crate::ended::{Failure, Status};
+use crate::input::Input;
 use crate::output;
 use crate::refused::{Lent, explain};
 use crate::subcommand::Subcommand;
@@ -13,12 +13,13 @@ use crate::summary::summary;
 
 pub const SUBCOMMAND: Subcommand = Subcommand {
     name: "check",
+    files: Files::Deck,
     options: &[],
     run,
 };
 
 fn run(arguments: &Arguments) -> Result<Status, Failure> {
-    let deck = Deck::read(arguments.deck())?;
+    let deck = Input::deck(arguments.deck())?;
     match Clausifier::new().clausify(&deck.bytes) {
         Ok(clauses) => {
             let is_whole = clauses.provisos().are_met();

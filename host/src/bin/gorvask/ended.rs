@@ -6,7 +6,7 @@ use std::io::{self, Write};
 #[derive(Clone, Copy, Debug, PartialEq, Eq)]
 #[repr(u8)]
 pub enum Status {
-    /// Accepted, and promised whole; or help or version printed.
+    /// Accepted, and promised whole; or all that was tested holds; or help or version printed.
     Whole = 0,
     /// A write failed, or the command itself.
     Failed = 1,
@@ -14,8 +14,10 @@ pub enum Status {
     BadInput = 2,
     /// Accepted, but not promised whole.
     NotWhole = 3,
-    /// The deck is refused.
+    /// The deck or the state is refused.
     Refused = 4,
+    /// The state breaks something that was tested.
+    Broken = 5,
 }
 
 /// What keeps a run from its answer.

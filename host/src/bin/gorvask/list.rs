@@ -6,17 +6,19 @@ use std::iter::once;
 use gorvask::{Clause, Clauses, Clausifier, Refusal, Sizes};
 
 use crate::accepted::promise;
-use crate::arguments::{Arguments, Form};
-use crate::deck::Deck;
+use crate::arguments::{Arguments, Files, Form};
 use crate::ended::{Failure, Status};
+use crate::input::Input;
 use crate::output;
 use crate::refused::{Lent, explain};
+use crate::row::row;
 use crate::subcommand::Subcommand;
 
 const LISTER_TABLES: &str = "--lister-tables";
 
 pub const SUBCOMMAND: Subcommand = Subcommand {
     name: "list",
+    files: Files::Deck,
     options: &[Form {
         name: LISTER_TABLES,
         value: None,
@@ -25,7 +27,7 @@ pub const SUBCOMMAND: Subcommand = Subcommand {
 };
 
 fn run(arguments: &Arguments) -> Result<Status, Failure> {
-    let deck = Deck::read(arguments.deck())?;
+    let deck = Input::deck(arguments.deck())?;
     if arguments.option(LISTER_TABLES).is_some() {
         let mut clausifier = Clausifier::with_sizes(Sizes::LISTER);
         answer(&deck, clausifier.clausify_fixed(&deck.bytes), Lent::Lister)
@@ -36,7 +38,7 @@ fn run(arguments: &Arguments) -> Result<Status, Failure> {
 }
 
 fn answer(
-    deck: &Deck,
+    deck: &Input,
     answer: Result<Clauses<'_>, Refusal>,
     lent: Lent,
 ) -> Result<Status, Failure> {
@@ -69,14 +71,6 @@ fn clause(out: &mut dyn Write, number: u32, clause: Clause<'_>) -> io::Result<()
     row(out, [41, number, body, head])?;
     let mut atoms = clause.body().chain(clause.head());
     atoms.try_for_each(|atom| row(out, once(42).chain(atom.words())))
-}
-
-/// Numbers in 11 columns each.
-fn row(out: &mut dyn Write, numbers: impl IntoIterator<Item = u32>) -> io::Result<()> {
-    for number in numbers {
-        write!(out, "{number:11}")?;
-    }
-    out.write_all(b"\n")
 }
 
 fn count(atoms: usize) -> u32 {

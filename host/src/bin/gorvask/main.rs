@@ -3,14 +3,17 @@
 mod accepted;
 mod arguments;
 mod check;
-mod deck;
 mod ended;
+mod input;
 mod list;
+mod names;
 mod output;
 mod refused;
+mod row;
 mod subcommand;
 mod summary;
 mod text;
+mod trial;
 mod version;
 
 use std::env;

@@ -3,8 +3,8 @@
 use gorvask::diagnosis::{Diagnosis, diagnose};
 use gorvask::{Refusal, RefusalKind};
 
-use crate::deck::Deck;
 use crate::ended::{Failure, Status, tell};
+use crate::input::Input;
 
 /// The most bytes of a line that are shown.
 const SHOWN: usize = 220;
@@ -28,31 +28,51 @@ impl Lent {
 }
 
 /// Lines on standard error: number, line, what is wrong, what to do, the line's text, and the cause where it is known.
-pub fn explain(deck: &Deck, refusal: Refusal, lent: Lent) -> Result<Status, Failure> {
+pub fn explain(deck: &Input, refusal: Refusal, lent: Lent) -> Result<Status, Failure> {
+    tell_refusal(deck, refusal)?;
+    if refusal.kind() == RefusalKind::NoRoom {
+        tell(lent.words())?;
+    }
+    if refusal.line().is_some() {
+        tell_line(deck, refusal)?;
+        tell_cause(diagnose(&deck.bytes), refusal)?;
+    }
+    Ok(Status::Refused)
+}
+
+/// Number and line, what is wrong, and what to do.
+pub fn tell_refusal(input: &Input, refusal: Refusal) -> Result<(), Failure> {
     let number = refusal.number();
     let place = refusal
         .line()
         .map_or(String::new(), |line| format!(", line {line}"));
     tell(&format!(
         "{}: refused by number {number}{place}: {}",
-        deck.name,
+        input.name,
         refusal.wrong()
     ))?;
     tell(&format!("to do: {}", refusal.remedy()))?;
-    if refusal.kind() == RefusalKind::NoRoom {
-        tell(lent.words())?;
-    }
-    if let Some(line) = refusal.line() {
-        tell(&shown(line, deck.line(line)))?;
-        let diagnosis = diagnose(&deck.bytes).filter(|found| agrees(found, refusal));
-        diagnosis.map_or(Ok(()), |found| tell(&cause(&found)))?;
-    }
-    Ok(Status::Refused)
+    Ok(())
 }
 
-/// Whether a reading that nothing proves found what the library found.
+/// The text of the refusal's line, if it names one.
+pub fn tell_line(input: &Input, refusal: Refusal) -> Result<(), Failure> {
+    match refusal.line() {
+        Some(line) => Ok(tell(&shown(input.what, line, input.line(line)))?),
+        None => Ok(()),
+    }
+}
+
+/// The cause, where a reading that nothing proves found what the library found.
+pub fn tell_cause(diagnosis: Option<Diagnosis>, refusal: Refusal) -> Result<(), Failure> {
+    match diagnosis.filter(|found| agrees(found, refusal)) {
+        Some(found) => Ok(tell(&cause(&found))?),
+        None => Ok(()),
+    }
+}
+
 fn agrees(diagnosis: &Diagnosis, refusal: Refusal) -> bool {
-    diagnosis.number == refusal.number() && Some(diagnosis.line) == refusal.line()
+    diagnosis.number == refusal.number() && diagnosis.line == refusal.line().unwrap_or(0)
 }
 
 fn cause(diagnosis: &Diagnosis) -> String {
@@ -64,9 +84,9 @@ fn cause(diagnosis: &Diagnosis) -> String {
 }
 
 /// The line's text, all signs but plain ones escaped.
-fn shown(number: u32, line: Option<&[u8]>) -> String {
+fn shown(what: &str, number: u32, line: Option<&[u8]>) -> String {
     match line {
-        None => "the deck is empty".to_owned(),
+        None => format!("the {what} is empty"),
         Some([]) => format!("line {number} is empty"),
         Some(line) if line.len() <= SHOWN => format!("line {number} is: {}", line.escape_ascii()),
         Some(line) => format!(
@@ -84,13 +104,13 @@ mod tests {
     #[test]
     fn a_line_as_it_is() {
         assert_eq!(
-            shown(3, Some(b"         21          0")),
+            shown("deck", 3, Some(b"         21          0")),
             "line 3 is:          21          0"
         );
-        assert_eq!(shown(3, Some(b"\t21\r")), "line 3 is: \\t21\\r");
-        assert_eq!(shown(3, Some(b"")), "line 3 is empty");
-        assert_eq!(shown(1, None), "the deck is empty");
-        let long = shown(7, Some(&[b'1'; 1_000]));
+        assert_eq!(shown("deck", 3, Some(b"\t21\r")), "line 3 is: \\t21\\r");
+        assert_eq!(shown("deck", 3, Some(b"")), "line 3 is empty");
+        assert_eq!(shown("state", 1, None), "the state is empty");
+        let long = shown("deck", 7, Some(&[b'1'; 1_000]));
         assert_eq!(
             long,
             format!("line 7 has 1000 bytes and begins: {}", "1".repeat(220))

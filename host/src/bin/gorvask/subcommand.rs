@@ -3,25 +3,36 @@
 use std::ffi::{OsStr, OsString};
 use std::path::Path;
 
-use crate::arguments::{Arguments, Form};
+use crate::arguments::{Arguments, Files, Form};
 use crate::ended::{Failure, Status};
-use crate::{check, list, text};
+use crate::{check, list, text, trial};
 
 /// One of the things that the command does with a deck.
 pub struct Subcommand {
     pub name: &'static str,
+    pub files: Files,
     /// The options that it knows.
     pub options: &'static [Form],
     pub run: fn(&Arguments) -> Result<Status, Failure>,
 }
 
 /// All of them; `help.txt` has a line for each.
-pub const ALL: &[Subcommand] = &[list::SUBCOMMAND, text::SUBCOMMAND, check::SUBCOMMAND];
+pub const ALL: &[Subcommand] = &[
+    list::SUBCOMMAND,
+    text::SUBCOMMAND,
+    check::SUBCOMMAND,
+    trial::SUBCOMMAND,
+];
 
 /// Runs the subcommand of that name.
 pub fn run(name: &OsStr, words: &[OsString]) -> Result<Status, Failure> {
     match ALL.iter().find(|subcommand| subcommand.name == name) {
-        Some(subcommand) => (subcommand.run)(&Arguments::read(words, subcommand.options)?),
+        Some(Subcommand {
+            files,
+            options,
+            run,
+            ..
+        }) => run(&Arguments::read(words, *files, options)?),
         None => Err(Failure::Usage(unknown(name))),
     }
 }

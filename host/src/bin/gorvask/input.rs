@@ -7,34 +7,52 @@ use std::io::{self, ErrorKind, IsTerminal, Read};
 use crate::ended::{Failure, tell};
 
 /// One byte more than a deck may have, so that a longer one is refused like the whole of it.
-const MOST: u64 = 65_537;
+const MOST_OF_DECK: u64 = 65_537;
+/// A state that is laid out well has under 871,000,000 bytes: of classes, roles and individuals it has at most 1,069,632, 1,024
+/// and 4,096 lines, and behind an id at most 64 elements, 4,096 pairs and one element. So a longer one has its first bad line
+/// before this too, and is refused like the whole of it.
+const MOST_OF_STATE: u64 = 1 << 30;
 
-/// A deck's bytes and what it is called.
-pub struct Deck {
+/// A deck or a state: its bytes and what it is called.
+pub struct Input {
+    /// What it is.
+    pub what: &'static str,
     pub name: String,
     pub bytes: Vec<u8>,
 }
 
-impl Deck {
+impl Input {
     /// The deck of a file, or of standard input.
-    pub fn read(path: Option<&OsStr>) -> Result<Self, Failure> {
+    pub fn deck(path: Option<&OsStr>) -> Result<Self, Failure> {
+        Self::read("deck", path, MOST_OF_DECK)
+    }
+
+    /// The state of a file, or of standard input.
+    pub fn state(path: Option<&OsStr>) -> Result<Self, Failure> {
+        Self::read("state", path, MOST_OF_STATE)
+    }
+
+    fn read(what: &'static str, path: Option<&OsStr>, most: u64) -> Result<Self, Failure> {
         match path {
             Some(path) => Ok(Self {
+                what,
                 name: path.to_string_lossy().into_owned(),
-                bytes: read_file(path, "deck", MOST)?,
+                bytes: read_file(path, what, most)?,
             }),
-            None => Self::of_standard_input(),
+            None => Self::of_standard_input(what, most),
         }
     }
 
-    fn of_standard_input() -> Result<Self, Failure> {
+    fn of_standard_input(what: &'static str, most: u64) -> Result<Self, Failure> {
         if io::stdin().is_terminal() {
-            tell("reading a deck from the terminal; Ctrl-D ends it, and --help says more")?;
+            tell(&format!(
+                "reading a {what} from the terminal; Ctrl-D ends it, and --help says more"
+            ))?;
         }
         let name = "standard input".to_owned();
         let bytes =
-            read_some(io::stdin().lock(), MOST).map_err(|error| unreadable(&name, &error))?;
-        Ok(Self { name, bytes })
+            read_some(io::stdin().lock(), most).map_err(|error| unreadable(&name, &error))?;
+        Ok(Self { what, name, bytes })
     }
 
     /// A line, from 1, without its line feed.
@@ -74,11 +92,12 @@ fn unreadable(name: &str, error: &io::Error) -> Failure {
 
 #[cfg(test)]
 mod tests {
-    use super::Deck;
+    use super::Input;
 
     #[test]
     fn lines_are_counted_from_one() {
-        let deck = Deck {
+        let deck = Input {
+            what: "deck",
             name: String::new(),
             bytes: b"one\n\nthree".to_vec(),
         };
