@@ -33,6 +33,13 @@ pub fn since(start: Duration) -> Duration {
     now().saturating_sub(start)
 }
 
+/// Processor time of a call, and its answer.
+pub fn timed<T>(call: impl FnOnce() -> T) -> (Duration, T) {
+    let start = now();
+    let answer = call();
+    (since(start), answer)
+}
+
 /// What reading the clock twice takes by itself.
 pub fn own_cost() -> Duration {
     let mut costs: Vec<Duration> = (0..1_001)

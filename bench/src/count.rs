@@ -35,15 +35,21 @@ impl Counter {
         }
     }
 
-    /// Instructions of one call on a deck: with one call, less those without.
-    pub fn call(self, way: Way, deck: &[u8]) -> io::Result<Option<u64>> {
+    /// Instructions of one call on a deck, or on a deck and a state: with one call, less those without.
+    pub fn call(self, way: Way, texts: &[&[u8]]) -> io::Result<Option<u64>> {
         let folder = env::temp_dir().join(format!("gorvask-bench-{}", std::process::id()));
         fs::create_dir_all(&folder)?;
-        let file = folder.join("deck");
-        fs::write(&file, deck)?;
-        let file = text(&file);
-        let [without, with] =
-            ["0", "1"].map(|calls| self.total(&["once", way.name(), &file, calls]));
+        let mut files = Vec::new();
+        for (name, bytes) in ["deck", "state"].into_iter().zip(texts) {
+            let file = folder.join(name);
+            fs::write(&file, bytes)?;
+            files.push(text(&file));
+        }
+        let files: Vec<&str> = files.iter().map(String::as_str).collect();
+        let [without, with] = ["0", "1"].map(|calls| {
+            let words = [&["once", way.name(), calls], &files[..]].concat();
+            self.total(&words)
+        });
         fs::remove_dir_all(&folder)?;
         Ok(with
             .zip(without)

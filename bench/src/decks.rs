@@ -42,7 +42,7 @@ pub const REALISTIC: &str = "realistic, 900 axioms";
 pub const AXIOMS: u32 = 900;
 /// Seeds of the realistic decks: those of 1 to 200 whose decks have sizes nearest to twelve that rise evenly from the
 /// least of the 200 to the greatest.
-const SEEDS: [u64; 12] = [134, 178, 61, 35, 146, 148, 103, 102, 83, 48, 120, 196];
+pub const SEEDS: [u64; 12] = [134, 178, 61, 35, 146, 148, 103, 102, 83, 48, 120, 196];
 /// Axioms of the decks that show how time grows.
 pub const SERIES: [u32; 8] = [16, 32, 64, 128, 256, 512, 900, 1_024];
 

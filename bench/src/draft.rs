@@ -28,8 +28,19 @@ impl Draft {
         deck::write(&self.deck)
     }
 
+    pub fn deck(&self) -> &Deck {
+        &self.deck
+    }
+
     pub fn concepts(&self) -> usize {
         self.deck.concepts.len()
+    }
+
+    /// Takes the concepts behind the first so many away again.
+    pub fn cut(&mut self, concepts: usize) {
+        for concept in self.deck.concepts.drain(concepts..) {
+            self.ids.remove(&concept);
+        }
     }
 
     pub fn axioms(&self) -> usize {

@@ -1,8 +1,10 @@
 //! Decks that lean on one part of the clausifier, up to the limits.
 
 use deck::Axiom;
+use states::second::state::State;
 
 use crate::draft::Draft;
+use crate::layout;
 
 /// Visits that a deck may have.
 const VISITS: u32 = 1_000_000;
@@ -191,4 +193,52 @@ pub fn full_of_clauses() -> Vec<u8> {
         draft.axiom(Axiom::Irreflexive(0));
     }
     draft.bytes()
+}
+
+/// 65,536 clauses of four variables, r(x, 1) s(x, 2) t(x, 3) → A(x), each of r, s and t one of four roles; and a state in which
+/// they hold because the four roles of t are empty. The first three variables may be anything, and so all of it is gone through.
+pub fn four_variables() -> (Vec<u8>, State) {
+    let mut draft = Draft::new(1, 0, 12);
+    let top = draft.top();
+    let parts = [0, 4, 8].map(|first| {
+        let paths: Vec<u32> = (first..first + 4)
+            .map(|role| draft.some(2 * role, top))
+            .collect();
+        draft.or(&paths)
+    });
+    let (sub, sup) = (draft.and(&parts), draft.class(0));
+    for _ in 0..1_024 {
+        draft.below(sub, sup);
+    }
+    let mut state = layout::whole(draft.deck());
+    state.classes.insert(0, Vec::new());
+    for role in 8..12 {
+        state.roles.insert(role, Vec::new());
+    }
+    (draft.bytes(), state)
+}
+
+#[cfg(test)]
+mod tests {
+    use states::second::clauses::variables;
+
+    use super::four_variables;
+    use crate::decks::Known;
+
+    #[test]
+    fn clauses_of_four_variables() {
+        let (deck, state) = four_variables();
+        let Known { listing, .. } = Known::of(&deck);
+        assert_eq!(listing.clauses.len(), 65_536);
+        for clause in &listing.clauses {
+            let all = variables(clause);
+            assert_eq!(all.len(), 4);
+            // Only the last variable's role has no pairs.
+            for [kind, role, .., second] in &clause.body {
+                let is_empty = state.roles[&(role / 2)].is_empty();
+                assert_eq!((*kind, is_empty), (2, *second == all[3]));
+            }
+            assert_eq!((clause.body.len(), clause.head.len()), (3, 1));
+        }
+    }
 }

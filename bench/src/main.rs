@@ -6,6 +6,9 @@ mod decks;
 mod draft;
 mod extreme;
 mod figures;
+mod fitted;
+mod fresh;
+mod layout;
 mod measure;
 mod ours;
 mod plot;
@@ -14,6 +17,8 @@ mod realistic;
 mod report;
 mod results;
 mod store;
+mod trials;
+mod tried;
 mod ways;
 
 use std::error::Error;
@@ -28,6 +33,8 @@ use quiet::Ticks;
 use report::Report;
 use results::{Build, Row};
 use store::Run;
+use trials::Texts;
+use tried::Tried;
 use ways::{Prepared, Way};
 
 const USAGE: &str = "\
@@ -36,8 +43,9 @@ bench measure [--to FILE] [--build plain|LTO] [--rounds N] [--no-counts]
 bench page [--to FOLDER] [--date DATE] [--tools WORDS] FILE..
                              of such runs PERFORMANCE.md and performance.svg in the folder, or the page printed; nothing is
                              written where other work took over 2 % of the processors' time in a run
-bench decks FOLDER           writes the decks
-bench once WAY FILE CALLS    so many calls on one deck, for the counting of instructions
+bench decks FOLDER           writes the decks and states
+bench once WAY CALLS DECK [STATE]
+                             so many calls on one deck, or on a deck and a state, for the counting of instructions
 ";
 
 type Outcome<T = ()> = Result<T, Box<dyn Error>>;
@@ -49,7 +57,8 @@ fn main() -> ExitCode {
         ["measure", ref rest @ ..] => measure(rest),
         ["page", ref rest @ ..] => page(rest),
         ["decks", folder] => write_decks(Path::new(folder)),
-        ["once", way, file, calls] => once(way, file, calls),
+        ["once", way, calls, deck] => once(way, calls, deck),
+        ["once", way, calls, deck, state] => once_with_state(way, calls, [deck, state]),
         ["idle"] => Ok(()),
         _ => Err(USAGE.into()),
     };
@@ -98,7 +107,7 @@ fn measure(words: &[&str]) -> Outcome {
         eprintln!("{}", kind.name);
         let mut row = Row::of(kind.name, build, &kind.decks, rounds);
         if let Some(counter) = counter {
-            row.count(counter, &kind.decks[0])?;
+            row.count(counter, Way::shown(ours::MEASURED), &[&kind.decks[0]])?;
         }
         rows.push(row);
     }
@@ -107,6 +116,8 @@ fn measure(words: &[&str]) -> Outcome {
         eprintln!("{axioms} axioms");
         grown.push(Row::of(&axioms.to_string(), build, &decks, rounds));
     }
+    let states = measure_states(&settings, counter)?;
+    let reading = measure_reading(&settings, counter)?;
     let run = Run {
         build,
         rounds,
@@ -114,12 +125,50 @@ fn measure(words: &[&str]) -> Outcome {
         counter,
         rows,
         series: grown,
+        states,
+        reading,
     };
     match settings.to {
         Some(file) => fs::write(file, run.text())?,
         None => print!("{}", run.text()),
     }
     Ok(())
+}
+
+/// Both tests of each state, and where the second evaluator ends in short time their instructions; nothing without Gorvask.
+fn measure_states(settings: &Settings, counter: Option<Counter>) -> Outcome<Vec<Row>> {
+    let mut rows = Vec::new();
+    if !ours::MEASURED {
+        return Ok(rows);
+    }
+    for kind in trials::tried() {
+        eprintln!("{}", kind.name);
+        let mut row = Row::of_states(&kind, settings.build, settings.rounds);
+        if let Some(counter) = counter.filter(|_| kind.second) {
+            let Texts { deck, state } = &kind.texts[0];
+            row.count(counter, Way::OF_STATES, &[deck, state])?;
+        }
+        rows.push(row);
+    }
+    Ok(rows)
+}
+
+/// The reading of each text, likewise.
+fn measure_reading(settings: &Settings, counter: Option<Counter>) -> Outcome<Vec<Row>> {
+    let mut rows = Vec::new();
+    if !ours::MEASURED {
+        return Ok(rows);
+    }
+    for kind in trials::read() {
+        eprintln!("{}", kind.name);
+        let mut row = Row::of_reading(&kind, settings.build, settings.rounds);
+        if let Some(counter) = counter {
+            let Texts { deck, state } = &kind.texts[0];
+            row.count(counter, Way::READING, &[deck, state])?;
+        }
+        rows.push(row);
+    }
+    Ok(rows)
 }
 
 /// The page of stored runs.
@@ -166,7 +215,7 @@ fn machine() -> String {
 fn write_decks(folder: &Path) -> Outcome {
     fs::create_dir_all(folder)?;
     for kind in kinds() {
-        let name = kind.name.replace(", ", "-").replace([' ', ','], "-");
+        let name = file_name(kind.name);
         for (number, deck) in kind.decks.iter().enumerate() {
             fs::write(folder.join(format!("{name}-{number}.deck")), deck)?;
         }
@@ -176,14 +225,37 @@ fn write_decks(folder: &Path) -> Outcome {
             fs::write(folder.join(format!("series-{axioms}-{number}.deck")), deck)?;
         }
     }
+    for kind in trials::tried().into_iter().chain(trials::read()) {
+        let name = file_name(kind.name);
+        for (number, Texts { deck, state }) in kind.texts.iter().enumerate() {
+            let file = folder.join(format!("tried-{name}-{number}"));
+            fs::write(file.with_extension("deck"), deck)?;
+            fs::write(file.with_extension("state"), state)?;
+        }
+    }
     Ok(())
 }
 
-fn once(way: &str, file: &str, calls: &str) -> Outcome {
-    let deck = fs::read(file)?;
+/// A kind's name without spaces and commas.
+fn file_name(kind: &str) -> String {
+    kind.replace(", ", "-").replace([' ', ','], "-")
+}
+
+fn once(way: &str, calls: &str, deck: &str) -> Outcome {
+    let deck = fs::read(deck)?;
     let is_timed = |way: &Way| Way::timed().contains(way);
     let way = Way::named(way).filter(is_timed).ok_or(USAGE)?;
-    let calls = calls.parse()?;
-    Prepared::new(&deck).time(way, calls, Duration::ZERO);
+    Prepared::new(&deck).time(way, calls.parse()?, Duration::ZERO);
+    Ok(())
+}
+
+fn once_with_state(way: &str, calls: &str, [deck, state]: [&str; 2]) -> Outcome {
+    let texts = Texts {
+        deck: fs::read(deck)?,
+        state: fs::read(state)?,
+    };
+    let is_timed = |way: &Way| Way::OF_STATES.contains(way) || Way::READING.contains(way);
+    let way = Way::named(way).filter(is_timed).ok_or(USAGE)?;
+    Tried::new(&texts).time(way, calls.parse()?, Duration::ZERO);
     Ok(())
 }

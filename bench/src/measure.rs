@@ -3,36 +3,48 @@
 use std::time::Duration;
 
 use crate::clock;
-use crate::ways::{Prepared, Way};
+use crate::ways::Way;
 
 /// How long a sample lasts at least, if it is not a single call.
 const SAMPLE: Duration = Duration::from_millis(4);
+/// Where a call takes so long, cold caches matter little.
+const LONG: Duration = Duration::from_millis(100);
 
 /// Milliseconds of a call in each round, for each way.
 #[derive(Default)]
 pub struct Times(Vec<(Way, Vec<f64>)>);
 
 impl Times {
-    /// Times of every way over so many rounds. Each round has a sample of every way, and begins with another.
-    pub fn of(deck: &mut Prepared<'_>, rounds: usize) -> Self {
+    /// Times of each way over so many rounds. A round has a sample of every way that has not had all of its own, and begins
+    /// with another. `time` is that of so many calls, each less the clock's cost.
+    pub fn of(
+        ways: impl IntoIterator<Item = (Way, usize)>,
+        mut time: impl FnMut(Way, u32, Duration) -> Duration,
+    ) -> Self {
         let cost = clock::own_cost();
-        let mut times: Vec<(Way, u32, Vec<f64>)> = Way::timed()
-            .into_iter()
-            .map(|way| (way, calls(deck, way, cost), Vec::new()))
-            .collect();
-        for round in 0..rounds {
-            let first = round % times.len();
-            times.rotate_left(first);
-            for (way, calls, samples) in &mut times {
-                let time = deck.time(*way, *calls, cost);
-                samples.push(1_000.0 * time.as_secs_f64() / f64::from(*calls));
-            }
-            times.rotate_right(first);
+        let mut sampled: Vec<Sampled> = Vec::new();
+        for (way, rounds) in ways {
+            let calls = calls(|calls| time(way, calls, cost));
+            let times = Vec::new();
+            sampled.push(Sampled {
+                way,
+                rounds,
+                calls,
+                times,
+            });
         }
-        times
-            .into_iter()
-            .map(|(way, _, samples)| (way, samples))
-            .collect()
+        let rounds = sampled.iter().map(|of| of.rounds).max();
+        for round in 0..rounds.unwrap_or(0) {
+            let first = round % sampled.len();
+            sampled.rotate_left(first);
+            for of in sampled.iter_mut().filter(|of| round < of.rounds) {
+                let time = time(of.way, of.calls, cost);
+                let calls = f64::from(of.calls);
+                of.times.push(1_000.0 * time.as_secs_f64() / calls);
+            }
+            sampled.rotate_right(first);
+        }
+        sampled.into_iter().map(|of| (of.way, of.times)).collect()
     }
 
     pub fn add(&mut self, way: Way, times: Vec<f64>) {
@@ -63,11 +75,22 @@ impl FromIterator<(Way, Vec<f64>)> for Times {
     }
 }
 
+/// A way in the course of its rounds.
+struct Sampled {
+    way: Way,
+    rounds: usize,
+    /// Calls of a sample.
+    calls: u32,
+    times: Vec<f64>,
+}
+
 /// Calls of a sample.
-fn calls(deck: &mut Prepared<'_>, way: Way, cost: Duration) -> u32 {
+fn calls(mut time: impl FnMut(u32) -> Duration) -> u32 {
     // The first call meets cold caches.
-    deck.time(way, 1, cost);
-    let once = deck.time(way, 1, cost).max(Duration::from_nanos(100));
+    if time(1) >= LONG {
+        return 1;
+    }
+    let once = time(1).max(Duration::from_nanos(100));
     let calls = SAMPLE.as_nanos() / once.as_nanos();
     u32::try_from(calls).unwrap_or(u32::MAX).clamp(1, 10_000)
 }
@@ -106,7 +129,35 @@ fn quantile(sorted: &[f64], quarters: usize) -> f64 {
 
 #[cfg(test)]
 mod tests {
-    use super::Spread;
+    use std::time::Duration;
+
+    use super::{Spread, Times};
+    use crate::ways::Way;
+
+    #[test]
+    fn ways_have_their_rounds_in_turn() {
+        let mut timed = Vec::new();
+        let ways = [(Way::Axioms, 3), (Way::Clausify, 3), (Way::Clauses, 1)];
+        let times = Times::of(ways, |way, calls, _| {
+            timed.push(way);
+            let one = match way {
+                Way::Axioms => Duration::from_millis(2),
+                Way::Clausify => Duration::from_millis(10),
+                _ => Duration::from_secs(2),
+            };
+            one * calls
+        });
+        let [axioms, clausify, clauses] = ways.map(|(way, _)| way);
+        // Two calls, or one that takes long, say how many a sample has.
+        let before = [axioms, axioms, clausify, clausify, clauses];
+        let rounds = [
+            axioms, clausify, clauses, clausify, axioms, axioms, clausify,
+        ];
+        assert_eq!(timed, [&before[..], &rounds].concat());
+        assert_eq!(times.way(axioms), [2.0; 3]);
+        assert_eq!(times.way(clauses), [2_000.0]);
+        assert_eq!(times.way(Way::Rust), []);
+    }
 
     #[test]
     fn median_and_quarters() {

@@ -38,8 +38,9 @@ const FORMS: [(u32, Form); 26] = [
     (3, Form::RelatedAssertion),
 ];
 
-#[derive(Clone, Copy)]
-enum Form {
+/// What an axiom looks like.
+#[derive(Clone, Copy, Debug, PartialEq, Eq)]
+pub enum Form {
     /// A below B, beside the taxonomy.
     Also,
     /// A below Some r B.
@@ -93,20 +94,19 @@ enum Form {
 /// A deck of so many axioms.
 pub fn realistic(seed: u64, axioms: u32) -> Vec<u8> {
     let mut junction = Junction::new(seed, axioms);
-    junction.taxonomy();
-    let mut forms = FORMS.to_vec();
-    forms.push((junction.plain, Form::Also));
-    let weights: Vec<u32> = forms.iter().map(|&(weight, _)| weight).collect();
     while junction.draft.axioms() < axioms as usize {
-        let form = forms[junction.rng.weighted(&weights)].1;
-        junction.add(form);
+        let form = junction.form();
+        if let Some(axiom) = junction.draw(form) {
+            junction.add(axiom);
+        }
     }
     junction.draft.bytes()
 }
 
-struct Junction {
-    rng: Random,
-    draft: Draft,
+/// A deck in the making, which begins with its taxonomy.
+pub struct Junction {
+    pub rng: Random,
+    pub draft: Draft,
     classes: u32,
     individuals: u32,
     roles: u32,
@@ -117,13 +117,13 @@ struct Junction {
 }
 
 impl Junction {
-    fn new(seed: u64, axioms: u32) -> Self {
+    pub fn new(seed: u64, axioms: u32) -> Self {
         let classes = (axioms / 3).max(6);
         let individuals = (axioms / 15).max(2);
         let roles = (axioms * 2 / 45).max(3);
         let mut rng = Random::new(seed);
         let plain = rng.between(10, 1200);
-        Self {
+        let mut junction = Self {
             rng,
             draft: Draft::new(classes, individuals, roles),
             classes,
@@ -131,10 +131,20 @@ impl Junction {
             roles,
             plain,
             paired: Vec::new(),
-        }
+        };
+        junction.taxonomy();
+        junction
     }
 
-    /// Each class but the first below an earlier one, a tree of a few levels.
+    /// A form, by its weight.
+    pub fn form(&mut self) -> Form {
+        let mut forms = FORMS.to_vec();
+        forms.push((self.plain, Form::Also));
+        let weights: Vec<u32> = forms.iter().map(|&(weight, _)| weight).collect();
+        forms[self.rng.weighted(&weights)].1
+    }
+
+    /// Each class but the first below an earlier one, a tree of a few levels. A class's concept has its number.
     fn taxonomy(&mut self) {
         for class in 0..self.classes {
             self.draft.class(class);
@@ -183,15 +193,23 @@ impl Junction {
         self.draft.some(2 * (individual % self.roles), one)
     }
 
-    fn add(&mut self, form: Form) {
+    /// An axiom of that form; none where the roles of an inverse pair are not two, or stand in another.
+    pub fn draw(&mut self, form: Form) -> Option<Axiom> {
         if let Form::InverseRole = form {
-            self.inverse();
-        } else if let Some(axiom) = self.axiom(form) {
-            self.draft.axiom(axiom);
-        } else {
-            let (sub, sup) = self.inclusion(form);
-            self.draft.below(sub, sup);
+            return self.inverse();
         }
+        let axiom = self.axiom(form).unwrap_or_else(|| {
+            let (sub, sup) = self.inclusion(form);
+            Axiom::SubClassOf(sub, sup)
+        });
+        Some(axiom)
+    }
+
+    pub fn add(&mut self, axiom: Axiom) {
+        if let Axiom::Inverse(first, second) = axiom {
+            self.paired.extend([first / 2, second / 2]);
+        }
+        self.draft.axiom(axiom);
     }
 
     /// An axiom of that form, if it is no inclusion.
@@ -301,12 +319,11 @@ impl Junction {
     }
 
     /// A pair of roles that stand in no other pair.
-    fn inverse(&mut self) {
+    fn inverse(&mut self) -> Option<Axiom> {
         let (first, second) = (self.rng.below(self.roles), self.rng.below(self.roles));
-        if first != second && !self.paired.contains(&first) && !self.paired.contains(&second) {
-            self.paired.extend([first, second]);
-            self.draft.axiom(Axiom::Inverse(2 * first, 2 * second));
-        }
+        let is_paired = |role| self.paired.contains(&role);
+        let is_pair = first != second && !is_paired(first) && !is_paired(second);
+        is_pair.then_some(Axiom::Inverse(2 * first, 2 * second))
     }
 
     fn role_rule(&mut self) -> Axiom {

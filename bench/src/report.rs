@@ -1,5 +1,7 @@
 //! The results as a page of Markdown.
 
+mod states;
+
 use std::fmt::Write;
 
 use crate::count::Counter;
@@ -40,6 +42,10 @@ pub struct Report {
     kinds: Vec<Builds>,
     /// Realistic decks of rising size.
     series: Vec<Builds>,
+    /// Decks with their states.
+    states: Vec<Builds>,
+    /// Texts that are read.
+    reading: Vec<Builds>,
 }
 
 impl Report {
@@ -57,8 +63,14 @@ impl Report {
             .flat_map(|run| &run.rows)
             .flat_map(|row| &row.decks);
         let ours = decks.any(|deck| deck.has(Way::Gorvask));
-        let measured = runs.into_iter().map(|run| (run.rows, run.series));
-        let (rows, series): (Vec<_>, Vec<_>) = measured.unzip();
+        let mut parts = [const { Vec::new() }; 4];
+        for run in runs {
+            let of_run = [run.rows, run.series, run.states, run.reading];
+            for (part, rows) in parts.iter_mut().zip(of_run) {
+                part.extend(rows);
+            }
+        }
+        let [kinds, series, states, reading] = parts.map(Builds::of);
         Self {
             date: date.to_owned(),
             machine: machine.to_owned(),
@@ -68,8 +80,10 @@ impl Report {
             others,
             counter,
             ours,
-            kinds: Builds::of(rows.into_iter().flatten().collect()),
-            series: Builds::of(series.into_iter().flatten().collect()),
+            kinds,
+            series,
+            states,
+            reading,
         }
     }
 
@@ -120,7 +134,16 @@ impl Report {
         writeln!(page, "\n## Instructions\n")?;
         self.instructions(page)?;
         writeln!(page, "\n## How time grows\n")?;
-        self.growth(page)
+        self.growth(page)?;
+        if !self.states.is_empty() {
+            writeln!(page, "\n## States tried\n")?;
+            self.states(page)?;
+        }
+        if !self.reading.is_empty() {
+            writeln!(page, "\n## Reading\n")?;
+            self.reading(page)?;
+        }
+        Ok(())
     }
 
     fn method(&self, page: &mut String) -> std::fmt::Result {

@@ -1,11 +1,12 @@
 //! What was measured of one kind of deck.
 
+mod states;
+
 use std::io;
 
 use crate::count::Counter;
 use crate::decks::Known;
 use crate::measure::{Spread, Times};
-use crate::ours;
 use crate::ways::{Prepared, Way};
 
 /// How this program, and with it the Rust, was built.
@@ -38,7 +39,7 @@ pub struct Row {
     pub counts: Vec<(Way, u64)>,
 }
 
-/// What was measured of one deck.
+/// What was measured of one deck, or of a deck and a state.
 pub struct Measured {
     pub facts: Facts,
     /// Times of each whole run.
@@ -46,14 +47,29 @@ pub struct Measured {
 }
 
 /// A deck's own numbers.
-#[derive(Clone, Copy, Debug, PartialEq, Eq)]
+#[derive(Clone, Copy, Debug, Default, PartialEq, Eq)]
 pub struct Facts {
     pub bytes: usize,
+    /// Bytes of the state, where there is one.
+    pub state: usize,
     pub axioms: usize,
     pub clauses: usize,
     pub visits: usize,
     /// Records of the tables that Gorvask is lent.
     pub lent: [usize; 3],
+}
+
+impl Facts {
+    fn of(bytes: &[u8], known: &Known, lent: [usize; 3]) -> Self {
+        Self {
+            bytes: bytes.len(),
+            state: 0,
+            axioms: known.deck.axioms.len(),
+            clauses: known.listing.clauses.len(),
+            visits: known.listing.visits as usize,
+            lent,
+        }
+    }
 }
 
 /// The least and the greatest.
@@ -73,10 +89,15 @@ impl Row {
         }
     }
 
-    /// Counts the instructions of each way on a deck.
-    pub fn count(&mut self, counter: Counter, deck: &[u8]) -> io::Result<()> {
-        for way in Way::shown(ours::MEASURED) {
-            if let Some(count) = counter.call(way, deck)? {
+    /// Counts the instructions of each way on a deck, or on a deck and a state.
+    pub fn count(
+        &mut self,
+        counter: Counter,
+        ways: impl IntoIterator<Item = Way>,
+        texts: &[&[u8]],
+    ) -> io::Result<()> {
+        for way in ways {
+            if let Some(count) = counter.call(way, texts)? {
                 self.counts.push((way, count));
             }
         }
@@ -188,10 +209,21 @@ impl Builds {
         } else {
             Way::Rust
         };
-        let median = |row: &Row| row.time(by).median;
+        self.quickest(by)
+    }
+
+    /// The build in which a way takes less time.
+    pub fn quickest(&self, way: Way) -> &Row {
+        let median = |row: &Row| row.time(way).median;
         let rows = self.0.iter();
         rows.min_by(|first, second| median(first).total_cmp(&median(second)))
             .expect("a kind has a row")
+    }
+
+    /// The plain build, or where it was not measured the other.
+    pub fn plain(&self) -> &Row {
+        let plain = self.0.iter().find(|row| row.build == Build::Plain);
+        plain.unwrap_or(&self.0[0])
     }
 }
 
@@ -213,14 +245,9 @@ impl Measured {
         let known = Known::of(bytes);
         let mut deck = Prepared::new(bytes);
         deck.compare();
-        let facts = Facts {
-            bytes: bytes.len(),
-            axioms: known.deck.axioms.len(),
-            clauses: known.listing.clauses.len(),
-            visits: known.listing.visits as usize,
-            lent: deck.lent(),
-        };
-        let times = Times::of(&mut deck, rounds);
+        let facts = Facts::of(bytes, &known, deck.lent());
+        let ways = Way::timed().into_iter().map(|way| (way, rounds));
+        let times = Times::of(ways, |way, calls, cost| deck.time(way, calls, cost));
         Self {
             facts,
             runs: vec![times],
@@ -256,6 +283,11 @@ impl Measured {
     /// Milliseconds of a call of Gorvask without clearing.
     pub fn without_clearing(&self) -> f64 {
         without_clearing(|way| self.time(way))
+    }
+
+    /// Milliseconds of a way beyond those of another, by their medians. They are timed apart, so it could fall below 0.
+    pub fn beyond(&self, way: Way, other: Way) -> f64 {
+        (self.time(way).median - self.time(other).median).max(0.0)
     }
 
     /// Microseconds for each 1,000 bytes of the deck, of a call that takes so many milliseconds.
@@ -295,6 +327,7 @@ mod tests {
     fn deck(bytes: usize, runs: Vec<Times>) -> Measured {
         let facts = Facts {
             bytes,
+            state: 0,
             axioms: 1,
             clauses: 2,
             visits: 3,

@@ -8,6 +8,9 @@ use crate::measure::Times;
 use crate::results::{Build, Facts, Measured, Row};
 use crate::ways::Way;
 
+/// The first words of the lines that begin a row.
+const PARTS: [&str; 4] = ["row", "series", "state", "reading"];
+
 /// One whole run of one build.
 pub struct Run {
     pub build: Build,
@@ -18,6 +21,10 @@ pub struct Run {
     pub rows: Vec<Row>,
     /// Realistic decks of rising size.
     pub series: Vec<Row>,
+    /// Decks with their states.
+    pub states: Vec<Row>,
+    /// Texts that are read.
+    pub reading: Vec<Row>,
 }
 
 impl Run {
@@ -31,13 +38,24 @@ impl Run {
         let counter = self.counter.map_or("none", Counter::name);
         let (build, rounds, others) = (self.build.name(), self.rounds, self.others);
         writeln!(text, "run\t{build}\t{rounds}\t{others}\t{counter}")?;
-        for (word, rows) in [("row", &self.rows), ("series", &self.series)] {
+        let parts = [&self.rows, &self.series, &self.states, &self.reading];
+        for (part, rows) in PARTS.into_iter().zip(parts) {
             for row in rows {
-                writeln!(text, "{word}\t{}", row.name)?;
+                writeln!(text, "{part}\t{}", row.name)?;
                 write_row(text, row)?;
             }
         }
         Ok(())
+    }
+
+    /// The rows of a part.
+    fn part(&mut self, part: &str) -> &mut Vec<Row> {
+        match part {
+            "row" => &mut self.rows,
+            "series" => &mut self.series,
+            "state" => &mut self.states,
+            _ => &mut self.reading,
+        }
     }
 
     /// The run of a text, none where a line is not as it should be.
@@ -53,17 +71,18 @@ impl Run {
             counter: Counter::named(counter),
             rows: Vec::new(),
             series: Vec::new(),
+            states: Vec::new(),
+            reading: Vec::new(),
         };
-        let mut in_series = false;
+        let mut part = PARTS[0];
         for line in lines {
             let fields = fields(line);
-            in_series |= fields[0] == "series";
-            let rows = if in_series {
-                &mut run.series
-            } else {
-                &mut run.rows
-            };
-            read_line(rows, run.build, &fields)?;
+            part = PARTS
+                .into_iter()
+                .find(|of| *of == fields[0])
+                .unwrap_or(part);
+            let build = run.build;
+            read_line(run.part(part), build, &fields)?;
         }
         Some(run)
     }
@@ -80,11 +99,11 @@ fn write_row(text: &mut String, row: &Row) -> std::fmt::Result {
     for deck in &row.decks {
         let facts = &deck.facts;
         let [clauses, atoms, deferrals] = facts.lent;
-        let (bytes, axioms, found, visits) =
-            (facts.bytes, facts.axioms, facts.clauses, facts.visits);
+        let (bytes, state, axioms) = (facts.bytes, facts.state, facts.axioms);
+        let (found, visits) = (facts.clauses, facts.visits);
         writeln!(
             text,
-            "deck\t{bytes}\t{axioms}\t{found}\t{visits}\t{clauses}\t{atoms}\t{deferrals}"
+            "deck\t{bytes}\t{state}\t{axioms}\t{found}\t{visits}\t{clauses}\t{atoms}\t{deferrals}"
         )?;
         for (way, times) in deck.runs.iter().flat_map(|times| times.ways()) {
             let times: Vec<String> = times.iter().map(f64::to_string).collect();
@@ -96,7 +115,7 @@ fn write_row(text: &mut String, row: &Row) -> std::fmt::Result {
 
 fn read_line(rows: &mut Vec<Row>, build: Build, fields: &[&str]) -> Option<()> {
     match *fields {
-        ["row" | "series", name] => rows.push(Row {
+        [part, name] if PARTS.contains(&part) => rows.push(Row {
             name: name.to_owned(),
             build,
             decks: Vec::new(),
@@ -122,11 +141,12 @@ fn read_line(rows: &mut Vec<Row>, build: Build, fields: &[&str]) -> Option<()> {
 
 fn facts_of(fields: &[&str]) -> Option<Facts> {
     let numbers: Option<Vec<usize>> = fields.iter().map(|field| field.parse().ok()).collect();
-    let [bytes, axioms, clauses, visits, lent @ ..] = &numbers?[..] else {
+    let [bytes, state, axioms, clauses, visits, lent @ ..] = &numbers?[..] else {
         return None;
     };
     Some(Facts {
         bytes: *bytes,
+        state: *state,
         axioms: *axioms,
         clauses: *clauses,
         visits: *visits,
@@ -141,20 +161,30 @@ mod tests {
     const TEXT: &str = "run\tLTO\t2\t0.015\tperf\n\
         row\twide, own branches\n\
         count\tRust\t1234\n\
-        deck\t100\t2\t3\t4\t5\t6\t7\n\
+        deck\t100\t0\t2\t3\t4\t5\t6\t7\n\
         time\tRust\t0.5\t0.25\n\
         time\tRust alone\t0.1\t0.2\n\
-        deck\t200\t2\t3\t4\t5\t6\t7\n\
+        deck\t200\t0\t2\t3\t4\t5\t6\t7\n\
         series\t16\n\
-        deck\t300\t2\t3\t4\t5\t6\t7\n\
-        time\tRust\t0.125\t1\n";
+        deck\t300\t0\t2\t3\t4\t5\t6\t7\n\
+        time\tRust\t0.125\t1\n\
+        state\trealistic, all holds\n\
+        count\taxioms\t77\n\
+        deck\t400\t500\t2\t3\t4\t5\t6\t7\n\
+        time\tclausify\t0.25\t0.5\n\
+        time\tsecond evaluator, axioms\t9\n\
+        reading\tlists\n\
+        deck\t600\t0\t0\t0\t0\t5\t6\t7\n\
+        time\trefused at the last line\t0.75\n";
 
     #[test]
     fn a_text_is_read_back() {
         let run = Run::of(TEXT).expect("a run");
-        assert_eq!((run.rows.len(), run.series.len()), (1, 1));
+        let rows = [&run.rows, &run.series, &run.states, &run.reading];
+        assert_eq!(rows.map(Vec::len), [1; 4]);
         assert_eq!(run.rows[0].decks.len(), 2);
         assert_eq!(run.series[0].decks[0].facts.lent, [5, 6, 7]);
+        assert_eq!(run.states[0].decks[0].facts.state, 500);
         assert_eq!(run.text(), TEXT);
     }
 

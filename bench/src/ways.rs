@@ -27,6 +27,20 @@ pub enum Way {
     ClearTables,
     /// Zeros over scratch.
     ClearScratch,
+    /// `clausify_with_stats` of the C interface.
+    Clausify,
+    /// `try_axioms` of the C interface.
+    Axioms,
+    /// `try_clauses` of the C interface.
+    Clauses,
+    /// The second evaluator's verdict on the axioms.
+    SecondAxioms,
+    /// The second evaluator's verdict on the clauses.
+    SecondClauses,
+    /// A text that is refused at its last line.
+    ReadAll,
+    /// One that is refused at its first.
+    ReadNothing,
 }
 
 impl Way {
@@ -37,8 +51,14 @@ impl Way {
         Self::ClearTables,
         Self::ClearScratch,
     ];
+    /// The C interface, of a deck and a state.
+    pub const OF_STATES: [Self; 3] = [Self::Clausify, Self::Axioms, Self::Clauses];
+    /// The second evaluator.
+    pub const SECOND: [Self; 2] = [Self::SecondAxioms, Self::SecondClauses];
+    /// The reading of a deck or a state.
+    pub const READING: [Self; 2] = [Self::ReadAll, Self::ReadNothing];
 
-    /// All that are timed.
+    /// All that are timed of a deck.
     pub fn timed() -> Vec<Self> {
         let ours = Self::OURS.into_iter().filter(|_| ours::MEASURED);
         ours.chain(Self::RUST).collect()
@@ -59,11 +79,20 @@ impl Way {
             Self::RustReading => "reading and conversion",
             Self::ClearTables => "clearing tables",
             Self::ClearScratch => "clearing scratch",
+            Self::Clausify => "clausify",
+            Self::Axioms => "axioms",
+            Self::Clauses => "clauses",
+            Self::SecondAxioms => "second evaluator, axioms",
+            Self::SecondClauses => "second evaluator, clauses",
+            Self::ReadAll => "refused at the last line",
+            Self::ReadNothing => "refused at the first line",
         }
     }
 
     pub fn named(name: &str) -> Option<Self> {
-        let mut all = Self::OURS.into_iter().chain(Self::RUST);
+        let of_decks = Self::OURS.into_iter().chain(Self::RUST);
+        let of_states = Self::OF_STATES.into_iter().chain(Self::SECOND);
+        let mut all = of_decks.chain(of_states).chain(Self::READING);
         all.find(|way| way.name() == name)
     }
 }
@@ -129,6 +158,7 @@ impl<'d> Prepared<'d> {
             Way::RustReading => timed(|| read(bytes)),
             Way::ClearTables => timed(|| self.ours.clear_tables()),
             Way::ClearScratch => timed(|| self.ours.clear_scratch()),
+            _ => unreachable!("a way of a state"),
         }
     }
 
@@ -144,11 +174,7 @@ impl<'d> Prepared<'d> {
 }
 
 fn timed<T>(call: impl FnOnce() -> T) -> Duration {
-    let start = clock::now();
-    let answer = black_box(call());
-    let time = clock::since(start);
-    drop(answer);
-    time
+    clock::timed(|| black_box(call())).0
 }
 
 fn read(bytes: &[u8]) -> InternalOntology {
