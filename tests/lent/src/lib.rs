@@ -4,12 +4,14 @@
 mod library;
 mod link;
 mod table;
+mod tables;
 
 pub use library::{
     Clausify, Try, gorvask_clausify_with_stats, gorvask_try_axioms, gorvask_try_clauses,
 };
 pub use link::link;
 pub use table::Lent;
+pub use tables::Tables;
 
 /// Bytes of a clause's record, an atom's and a deferral's.
 pub const RECORDS: [usize; 3] = [CLAUSE, ATOM, DEFERRAL];

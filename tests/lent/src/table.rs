@@ -64,7 +64,24 @@ impl Lent {
         unsafe { self.bytes.as_mut_ptr().add(self.start) }
     }
 
-    /// Where a byte beside the table was written, if one was.
+    /// How this text, lent by that name, was changed, or a byte beside it.
+    #[must_use]
+    pub fn changed(&self, name: &str, text: &[u8]) -> Option<String> {
+        if self.bytes() == text {
+            self.beside(name)
+        } else {
+            Some(format!("{name} was changed"))
+        }
+    }
+
+    /// Where a byte beside the table of that name was written, if one was.
+    #[must_use]
+    pub fn beside(&self, name: &str) -> Option<String> {
+        let side = self.written_beside()?;
+        Some(format!("a byte {side} {name} was written"))
+    }
+
+    /// On which side of the table a byte was written, if one was.
     #[must_use]
     pub fn written_beside(&self) -> Option<&'static str> {
         let end = self.start + self.len;

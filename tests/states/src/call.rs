@@ -2,19 +2,10 @@
 
 use deck::Refusal;
 use deck::random::Random;
-use lent::{ATOM, CLAUSE, DEFERRAL, Lent, SCRATCH, Try, bytes, first_not_zero, words};
+use lent::{ATOM, CLAUSE, DEFERRAL, Lent, SCRATCH, Tables, Try};
 
 use crate::outcome::Outcome;
 use crate::verdict::Test;
-
-const NAMES: [&str; 5] = [
-    "the clause table",
-    "the atom table",
-    "the deferral table",
-    "the store",
-    "scratch",
-];
-const DEFERRALS: usize = 2;
 
 /// The two entries.
 #[derive(Clone, Copy)]
@@ -33,7 +24,7 @@ impl Library {
     }
 }
 
-/// Bytes of the five tables, in the order of [`NAMES`].
+/// Bytes of the five tables: clauses, atoms, deferrals, store, scratch.
 #[derive(Clone, Copy, Debug, PartialEq, Eq)]
 pub struct Sizes(pub [usize; 5]);
 
@@ -52,12 +43,20 @@ impl Sizes {
 }
 
 /// What is lent, call after call.
-#[derive(Default)]
 pub struct Call {
     deck: Lent,
     state: Lent,
-    /// In the order of [`NAMES`].
-    tables: [Lent; 5],
+    tables: Tables,
+}
+
+impl Default for Call {
+    fn default() -> Self {
+        Self {
+            deck: Lent::default(),
+            state: Lent::default(),
+            tables: Tables::new("the store"),
+        }
+    }
 }
 
 impl Call {
@@ -71,10 +70,8 @@ impl Call {
     ) -> u64 {
         self.deck.lend_filled(rng, deck);
         self.state.lend_filled(rng, state);
-        for (table, &len) in self.tables.iter_mut().zip(&sizes.0) {
-            table.lend(rng, len);
-        }
-        let [clauses, atoms, deferrals, store, scratch] = &mut self.tables;
+        self.tables.lend(rng, &sizes.0);
+        let [clauses, atoms, deferrals, store, scratch] = self.tables.places();
         // SAFETY: each place has its bytes, and nothing else is asked for.
         unsafe {
             entry(
@@ -82,16 +79,16 @@ impl Call {
                 self.deck.len(),
                 self.state.pointer(),
                 self.state.len(),
-                clauses.pointer(),
-                clauses.len(),
-                atoms.pointer(),
-                atoms.len(),
-                deferrals.pointer(),
-                deferrals.len(),
-                store.pointer(),
-                store.len(),
-                scratch.pointer(),
-                scratch.len(),
+                clauses.0,
+                clauses.1,
+                atoms.0,
+                atoms.1,
+                deferrals.0,
+                deferrals.1,
+                store.0,
+                store.1,
+                scratch.0,
+                scratch.1,
             )
         }
     }
@@ -103,8 +100,8 @@ impl Call {
             let [told, asked] = [reply, expected.reply].map(tell);
             return Some(format!("the reply is {told}, not {asked}"));
         }
-        let mut places = (0..5).filter_map(|place| self.table_difference(place, expected));
-        places.next().or_else(|| self.written_beside(texts))
+        let of_tables = self.tables.difference(&expected.words);
+        of_tables.or_else(|| self.text_difference(texts))
     }
 
     /// What the call left in tables of good sizes.
@@ -133,68 +130,17 @@ impl Call {
         }
     }
 
-    /// The records that the store and the clauses tell of.
+    /// The records that the store tells of.
     fn records(&self) -> Result<[Vec<u32>; 5], String> {
-        let [clauses, atoms, deferrals, store, _] =
-            self.tables.each_ref().map(|table| words(table.bytes()));
-        let front = |place: usize, mut words: Vec<u32>, count: usize| {
-            let has_room = count <= words.len();
-            words.truncate(count);
-            has_room
-                .then_some(words)
-                .ok_or(format!("{} has no room for so many", NAMES[place]))
-        };
+        let store = self.tables.own();
         let counted = |place: usize| store.get(place).map_or(0, |&count| count as usize);
-        let [clause_count, deferral_count, shown] = [0, 5, 11].map(counted);
-        let clauses = front(0, clauses, 3 * clause_count)?;
-        let runs = clauses.chunks(3).map(|record| [record[1], record[2]]);
-        let count: usize = runs.flatten().map(|atoms| atoms as usize).sum();
-        let atoms = front(1, atoms, 6 * count)?;
-        let deferrals = front(2, deferrals, 2 * deferral_count)?;
-        let store = front(3, store, 12 + shown)?;
-        Ok([clauses, atoms, deferrals, store, Vec::new()])
+        let [clauses, deferrals, shown] = [0, 5, 11].map(counted);
+        self.tables.records(clauses, deferrals, 12 + shown)
     }
 
-    /// The records, then zeros.
-    fn table_difference(&self, place: usize, expected: &Outcome) -> Option<String> {
-        let name = NAMES[place];
-        let records = bytes(&expected.words[place]);
-        let Some((found, rest)) = self.tables[place].bytes().split_at_checked(records.len()) else {
-            return Some(format!("{name} has no room for what is expected"));
-        };
-        if place == DEFERRALS {
-            if sorted_records(found) != sorted_records(&records) {
-                return Some(format!("{name} has other records"));
-            }
-        } else if let Some(byte) = (0..found.len()).find(|&byte| found[byte] != records[byte]) {
-            let [found, expected] = [words(found), expected.words[place].clone()];
-            let word = byte / 4;
-            return Some(format!(
-                "word {word} of {name} is {}, not {}: {:?}, not {:?}",
-                found[word],
-                expected[word],
-                &found[word..found.len().min(word + 20)],
-                &expected[word..found.len().min(word + 20)],
-            ));
-        }
-        let byte = first_not_zero(rest)?;
-        let (place, found) = (records.len() + byte, rest[byte]);
-        Some(format!("byte {place} of {name} is {found}, not 0"))
-    }
-
-    fn written_beside(&self, [deck, state]: [&[u8]; 2]) -> Option<String> {
-        if self.deck.bytes() != deck {
-            return Some("the deck was changed".into());
-        }
-        if self.state.bytes() != state {
-            return Some("the state was changed".into());
-        }
-        let names = ["the deck", "the state"].into_iter().chain(NAMES);
-        let tables = [&self.deck, &self.state].into_iter().chain(&self.tables);
-        names.zip(tables).find_map(|(name, table)| {
-            let side = table.written_beside()?;
-            Some(format!("a byte {side} {name} was written"))
-        })
+    fn text_difference(&self, [deck, state]: [&[u8]; 2]) -> Option<String> {
+        let of_deck = self.deck.changed("the deck", deck);
+        of_deck.or_else(|| self.state.changed("the state", state))
     }
 }
 
@@ -210,12 +156,4 @@ fn tell(reply: u64) -> String {
         (None, 1) => "broken".into(),
         (None, other) => format!("{other}"),
     }
-}
-
-/// Deferrals, whose order is free.
-fn sorted_records(bytes: &[u8]) -> Vec<[u8; DEFERRAL]> {
-    let (records, _) = bytes.as_chunks();
-    let mut records = records.to_vec();
-    records.sort_unstable();
-    records
 }
