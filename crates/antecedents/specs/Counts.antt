@@ -2,7 +2,7 @@
 use Rattle.std.specs.Prelude.{Bool, true, false, List, [], ◌∷◌, ℕ, zero, suc, ◌+◌, ◌*◌, max, eqb, leb}
 use Prim.{Unit}
 use Rattle.ir.specs.Pick.{pick}
-use Rattle.ir.specs.Counts.{visited, freshVar}
+use Rattle.ir.specs.Counts.{visited, fresh_var}
 use Rattle.ir.specs.declared.counters.Counters.{Counters}
 use Rattle.ir.specs.declared.counters.Visit.{Visit}
 use Rattle.ir.specs.declared.counters.Visit.TheVariants.{Begun, Full}
@@ -35,36 +35,36 @@ under (Found k n l) = pick (eqb n 0) (Found k 0 0) (pick (leb (l + 1) 256) (Foun
 under (Unsupported k) = Unsupported k
 under (Refused e) = Refused e
 
-abbrev pub onFound : Encoded → (Counters → ℕ → ℕ → Encoded) → Encoded
-onFound (Found k n l) g = g k n l
-onFound (Unsupported k) g = Unsupported k
-onFound (Refused e) g = Refused e
+abbrev pub on_found : Encoded → (Counters → ℕ → ℕ → Encoded) → Encoded
+on_found (Found k n l) g = g k n l
+on_found (Unsupported k) g = Unsupported k
+on_found (Refused e) g = Refused e
 
-unfoldable pub countAll : (Counters → ℕ → Encoded) → Bool → List ℕ → Encoded → Encoded
-countAll G b [] acc = acc
-countAll G b (x ∷ l) acc = onFound acc (λ k n j. countAll G b l (joined b n j (G k x)))
+unfoldable pub count_all : (Counters → ℕ → Encoded) → Bool → List ℕ → Encoded → Encoded
+count_all G b [] acc = acc
+count_all G b (x ∷ l) acc = on_found acc (λ k n j. count_all G b l (joined b n j (G k x)))
 
-abbrev pub countStep : (Counters → ℕ → Encoded) → Counters → Concept → Encoded
-countStep G k Top = Found k 1 0
-countStep G k Bot = Unsupported k
-countStep G k (Atomic _) = Found k 1 1
-countStep G k (Nominal _) = Found k 1 1
-countStep G k (SelfRestriction _) = Unsupported k
-countStep G k (Not _) = Unsupported k
-countStep G k (And l) = countAll G true l (Found k 1 0)
-countStep G k (Or l) = countAll G false l (Found k 0 0)
-countStep G k (Some _ d) = under (G (freshVar k) d)
-countStep G k (All _ _) = Unsupported k
-countStep G k (Min _ _ _) = Unsupported k
-countStep G k (Max _ _ _) = Unsupported k
+abbrev pub count_step : (Counters → ℕ → Encoded) → Counters → Concept → Encoded
+count_step G k Top = Found k 1 0
+count_step G k Bot = Unsupported k
+count_step G k (Atomic _) = Found k 1 1
+count_step G k (Nominal _) = Found k 1 1
+count_step G k (SelfRestriction _) = Unsupported k
+count_step G k (Not _) = Unsupported k
+count_step G k (And l) = count_all G true l (Found k 1 0)
+count_step G k (Or l) = count_all G false l (Found k 0 0)
+count_step G k (Some _ d) = under (G (fresh_var k) d)
+count_step G k (All _ _) = Unsupported k
+count_step G k (Min _ _ _) = Unsupported k
+count_step G k (Max _ _ _) = Unsupported k
 
-abbrev pub onVisit : Visit → (Counters → Encoded) → Encoded
-onVisit (Begun k) g = g k
-onVisit Full g = Refused 10
+abbrev pub on_visit : Visit → (Counters → Encoded) → Encoded
+on_visit (Begun k) g = g k
+on_visit Full g = Refused 10
 
 unfoldable pub count : Pool → ℕ → Counters → ℕ → Encoded
 count p zero k c = Refused 0
-count p (suc f) k c = onVisit (visited k) (λ k₁. countStep (λ k₂ d. count p f k₂ d) k₁ (at p c))
+count p (suc f) k c = on_visit (visited k) (λ k₁. count_step (λ k₂ d. count p f k₂ d) k₁ (at p c))
 
 abbrev pub GoodEncoded : Encoded → Type 0
 GoodEncoded (Found k n l) = Good k

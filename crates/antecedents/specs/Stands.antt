@@ -3,28 +3,28 @@ use Rattle.std.specs.Prelude.{◌≡◌, Bool, List, ℕ, ◌+◌, ◌<◌, ◌�
 use Rattle.words.specs.Words.{words}
 use Rattle.ir.specs.declared.counters.Counters.{Counters}
 use Rattle.ir.specs.declared.answer.Encoded.{Encoded}
-use Rattle.rules.specs.Pool.{mostMembers}
-use Rattle.pool.specs.Layout.{poolBytes, membersAt, run, poolOf}
+use Rattle.rules.specs.Pool.{most_members}
+use Rattle.pool.specs.Layout.{pool_bytes, members_at, run, pool_of}
 use Rattle.pool.specs.Held.{Held}
-use Rattle.antecedents.specs.Counts.{countAll, count}
+use Rattle.antecedents.specs.Counts.{count_all, count}
 
 -- c is a concept of a pool in s
 pub record Stands (s : List ℕ) (c : ℕ) : Type 0 where
   pub concepts : ℕ
   pub members : ℕ
-  pub room : poolBytes ≤ length s
+  pub room : pool_bytes ≤ length s
   pub held : Held (words s) concepts members
   pub inside : c < concepts
 
 -- the list of c: its members are smaller ids
 pub record Listed (w : List ℕ) (c start many : ℕ) : Type 0 where
-  pub within : start + many ≤ mostMembers
-  pub smaller : (j : ℕ) → j < many → get_or w (membersAt + start + j) 0 < c
+  pub within : start + many ≤ most_members
+  pub smaller : (j : ℕ) → j < many → get_or w (members_at + start + j) 0 < c
 
 -- r: the numbers of concept c, under every bound above it
 abbrev pub Counts : List ℕ → Counters → ℕ → Encoded → Type 0
-Counts w k c r = (n f : ℕ) → c < n → c < f → r ≡ count (poolOf w n) f k c
+Counts w k c r = (n f : ℕ) → c < n → c < f → r ≡ count (pool_of w n) f k c
 
 -- r: the numbers of the list of c, after those of acc
 abbrev pub CountsAll : List ℕ → Bool → ℕ → ℕ → ℕ → Encoded → Encoded → Type 0
-CountsAll w b c start many acc r = (n f : ℕ) → c < n → c ≤ f → r ≡ countAll (count (poolOf w n) f) b (run w (membersAt + start) many) acc
+CountsAll w b c start many acc r = (n f : ℕ) → c < n → c ≤ f → r ≡ count_all (count (pool_of w n) f) b (run w (members_at + start) many) acc

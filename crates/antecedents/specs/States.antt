@@ -14,17 +14,17 @@ use Rattle.rules.specs.Antecedents.{Alternatives}
 pub record Counted (k : Counters) (s : Out) : Type 0 where
   pub visits : k.visits ≡ s.visits
   pub limit : k.limit ≡ s.limit
-  pub vars : k.next_var ≡ s.nextVar
+  pub vars : k.next_var ≡ s.next_var
 
 -- a state whose variables are far from the last number
 pub record Fine (s : Out) : Type 0 where
   pub most : s.limit ≤ 1000000
   pub seen : s.visits ≤ s.limit
-  pub vars : s.nextVar ≤ s.visits + 4
+  pub vars : s.next_var ≤ s.visits + 4
 
 -- k with the visits and variables of a state
 abbrev pub varied : Counters → Out → Counters
-varied k s = counters s.visits k.limit k.concepts k.members s.nextVar k.next_class k.clauses k.atoms k.deferrals k.line k.nominal_base k.options
+varied k s = counters s.visits k.limit k.concepts k.members s.next_var k.next_class k.clauses k.atoms k.deferrals k.line k.nominal_base k.options
 
 unfoldable pub longest : Alternatives → ℕ
 longest [] = 0

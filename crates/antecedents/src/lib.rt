@@ -8,10 +8,10 @@ pub mod write;
 
 ghost use Rattle.std.specs.Prelude.{◌≡◌, ℕ, ◌+◌, ◌*◌, ◌<◌, ◌≤◌, length};
 ghost use Rattle.words.specs.Words.{words};
-ghost use Rattle.ir.specs.Scratch.{axiomsAt, handsAt};
+ghost use Rattle.ir.specs.Scratch.{axioms_at, hands_at};
 ghost use Rattle.rules.specs.State.{Env, Out};
-ghost use Rattle.rules.specs.Antecedents.{encodeBy};
-ghost use Rattle.pool.specs.Layout.{poolOf};
+ghost use Rattle.rules.specs.Antecedents.{encode_by};
+ghost use Rattle.pool.specs.Layout.{pool_of};
 ghost use Rattle.pool.specs.Held.{Ready};
 ghost use Rattle.tables.specs.Good.{Good};
 ghost use Rattle.antecedents.specs.States.{Counted, summary};
@@ -25,15 +25,15 @@ use ir::counters::Counters;
 // How many alternatives an antecedent has, and the longest one's length.
 pub fn encode_antecedent(scratch: &[u8], k: Counters, c: u32) -> Encoded
     requires { Ready scratch.now k × (c < k.concepts) × Good k }
-    ensures { ((env : Env) (f v : ℕ) (s : Out) → c < f → Counted k s → result ≡ summary k (encodeBy env (poolOf (words scratch.now) k.concepts) f c v s)) × GoodEncoded result }
+    ensures { ((env : Env) (f v : ℕ) (s : Out) → c < f → Counted k s → result ≡ summary k (encode_by env (pool_of (words scratch.now) k.concepts) f c v s)) × GoodEncoded result }
 {
     count::encode_antecedent(scratch, k, c)
 }
 
 // Fills the rows of the concepts from `from` on.
 pub fn number_alternatives(scratch: &mut [u8], k: Counters, from: u32)
-    requires { Ready scratch.old k × (4 * axiomsAt ≤ length scratch.old) × (from ≤ k.concepts) × Numbered (words scratch.old) (poolOf (words scratch.old) k.concepts) from }
-    ensures { Numbered (words scratch.new) (poolOf (words scratch.old) k.concepts) k.concepts × Outside (words scratch.old) (words scratch.new) }
+    requires { Ready scratch.old k × (4 * axioms_at ≤ length scratch.old) × (from ≤ k.concepts) × Numbered (words scratch.old) (pool_of (words scratch.old) k.concepts) from }
+    ensures { Numbered (words scratch.new) (pool_of (words scratch.old) k.concepts) k.concepts × Outside (words scratch.old) (words scratch.new) }
 {
     let to = k.concepts;
     let mut c = from;
@@ -54,7 +54,7 @@ pub fn write_alternative(
     y: u32,
     i: u32,
 ) -> usize
-    requires { Ready scratch.old k × Numbered (words scratch.old) (poolOf (words scratch.old) k.concepts) k.concepts × Named (poolOf (words scratch.old) k.concepts) k.nominal_base × (c < k.concepts) × (handsAt ≤ 6 * base) × (24 * (base + 256) ≤ length scratch.old) }
+    requires { Ready scratch.old k × Numbered (words scratch.old) (pool_of (words scratch.old) k.concepts) k.concepts × Named (pool_of (words scratch.old) k.concepts) k.nominal_base × (c < k.concepts) × (hands_at ≤ 6 * base) × (24 * (base + 256) ≤ length scratch.old) }
     ensures { Written (words scratch.old) k base c v y i (words scratch.new) result }
 {
     write::write_one(scratch, k.nominal_base, base, c, v, y, i)

@@ -1,7 +1,7 @@
 // The numbers of combined alternatives.
 ghost use Rattle.std.specs.Prelude.{◌≡◌, ◌+◌, ◌*◌, ◌/◌, ◌%◌, min};
 ghost use Rattle.antecedents.specs.Counts.{crossed, listed, joined, under};
-ghost use Rattle.antecedents.specs.Table.{plusVars, joinSize};
+ghost use Rattle.antecedents.specs.Table.{plus_vars, join_size};
 
 use ir::answer::Encoded;
 use ir::counters::Counters;
@@ -87,7 +87,7 @@ pub fn put_under(r: Encoded) -> Encoded
 
 // Of variables.
 pub fn plus(a: u32, b: u32) -> u32
-    ensures { result ≡ plusVars a b }
+    ensures { result ≡ plus_vars a b }
 {
     let s = wide(a) + wide(b);
     if s < 4294967295 {
@@ -118,7 +118,7 @@ fn sum(a: u32, n: u32) -> u32
 }
 
 pub fn join_size(both: bool, a: u32, n: u32) -> u32
-    ensures { result ≡ joinSize both a n }
+    ensures { result ≡ join_size both a n }
 {
     if both { times(a, n) } else { sum(a, n) }
 }

@@ -1,11 +1,11 @@
 // A row for each concept: how many alternatives it has and how many variables they take; filled from the least id up.
 ghost use Rattle.std.specs.Prelude.{◌≡◌, ◌+◌, ◌*◌, ◌≤◌, ◌<◌, length, set};
 ghost use Rattle.words.specs.Words.{words};
-ghost use Rattle.ir.specs.Scratch.{alternativesAt, axiomsAt};
-ghost use Rattle.rules.specs.Pool.{mostConcepts};
-ghost use Rattle.pool.specs.Layout.{membersAt, run, conceptAt};
+ghost use Rattle.ir.specs.Scratch.{alternatives_at, axioms_at};
+ghost use Rattle.rules.specs.Pool.{most_concepts};
+ghost use Rattle.pool.specs.Layout.{members_at, run, concept_at};
 ghost use Rattle.antecedents.specs.Stands.{Stands, Listed};
-ghost use Rattle.antecedents.specs.Table.{sizeIn, varsIn, sizeAll, varsAll, sizeOf, varsOf};
+ghost use Rattle.antecedents.specs.Table.{size_in, vars_in, size_all, vars_all, size_of, vars_of};
 
 use crate::numbers;
 use ir::scratch::ALTERNATIVES;
@@ -18,16 +18,16 @@ pub struct Row {
 }
 
 pub fn size_of(scratch: &[u8], c: u32) -> u32
-    requires { (c < mostConcepts) × (4 * axiomsAt ≤ length scratch.now) }
-    ensures { result ≡ sizeIn (words scratch.now) c }
+    requires { (c < most_concepts) × (4 * axioms_at ≤ length scratch.now) }
+    ensures { result ≡ size_in (words scratch.now) c }
 {
     let at = ALTERNATIVES + 2 * (c as usize);
     words::get_word(scratch, at)
 }
 
 pub fn vars_of(scratch: &[u8], c: u32) -> u32
-    requires { (c < mostConcepts) × (4 * axiomsAt ≤ length scratch.now) }
-    ensures { result ≡ varsIn (words scratch.now) c }
+    requires { (c < most_concepts) × (4 * axioms_at ≤ length scratch.now) }
+    ensures { result ≡ vars_in (words scratch.now) c }
 {
     let at = ALTERNATIVES + 2 * (c as usize) + 1;
     words::get_word(scratch, at)
@@ -35,8 +35,8 @@ pub fn vars_of(scratch: &[u8], c: u32) -> u32
 
 // The row of an And (both) or Or.
 fn list_row(scratch: &[u8], c: u32, start: u32, many: u32, first: u32, both: bool) -> Row
-    requires { (c < mostConcepts) × (4 * axiomsAt ≤ length scratch.now) × Listed (words scratch.now) c start many }
-    ensures { (result.size ≡ sizeAll (words scratch.now) both (run (words scratch.now) (membersAt + start) many) first) × (result.vars ≡ varsAll (words scratch.now) (run (words scratch.now) (membersAt + start) many) 0) }
+    requires { (c < most_concepts) × (4 * axioms_at ≤ length scratch.now) × Listed (words scratch.now) c start many }
+    ensures { (result.size ≡ size_all (words scratch.now) both (run (words scratch.now) (members_at + start) many) first) × (result.vars ≡ vars_all (words scratch.now) (run (words scratch.now) (members_at + start) many) 0) }
 {
     let mut size = first;
     let mut vars: u32 = 0;
@@ -52,8 +52,8 @@ fn list_row(scratch: &[u8], c: u32, start: u32, many: u32, first: u32, both: boo
 }
 
 pub fn row_of(scratch: &[u8], c: u32) -> Row
-    requires { Stands scratch.now c × (4 * axiomsAt ≤ length scratch.now) }
-    ensures { (result.size ≡ sizeOf (words scratch.now) (conceptAt (words scratch.now) c)) × (result.vars ≡ varsOf (words scratch.now) (conceptAt (words scratch.now) c)) }
+    requires { Stands scratch.now c × (4 * axioms_at ≤ length scratch.now) }
+    ensures { (result.size ≡ size_of (words scratch.now) (concept_at (words scratch.now) c)) × (result.vars ≡ vars_of (words scratch.now) (concept_at (words scratch.now) c)) }
 {
     let kind = record::kind(scratch, c);
     let a = record::number(scratch, c);
@@ -74,8 +74,8 @@ pub fn row_of(scratch: &[u8], c: u32) -> Row
 }
 
 pub fn put_row(scratch: &mut [u8], c: u32, r: Row)
-    requires { (c < mostConcepts) × (4 * axiomsAt ≤ length scratch.old) }
-    ensures { words scratch.new ≡ set (set (words scratch.old) (alternativesAt + 2 * c) r.size) (alternativesAt + 2 * c + 1) r.vars }
+    requires { (c < most_concepts) × (4 * axioms_at ≤ length scratch.old) }
+    ensures { words scratch.new ≡ set (set (words scratch.old) (alternatives_at + 2 * c) r.size) (alternatives_at + 2 * c + 1) r.vars }
 {
     let at = ALTERNATIVES + 2 * (c as usize);
     words::put_word(scratch, at, r.size);

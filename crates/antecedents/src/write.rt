@@ -2,13 +2,13 @@
 ghost use Rattle.std.specs.Prelude.{◌≡◌, ◌+◌, ◌*◌, ◌≤◌, ◌<◌, length, get_or};
 ghost use Rattle.words.specs.Words.{words};
 ghost use Rattle.ir.specs.Records.{Fits};
-ghost use Rattle.ir.specs.Scratch.{axiomsAt, handsAt};
-ghost use Rattle.rules.specs.Deck.{mostRoles};
-ghost use Rattle.rules.specs.Pool.{mostConcepts, mostMembers};
-ghost use Rattle.pool.specs.Layout.{membersAt, run, field};
+ghost use Rattle.ir.specs.Scratch.{axioms_at, hands_at};
+ghost use Rattle.rules.specs.Deck.{most_roles};
+ghost use Rattle.rules.specs.Pool.{most_concepts, most_members};
+ghost use Rattle.pool.specs.Layout.{members_at, run, field};
 ghost use Rattle.antecedents.specs.Stands.{Listed};
-ghost use Rattle.antecedents.specs.Picks.{putAt};
-ghost use Rattle.antecedents.specs.Writes.{Writable, WroteRole, Wrote, WroteAll, chosenOf, PartIs};
+ghost use Rattle.antecedents.specs.Picks.{put_at};
+ghost use Rattle.antecedents.specs.Writes.{Writable, WroteRole, Wrote, WroteAll, chosen_of, PartIs};
 
 use crate::{numbers, table};
 use ir::atom::Atom;
@@ -36,7 +36,7 @@ pub struct Part {
 // The atom at record `at`, if there is room; answers the next record.
 fn put(scratch: &mut [u8], at: usize, a: Atom) -> usize
     requires { Fits a }
-    ensures { (words scratch.new, result) ≡ putAt (words scratch.old) at a }
+    ensures { (words scratch.new, result) ≡ put_at (words scratch.old) at a }
 {
     if at < scratch.len() / 24 {
         put_atom(scratch, at, a);
@@ -47,7 +47,7 @@ fn put(scratch: &mut [u8], at: usize, a: Atom) -> usize
 
 // The role of concept c, in its canonical form.
 fn put_role(scratch: &mut [u8], at: usize, c: u32, v: u32, y: u32) -> usize
-    requires { (c < mostConcepts) × (4 * handsAt ≤ length scratch.old) × (field (words scratch.old) c 1 < 2 * mostRoles) }
+    requires { (c < most_concepts) × (4 * hands_at ≤ length scratch.old) × (field (words scratch.old) c 1 < 2 * most_roles) }
     ensures { WroteRole (words scratch.old) c v y at (words scratch.new) result }
 {
     let role = record::role(scratch, c);
@@ -57,8 +57,8 @@ fn put_role(scratch: &mut [u8], at: usize, c: u32, v: u32, y: u32) -> usize
 
 // The disjunct among c's list that holds the k-th alternative.
 fn disjunct(scratch: &[u8], c: u32, start: u32, many: u32, y: u32, k: u32) -> Chosen
-    requires { (c < mostConcepts) × (4 * axiomsAt ≤ length scratch.now) × Listed (words scratch.now) c start many }
-    ensures { result ≡ chosenOf (words scratch.now) (run (words scratch.now) (membersAt + start) many) y k }
+    requires { (c < most_concepts) × (4 * axioms_at ≤ length scratch.now) × Listed (words scratch.now) c start many }
+    ensures { result ≡ chosen_of (words scratch.now) (run (words scratch.now) (members_at + start) many) y k }
 {
     let mut w = y;
     let mut j = k;
@@ -79,7 +79,7 @@ fn disjunct(scratch: &[u8], c: u32, start: u32, many: u32, y: u32, k: u32) -> Ch
 
 // List member i as the next part.
 fn next_part(scratch: &[u8], i: u32, r: u32, j: u32, y: u32) -> Part
-    requires { (i < mostMembers) × (get_or (words scratch.now) (membersAt + i) 0 < mostConcepts) × (4 * axiomsAt ≤ length scratch.now) }
+    requires { (i < most_members) × (get_or (words scratch.now) (members_at + i) 0 < most_concepts) × (4 * axioms_at ≤ length scratch.now) }
     ensures { PartIs (words scratch.now) i r j y result }
 {
     let id = record::member(scratch, i);
@@ -109,7 +109,7 @@ fn write_parts(
     y: u32,
     k: u32,
 ) -> usize
-    requires { Writable scratch.old base c × (handsAt ≤ 6 * at) × Listed (words scratch.old) c start many }
+    requires { Writable scratch.old base c × (hands_at ≤ 6 * at) × Listed (words scratch.old) c start many }
     ensures { WroteAll base (words scratch.old) c start many v y k at (words scratch.new) result }
 {
     let mut p = at;
@@ -132,7 +132,7 @@ fn write_parts(
 // The k-th alternative of c from record `at` on; `base` is the class of individual 0. Answers the next record.
 #[cycle(write_one_write_parts)]
 pub fn write_one(scratch: &mut [u8], base: u32, at: usize, c: u32, v: u32, y: u32, k: u32) -> usize
-    requires { Writable scratch.old base c × (handsAt ≤ 6 * at) }
+    requires { Writable scratch.old base c × (hands_at ≤ 6 * at) }
     ensures { Wrote base (words scratch.old) c v y k at (words scratch.new) result }
 {
     let kind = record::kind(scratch, c);

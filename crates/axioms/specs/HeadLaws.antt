@@ -3,30 +3,30 @@ use Rattle.std.specs.Prelude.{◌≡◌, List, ℕ, suc, ◌+◌, ◌*◌, ◌<�
 use Rattle.std.proofs.Common.{ap, subst, ◌∙◌, arith}
 use Prim.{Unit}
 use Rattle.words.specs.Words.{words}
-use Rattle.ir.specs.Scratch.{handsAt, limitsAt, limitsWords}
+use Rattle.ir.specs.Scratch.{hands_at, limits_at, limits_words}
 use Rattle.ir.specs.declared.counters.Counters.{Counters}
 use Rattle.ir.specs.declared.answer.Answer.{Answer}
 use Rattle.rules.specs.Pool.{Pool}
-use Rattle.rules.specs.Heads.{emitBy, emitHead}
-use Rattle.pool.specs.Layout.{poolOf}
+use Rattle.rules.specs.Heads.{emit_by, emit_head}
+use Rattle.pool.specs.Layout.{pool_of}
 use Rattle.pool.specs.Held.{Held}
-use Rattle.pool.specs.HeldLaws.{used-within}
+use Rattle.pool.specs.HeldLaws.{used_within}
 use Rattle.tables.specs.Drawn.{shown}
 use Rattle.tables.specs.Good.{Good, Alike}
 use Rattle.hands.specs.Hands.{Four, Did, Waiting, Queues}
 use Rattle.leaves.specs.Reading.{Reading}
 use Rattle.heads.specs.Emits.{Emitting}
-use Rattle.heads.specs.FrameLaws.{reading-alike, reading-kept, room-on}
-use Rattle.axioms.specs.BodyLaws.{pool-still}
+use Rattle.heads.specs.FrameLaws.{reading_alike, reading_kept, room_on}
+use Rattle.axioms.specs.BodyLaws.{pool_still}
 
 -- what it asks: no concept needs more room than there is
-pub emitting : (s s' : List ℕ) (k m : Counters) (n c : ℕ) → Reading s k → length s' ≡ length s → take handsAt (words s') ≡ take handsAt (words s) → Alike k m → Good m → n ≤ 256 → c < k.concepts → 4 * (limitsAt + limitsWords) ≤ length s
+pub emitting : (s s' : List ℕ) (k m : Counters) (n c : ℕ) → Reading s k → length s' ≡ length s → take hands_at (words s') ≡ take hands_at (words s) → Alike k m → Good m → n ≤ 256 → c < k.concepts → 4 * (limits_at + limits_words) ≤ length s
     → Emitting s' m 13500 n c
 emitting s s' k m n c R l e A g h lt fit =
-    let u = used-within (words s) k.concepts k.members R.ready.held c lt in
-    let o = room-on s s' k 13500 R (omega arith) e c lt in
+    let u = used_within (words s) k.concepts k.members R.ready.held c lt in
+    let o = room_on s s' k 13500 R (omega arith) e c lt in
     record {
-      reading = reading-alike s' k m A (reading-kept s s' k 13500 R (omega arith) e l);
+      reading = reading_alike s' k m A (reading_kept s s' k 13500 R (omega arith) e l);
       good = g;
       held = rw A.concepts lt;
       room = record {
@@ -39,22 +39,22 @@ emitting s s' k m n c R l e A g h lt fit =
     }
 
 -- what it did, at its own bound
-pub emitted : (w : List ℕ) (k m : Counters) (base n c v : ℕ) (x y : Four) (r : Answer) → Held w k.concepts k.members → take handsAt x.scratch ≡ take handsAt w → Alike k m
-    → Did (λ _. 0) (suc c) (λ env f b s. emitBy env (poolOf x.scratch m.concepts) f b c v s) m base n x y r
-    → Did (λ _. 0) 0 (λ env f b s. emitHead env (poolOf w k.concepts) b c v s) m base n x y r
+pub emitted : (w : List ℕ) (k m : Counters) (base n c v : ℕ) (x y : Four) (r : Answer) → Held w k.concepts k.members → take hands_at x.scratch ≡ take hands_at w → Alike k m
+    → Did (λ _. 0) (suc c) (λ env f b s. emit_by env (pool_of x.scratch m.concepts) f b c v s) m base n x y r
+    → Did (λ _. 0) 0 (λ env f b s. emit_head env (pool_of w k.concepts) b c v s) m base n x y r
 emitted w k m base n c v x y r H e A D = record {
   equal = λ env f b s lo E i t.
-      D.equal env (suc c) b s (omega arith) E i t ∙ ap (λ (p : Pool). shown (λ (_ : Unit {0}). 0) m env.rooms (emitBy env p (suc c) b c v s)) (pool-still w x.scratch k m e A H);
+      D.equal env (suc c) b s (omega arith) E i t ∙ ap (λ (p : Pool). shown (λ (_ : Unit {0}). 0) m env.rooms (emit_by env p (suc c) b c v s)) (pool_still w x.scratch k m e A H);
   frame = D.frame;
   good = D.good;
   kept = D.kept;
 }
 
 -- and of the limits that wait
-pub emitted-queues : (w : List ℕ) (k m : Counters) (base n c v : ℕ) (x y : Four) → Held w k.concepts k.members → take handsAt x.scratch ≡ take handsAt w → Alike k m
-    → Queues (suc c) (λ env f b s. emitBy env (poolOf x.scratch m.concepts) f b c v s) m base n x y
-    → Queues 0 (λ env f b s. emitHead env (poolOf w k.concepts) b c v s) m base n x y
-emitted-queues w k m base n c v x y H e A U = record {
+pub emitted_queues : (w : List ℕ) (k m : Counters) (base n c v : ℕ) (x y : Four) → Held w k.concepts k.members → take hands_at x.scratch ≡ take hands_at w → Alike k m
+    → Queues (suc c) (λ env f b s. emit_by env (pool_of x.scratch m.concepts) f b c v s) m base n x y
+    → Queues 0 (λ env f b s. emit_head env (pool_of w k.concepts) b c v s) m base n x y
+emitted_queues w k m base n c v x y H e A U = record {
   waits = λ env f b s p lo E i t W.
-      subst (λ (o : Pool). Waiting y.scratch p (emitBy env o (suc c) b c v s)) (pool-still w x.scratch k m e A H) (U.waits env (suc c) b s p (omega arith) E i t W);
+      subst (λ (o : Pool). Waiting y.scratch p (emit_by env o (suc c) b c v s)) (pool_still w x.scratch k m e A H) (U.waits env (suc c) b s p (omega arith) E i t W);
 }

@@ -1,7 +1,7 @@
 -- The clausifier's state in scratch, the counters and the lent tables: pool and clauses side by side.
 use Rattle.std.specs.Prelude.{◌≡◌, List, ◌++◌, ℕ, ◌+◌, ◌*◌, ◌<◌, ◌≤◌, length, get_or}
 use Prim.{Unit}
-use Rattle.ir.specs.Scratch.{keysAt, alternativesAt, axiomsAt, linesAt, handsAt, limitsAt, limitsWords}
+use Rattle.ir.specs.Scratch.{keys_at, alternatives_at, axioms_at, lines_at, hands_at, limits_at, limits_words}
 use Rattle.ir.specs.declared.counters.Counters.{Counters}
 use Rattle.ir.specs.declared.answer.Answer.{Answer}
 use Rattle.ir.specs.declared.answer.Answer.TheVariants.{Done, Refused}
@@ -10,7 +10,7 @@ use Rattle.rules.specs.Pool.{Pool}
 use Rattle.rules.specs.State.{Limit, Rooms, Env, Out}
 use Rattle.rules.specs.Axioms.{Clausifier, C}
 use Rattle.rules.specs.Post.{Post}
-use Rattle.pool.specs.Layout.{poolOf}
+use Rattle.pool.specs.Layout.{pool_of}
 use Rattle.pool.specs.Answers.{sized}
 use Rattle.tables.specs.Drawn.{Tables, tables, show}
 use Rattle.tables.specs.Good.{Good}
@@ -26,25 +26,25 @@ pub data Whole : Type 0 where
 abbrev pub drawn : Counters → Rooms → Clausifier → Whole
 drawn k rooms z = whole z.pool (show (sized k z.pool) rooms z.out)
 
-abbrev pub shownWhole : {A : Type 0} → (A → ℕ) → Counters → Rooms → Res Clausifier A → Res Whole ℕ
-shownWhole value k rooms (ok a z) = ok (value a) (drawn k rooms z)
-shownWhole value k rooms (refused e) = refused e
+abbrev pub shown_whole : {A : Type 0} → (A → ℕ) → Counters → Rooms → Res Clausifier A → Res Whole ℕ
+shown_whole value k rooms (ok a z) = ok (value a) (drawn k rooms z)
+shown_whole value k rooms (refused e) = refused e
 
 -- the code's answer, with scratch and the tables at exit
-abbrev pub afterWhole : Answer → Four → Res Whole ℕ
-afterWhole (Done k i) y = ok i (whole (poolOf y.scratch k.concepts) (tables k y.clauses y.atoms y.deferrals))
-afterWhole (Refused e) y = refused e
+abbrev pub after_whole : Answer → Four → Res Whole ℕ
+after_whole (Done k i) y = ok i (whole (pool_of y.scratch k.concepts) (tables k y.clauses y.atoms y.deferrals))
+after_whole (Refused e) y = refused e
 
 -- the state that stands in scratch, for an emission's state s
 abbrev pub standing : Counters → Four → Out → Clausifier
-standing k x s = record { pool = poolOf x.scratch k.concepts; out = s }
+standing k x s = record { pool = pool_of x.scratch k.concepts; out = s }
 
 -- what the code asks of scratch's bytes s
 pub record Clausifying (s : List ℕ) (k : Counters) : Type 0 where
   pub encoding : Encoding s k
   pub good : Good k
-  pub space : 4 * (handsAt + 127000) ≤ length s
-  pub queue : 4 * (limitsAt + limitsWords) ≤ length s
+  pub space : 4 * (hands_at + 127000) ≤ length s
+  pub queue : 4 * (limits_at + limits_words) ≤ length s
 
 -- and leaves it so
 abbrev pub ClausifyingAfter : List ℕ → Answer → Type 0
@@ -53,8 +53,8 @@ ClausifyingAfter s (Refused e) = Unit {0}
 
 -- key marks, role map and axioms are as they were
 pub record Untouched (w w' : List ℕ) : Type 0 where
-  pub maps : (j : ℕ) → keysAt ≤ j → j < alternativesAt → get_or w' j 0 ≡ get_or w j 0
-  pub axioms : (j : ℕ) → axiomsAt ≤ j → j < linesAt → get_or w' j 0 ≡ get_or w j 0
+  pub maps : (j : ℕ) → keys_at ≤ j → j < alternatives_at → get_or w' j 0 ≡ get_or w j 0
+  pub axioms : (j : ℕ) → axioms_at ≤ j → j < lines_at → get_or w' j 0 ≡ get_or w j 0
 
 -- counters of the same deck, with no concept less
 pub record Onward (k k' : Counters) : Type 0 where
@@ -69,7 +69,7 @@ OnwardAnswer k (Refused e) = Unit {0}
 -- a call did what the rule does
 pub record Clausified (rule : Env → C (Unit {0})) (k : Counters) (x y : Four) (r : Answer) : Type 0 where
   pub equal : (env : Env) (s : Out) → EnvHeld env k x → tables k x.clauses x.atoms x.deferrals ≡ show k env.rooms s
-      → afterWhole r y ≡ shownWhole (λ _. 0) k env.rooms (rule env (standing k x s))
+      → after_whole r y ≡ shown_whole (λ _. 0) k env.rooms (rule env (standing k x s))
   pub untouched : Untouched x.scratch y.scratch
   pub onward : OnwardAnswer k r
 

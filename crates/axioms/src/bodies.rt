@@ -1,15 +1,15 @@
 // What is emitted for each alternative of an antecedent, one alternative in hand at a time.
 ghost use Rattle.std.specs.Prelude.{List, ℕ, ◌+◌, ◌*◌, ◌<◌, ◌≤◌, ◌^◌, length};
 ghost use Rattle.words.specs.Words.{words};
-ghost use Rattle.ir.specs.Scratch.{limitsAt, limitsWords};
+ghost use Rattle.ir.specs.Scratch.{limits_at, limits_words};
 ghost use Rattle.rules.specs.State.{Env, E};
-ghost use Rattle.rules.specs.Heads.{emitHead};
-ghost use Rattle.pool.specs.Layout.{poolOf};
+ghost use Rattle.rules.specs.Heads.{emit_head};
+ghost use Rattle.pool.specs.Layout.{pool_of};
 ghost use Rattle.tables.specs.Drawn.{Sized};
 ghost use Rattle.tables.specs.Good.{Good};
 ghost use Rattle.hands.specs.Hands.{four};
-ghost use Rattle.axioms.specs.RoleAxioms.{inHandBytes};
-ghost use Rattle.axioms.specs.Bodies.{Encoding, Sourced, givesClass, Bodied, BodiedWaits};
+ghost use Rattle.axioms.specs.RoleAxioms.{in_hand_bytes};
+ghost use Rattle.axioms.specs.Bodies.{Encoding, Sourced, gives_class, Bodied, BodiedWaits};
 
 use heads::emit;
 use ir::answer::Answer;
@@ -30,10 +30,10 @@ pub fn push_bodies(
     y: u32,
     class: u32,
 ) -> Answer
-    requires { Encoding scratch.old k × (sub < k.concepts) × (inHandBytes ≤ length scratch.old) × (class + 1 < 2 ^ 32) × Sized (length clauses.old) (length atoms.old) 0 × Good k × Sourced (words scratch.old) k sub y count }
+    requires { Encoding scratch.old k × (sub < k.concepts) × (in_hand_bytes ≤ length scratch.old) × (class + 1 < 2 ^ 32) × Sized (length clauses.old) (length atoms.old) 0 × Good k × Sourced (words scratch.old) k sub y count }
     ensures { let old = four (words scratch.old) (words clauses.old) (words atoms.old) in
         let new = four (words scratch.new) (words clauses.new) (words atoms.new) in
-        ((d : List ℕ) → Bodied (givesClass class) k sub y count (old d) (new d) result) }
+        ((d : List ℕ) → Bodied (gives_class class) k sub y count (old d) (new d) result) }
 {
     let mut l = k;
     let mut i: u32 = 0;
@@ -65,10 +65,10 @@ pub fn emit_bodies(
     y: u32,
     head: u32,
 ) -> Answer
-    requires { Encoding scratch.old k × (sub < k.concepts) × (head < k.concepts) × (4 * (limitsAt + limitsWords) ≤ length scratch.old) × Sized (length clauses.old) (length atoms.old) (length deferrals.old) × Good k × Sourced (words scratch.old) k sub y count }
+    requires { Encoding scratch.old k × (sub < k.concepts) × (head < k.concepts) × (4 * (limits_at + limits_words) ≤ length scratch.old) × Sized (length clauses.old) (length atoms.old) (length deferrals.old) × Good k × Sourced (words scratch.old) k sub y count }
     ensures { let old = four (words scratch.old) (words clauses.old) (words atoms.old) (words deferrals.old) in
         let new = four (words scratch.new) (words clauses.new) (words atoms.new) (words deferrals.new) in
-        let rule : Env → List Atom → E (Unit {0}) = λ env b. emitHead env (poolOf old.scratch k.concepts) b head 0 in
+        let rule : Env → List Atom → E (Unit {0}) = λ env b. emit_head env (pool_of old.scratch k.concepts) b head 0 in
         Bodied rule k sub y count old new result × BodiedWaits rule k sub y count old new }
 {
     let mut l = k;

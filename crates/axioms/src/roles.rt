@@ -1,16 +1,16 @@
 // The axioms over roles alone.
 ghost use Rattle.std.specs.Prelude.{◌≡◌, List, ℕ, ◌*◌, ◌<◌, ◌≤◌, ◌^◌, length};
 ghost use Rattle.words.specs.Words.{words};
-ghost use Rattle.ir.specs.Roles.{roleOf, roleId};
-ghost use Rattle.rules.specs.Deck.{mostRoles};
+ghost use Rattle.ir.specs.Roles.{role_of, role_id};
+ghost use Rattle.rules.specs.Deck.{most_roles};
 ghost use Rattle.rules.specs.State.{Env, canon};
 ghost use Rattle.rules.specs.Axioms.{chain};
-ghost use Rattle.pool.specs.Layout.{poolOf};
+ghost use Rattle.pool.specs.Layout.{pool_of};
 ghost use Rattle.tables.specs.Drawn.{Sized};
 ghost use Rattle.tables.specs.Good.{Good};
 ghost use Rattle.hands.specs.Hands.{EnvIn, four, Did};
 ghost use Rattle.ir.specs.Records.{Fits};
-ghost use Rattle.axioms.specs.RoleAxioms.{handAt, inHandBytes, irreflexive, secondAtom, notBoth};
+ghost use Rattle.axioms.specs.RoleAxioms.{hand_at, in_hand_bytes, irreflexive, second_atom, not_both};
 
 use crate::bodies::HAND;
 use ir::answer::Answer;
@@ -21,9 +21,9 @@ use ir::role::Role;
 
 // The canonical form of a role's code.
 pub fn canon(scratch: &[u8], code: u32) -> Role
-    requires { (code < 2 * mostRoles) × (inHandBytes ≤ length scratch.now) }
-    ensures value { (env : Env) (k : Counters) → EnvIn env k (words scratch.now) → result ≡ canon env (roleOf code) }
-    ensures result_bound { roleId result < 2 ^ 31 }
+    requires { (code < 2 * most_roles) × (in_hand_bytes ≤ length scratch.now) }
+    ensures value { (env : Env) (k : Counters) → EnvIn env k (words scratch.now) → result ≡ canon env (role_of code) }
+    ensures result_bound { role_id result < 2 ^ 31 }
 {
     Role::of_code(inverse::canon_role(scratch, code))
 }
@@ -38,11 +38,11 @@ pub fn chain(
     s: u32,
     t: u32,
 ) -> Answer
-    requires { (r < 2 * mostRoles) × (s < 2 * mostRoles) × (t < 2 * mostRoles) × (inHandBytes ≤ length scratch.old) × Sized (length clauses.old) (length atoms.old) 0 × Good k }
+    requires { (r < 2 * most_roles) × (s < 2 * most_roles) × (t < 2 * most_roles) × (in_hand_bytes ≤ length scratch.old) × Sized (length clauses.old) (length atoms.old) 0 × Good k }
     ensures { let w = words scratch.old in
         let old = four w (words clauses.old) (words atoms.old) in
         let new = four (words scratch.new) (words clauses.new) (words atoms.new) in
-        ((d : List ℕ) → Did (λ _. 0) 0 (λ env f b u. chain env (roleOf r) (roleOf s) (roleOf t) (poolOf w k.concepts) u) k handAt 0 (old d) (new d) result) }
+        ((d : List ℕ) → Did (λ _. 0) 0 (λ env f b u. chain env (role_of r) (role_of s) (role_of t) (pool_of w k.concepts) u) k hand_at 0 (old d) (new d) result) }
 {
     let l = k.restart_vars();
     let m = l.fresh_var().fresh_var();
@@ -63,10 +63,10 @@ pub fn irreflexive(
     k: Counters,
     r: u32,
 ) -> Answer
-    requires { (r < 2 * mostRoles) × (inHandBytes ≤ length scratch.old) × Sized (length clauses.old) (length atoms.old) 0 × Good k }
+    requires { (r < 2 * most_roles) × (in_hand_bytes ≤ length scratch.old) × Sized (length clauses.old) (length atoms.old) 0 × Good k }
     ensures { let old = four (words scratch.old) (words clauses.old) (words atoms.old) in
         let new = four (words scratch.new) (words clauses.new) (words atoms.new) in
-        ((d : List ℕ) → Did (λ _. 0) 0 (λ env f b u. irreflexive env (roleOf r) u) k handAt 0 (old d) (new d) result) }
+        ((d : List ℕ) → Did (λ _. 0) 0 (λ env f b u. irreflexive env (role_of r) u) k hand_at 0 (old d) (new d) result) }
 {
     let a = Atom::Role(canon(scratch, r), 0, 0);
     record::put_atom(scratch, HAND, a);
@@ -75,8 +75,8 @@ pub fn irreflexive(
 
 // The atom s(y, X), or s(X, y).
 fn second(role: Role, back: bool) -> Atom
-    requires { roleId role < 2 ^ 31 }
-    ensures value { result ≡ secondAtom role 1 back }
+    requires { role_id role < 2 ^ 31 }
+    ensures value { result ≡ second_atom role 1 back }
     ensures fits { Fits result }
 {
     if back {
@@ -96,10 +96,10 @@ pub fn not_both(
     s: u32,
     back: bool,
 ) -> Answer
-    requires { (r < 2 * mostRoles) × (s < 2 * mostRoles) × (inHandBytes ≤ length scratch.old) × Sized (length clauses.old) (length atoms.old) 0 × Good k }
+    requires { (r < 2 * most_roles) × (s < 2 * most_roles) × (in_hand_bytes ≤ length scratch.old) × Sized (length clauses.old) (length atoms.old) 0 × Good k }
     ensures { let old = four (words scratch.old) (words clauses.old) (words atoms.old) in
         let new = four (words scratch.new) (words clauses.new) (words atoms.new) in
-        ((d : List ℕ) → Did (λ _. 0) 0 (λ env f b u. notBoth env (roleOf r) (roleOf s) back u) k handAt 0 (old d) (new d) result) }
+        ((d : List ℕ) → Did (λ _. 0) 0 (λ env f b u. not_both env (role_of r) (role_of s) back u) k hand_at 0 (old d) (new d) result) }
 {
     let l = k.restart_vars();
     let m = l.fresh_var();

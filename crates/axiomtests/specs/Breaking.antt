@@ -1,18 +1,18 @@
 -- The least breaking assignment as the code has it, and what the search leaves alone in the words of scratch.
 use Rattle.std.specs.Prelude.{◌≡◌, List, ℕ, ◌≤◌, length, get_or}
 use Rattle.std.proofs.Math.Option.{Option, none, some}
-use Rattle.sets.specs.Places.{shownAt, lineAt}
+use Rattle.sets.specs.Places.{shown_at, line_at}
 use Rattle.sets.specs.Laid.{KeptTo}
 use Rattle.sets.specs.Verdicts.{shown}
 use Rattle.axiomtests.specs.declared.breaks.Breaks.{Breaks}
 use Rattle.axiomtests.specs.declared.breaks.Breaks.TheVariants.{Nothing, Shown}
 
-abbrev pub leastIn : List ℕ → Breaks → Option (List ℕ)
-leastIn v Nothing = none
-leastIn v (Shown k) = some (shown v k)
+abbrev pub least_in : List ℕ → Breaks → Option (List ℕ)
+least_in v Nothing = none
+least_in v (Shown k) = some (shown v k)
 
 -- only the elements that are shown and the sets of a chain are written
 pub record Aside (v v' : List ℕ) : Type 0 where
   pub long : length v' ≡ length v
-  pub before : KeptTo shownAt v v'
-  pub behind : (i : ℕ) → lineAt ≤ i → get_or v' i 0 ≡ get_or v i 0
+  pub before : KeptTo shown_at v v'
+  pub behind : (i : ℕ) → line_at ≤ i → get_or v' i 0 ≡ get_or v i 0

@@ -2,18 +2,18 @@
 // last k parts can still be broken; then each next element is the least that is related and in its set.
 ghost use Rattle.std.specs.Prelude.{◌≡◌, Bool, not, ◌&&◌, ◌∷◌, ℕ, suc, ◌+◌, ◌*◌, ◌<◌, ◌≤◌, length};
 ghost use Rattle.words.specs.Words.{words};
-ghost use Rattle.ir.specs.Roles.{roleOf};
+ghost use Rattle.ir.specs.Roles.{role_of};
 ghost use Rattle.rules.specs.Base.{all};
-ghost use Rattle.rules.specs.Deck.{mostRoles};
-ghost use Rattle.rules.specs.Run.{scratchBytes};
+ghost use Rattle.rules.specs.Deck.{most_roles};
+ghost use Rattle.rules.specs.Run.{scratch_bytes};
 ghost use Rattle.rules.specs.Semantics.{Interpretation, related};
-ghost use Rattle.states.specs.State.{mostElements};
-ghost use Rattle.states.specs.Conditions.{rises, leastOf, place, chainAt};
-ghost use Rattle.states.specs.Masks.{maskOf};
+ghost use Rattle.states.specs.State.{most_elements};
+ghost use Rattle.states.specs.Conditions.{rises, least_of, place, chain_at};
+ghost use Rattle.states.specs.Masks.{mask_of};
 ghost use Rattle.states.specs.ChainLaws.{walk as walk_of};
 ghost use Rattle.sets.specs.Verdicts.{shown};
-ghost use Rattle.axiomtests.specs.Breaking.{leastIn, Aside};
-ghost use Rattle.axiomtests.specs.Chains.{partCode, partsOf, nextOf, RowsOf, Chained, AllLeft, ChainIn, WalkIn};
+ghost use Rattle.axiomtests.specs.Breaking.{least_in, Aside};
+ghost use Rattle.axiomtests.specs.Chains.{part_code, parts_of, next_of, RowsOf, Chained, AllLeft, ChainIn, WalkIn};
 
 use crate::breaks::Breaks;
 use crate::roles;
@@ -30,15 +30,15 @@ pub struct Chain {
 
 fn part(scratch: &[u8], size: u64, c: Chain, j: u32) -> u32
     requires { ChainIn scratch.now size c × (j < c.parts) }
-    ensures { result ≡ partCode (words scratch.now) c j }
+    ensures { result ≡ part_code (words scratch.now) c j }
 {
     words::get_word(scratch, c.at + c.step * (j as usize))
 }
 
 // The elements that are related to one of the set.
 fn back(scratch: &[u8], size: u64, code: u32, set: u64) -> u64
-    requires { (code < 2 * mostRoles) × (size ≤ mostElements) × (scratchBytes ≤ length scratch.now) }
-    ensures { (I : Interpretation) (f : ℕ → Bool) → size ≡ I.size → RowsOf I (words scratch.now) code → set ≡ maskOf I.size f → result ≡ maskOf I.size (λ y. not (all (λ w. not (related I (roleOf code) y w && f w)) (rises 0 I.size))) }
+    requires { (code < 2 * most_roles) × (size ≤ most_elements) × (scratch_bytes ≤ length scratch.now) }
+    ensures { (I : Interpretation) (f : ℕ → Bool) → size ≡ I.size → RowsOf I (words scratch.now) code → set ≡ mask_of I.size f → result ≡ mask_of I.size (λ y. not (all (λ w. not (related I (role_of code) y w && f w)) (rises 0 I.size))) }
 {
     let mut found: u64 = 0;
     let mut y: u64 = 0;
@@ -71,7 +71,7 @@ fn fill_left(scratch: &mut [u8], size: u64, c: Chain, x: u64)
 // The next element behind y, before the last k parts.
 fn next(scratch: &[u8], size: u64, c: Chain, x: u64, k: u32, y: u64) -> u64
     requires { WalkIn scratch.now size c x (suc k) y }
-    ensures { (I : Interpretation) → Chained I (words scratch.now) size c → AllLeft I (words scratch.now) c x → (result ≡ nextOf I (words scratch.now) c x k y) × (result < I.size) }
+    ensures { (I : Interpretation) → Chained I (words scratch.now) size c → AllLeft I (words scratch.now) c x → (result ≡ next_of I (words scratch.now) c x k y) × (result < I.size) }
 {
     let code = part(scratch, size, c, c.parts - 1 - k);
     let left = sets::kept::get_set(scratch, LEFT + k as usize);
@@ -82,7 +82,7 @@ fn next(scratch: &[u8], size: u64, c: Chain, x: u64, k: u32, y: u64) -> u64
 fn walk(scratch: &mut [u8], size: u64, c: Chain, x: u64)
     requires { WalkIn scratch.old size c x c.parts x }
     ensures aside { Aside (words scratch.old) (words scratch.new) }
-    ensures parts_after { (I : Interpretation) → Chained I (words scratch.old) size c → AllLeft I (words scratch.old) c x → shown (words scratch.new) (c.parts + 1) ≡ x ∷ walk_of I (roleOf c.sup) x (partsOf (words scratch.old) c) x }
+    ensures parts_after { (I : Interpretation) → Chained I (words scratch.old) size c → AllLeft I (words scratch.old) c x → shown (words scratch.new) (c.parts + 1) ≡ x ∷ walk_of I (role_of c.sup) x (parts_of (words scratch.old) c) x }
 {
     words::put_word(scratch, SHOWN, x as u32);
     let parts = c.parts;
@@ -98,7 +98,7 @@ fn walk(scratch: &mut [u8], size: u64, c: Chain, x: u64)
 pub fn least_path(scratch: &mut [u8], size: u64, c: Chain) -> Breaks
     requires { ChainIn scratch.old size c }
     ensures aside { Aside (words scratch.old) (words scratch.new) }
-    ensures result_after { (I : Interpretation) → Chained I (words scratch.old) size c → leastIn (words scratch.new) result ≡ leastOf (rises 0 I.size) (suc c.parts) (λ l. chainAt I (roleOf c.sup) (place l 0) (partsOf (words scratch.old) c) l) }
+    ensures result_after { (I : Interpretation) → Chained I (words scratch.old) size c → least_in (words scratch.new) result ≡ least_of (rises 0 I.size) (suc c.parts) (λ l. chain_at I (role_of c.sup) (place l 0) (parts_of (words scratch.old) c) l) }
 {
     let parts = c.parts;
     let mut x: u64 = 0;

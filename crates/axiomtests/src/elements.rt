@@ -1,7 +1,7 @@
 // Axioms whose condition speaks of one element, 21 to 24, 29 and 35: the set of those that break it.
 ghost use Rattle.std.specs.Prelude.{◌≡◌, true, List, ℕ};
 ghost use Rattle.words.specs.Words.{words};
-ghost use Rattle.axiomtests.specs.Lines.{LineIn, LineThere, Elements, ofElement};
+ghost use Rattle.axiomtests.specs.Lines.{LineIn, LineThere, Elements, of_element};
 
 use crate::members::Sets;
 use crate::{members, roles};
@@ -88,7 +88,7 @@ fn reflexive(scratch: &[u8], t: Trial, at: usize, count: u32) -> u64
 }
 
 pub fn element_mask(store: &[u8], scratch: &[u8], t: Trial, kind: u32, at: usize, count: u32) -> u64
-    requires { LineThere store.now scratch.now t kind at count × (ofElement kind ≡ true) }
+    requires { LineThere store.now scratch.now t kind at count × (of_element kind ≡ true) }
     ensures { Elements (words store.now) (words scratch.now) t kind at count result }
 {
     if kind == 21 {

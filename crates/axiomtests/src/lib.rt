@@ -11,16 +11,16 @@ pub mod roles;
 ghost use Rattle.std.specs.Prelude.{◌≡◌, Bool, true, not, List, [], ◌∷◌, ℕ, ◌<◌, ◌≤◌, length};
 ghost use Rattle.words.specs.Words.{words};
 ghost use Rattle.rules.specs.Deck.{Known};
-ghost use Rattle.rules.specs.Run.{scratchBytes};
+ghost use Rattle.rules.specs.Run.{scratch_bytes};
 ghost use Rattle.rules.specs.Semantics.{Interpretation};
-ghost use Rattle.ontology.specs.Layout.{axiomAt};
-ghost use Rattle.states.specs.Conditions.{rises, behind, leastOf, axiomBroken};
-ghost use Rattle.states.specs.Masks.{maskOf};
-ghost use Rattle.states.specs.Test.{axiomsVerdict};
-ghost use Rattle.sets.specs.Verdicts.{verdictIn};
+ghost use Rattle.ontology.specs.Layout.{axiom_at};
+ghost use Rattle.states.specs.Conditions.{rises, behind, least_of, axiom_broken};
+ghost use Rattle.states.specs.Masks.{mask_of};
+ghost use Rattle.states.specs.Test.{axioms_verdict};
+ghost use Rattle.sets.specs.Verdicts.{verdict_in};
 ghost use Rattle.extents.specs.Ready.{Ready, Fits, ConceptSets, SetsThere};
-ghost use Rattle.axiomtests.specs.Breaking.{leastIn, Aside};
-ghost use Rattle.axiomtests.specs.Lines.{LineIn, LineThere, Broken, ofElement, ofPair};
+ghost use Rattle.axiomtests.specs.Breaking.{least_in, Aside};
+ghost use Rattle.axiomtests.specs.Lines.{LineIn, LineThere, Broken, of_element, of_pair};
 
 use breaks::Breaks;
 use chains::Chain;
@@ -32,9 +32,9 @@ use sets::verdict::Verdict;
 
 // The least element of a set, if it has one.
 fn show_one(scratch: &mut [u8], m: u64) -> Breaks
-    requires { scratchBytes ≤ length scratch.old }
+    requires { scratch_bytes ≤ length scratch.old }
     ensures aside { Aside (words scratch.old) (words scratch.new) }
-    ensures by_index { (n : ℕ) (t : List ℕ → Bool) → n ≤ 64 → m ≡ maskOf n (λ x. not (t (x ∷ []))) → leastIn (words scratch.new) result ≡ leastOf (rises 0 n) 1 t }
+    ensures by_index { (n : ℕ) (t : List ℕ → Bool) → n ≤ 64 → m ≡ mask_of n (λ x. not (t (x ∷ []))) → least_in (words scratch.new) result ≡ least_of (rises 0 n) 1 t }
 {
     if m == 0 {
         return Breaks::Nothing;
@@ -45,9 +45,9 @@ fn show_one(scratch: &mut [u8], m: u64) -> Breaks
 
 // An element and the least of a set, if it has one.
 fn show_two(scratch: &mut [u8], x: u64, m: u64) -> Breaks
-    requires { (x < 64) × (scratchBytes ≤ length scratch.old) }
+    requires { (x < 64) × (scratch_bytes ≤ length scratch.old) }
     ensures aside { Aside (words scratch.old) (words scratch.new) }
-    ensures by_index { (n : ℕ) (t : List ℕ → Bool) → n ≤ 64 → m ≡ maskOf n (λ y. not (t (y ∷ []))) → leastIn (words scratch.new) result ≡ behind x (leastOf (rises 0 n) 1 t) }
+    ensures by_index { (n : ℕ) (t : List ℕ → Bool) → n ≤ 64 → m ≡ mask_of n (λ y. not (t (y ∷ []))) → least_in (words scratch.new) result ≡ behind x (least_of (rises 0 n) 1 t) }
 {
     if m == 0 {
         return Breaks::Nothing;
@@ -60,7 +60,7 @@ fn show_two(scratch: &mut [u8], x: u64, m: u64) -> Breaks
 // ClassAssertion, which shows nothing: base + i is the class of individual i.
 fn assertion(store: &[u8], scratch: &[u8], t: Trial, at: usize, count: u32) -> Breaks
     requires { LineThere store.now scratch.now t 36 at count }
-    ensures { Broken (words store.now) (words scratch.now) t 36 at count (leastIn (words scratch.now) result) }
+    ensures { Broken (words store.now) (words scratch.now) t 36 at count (least_in (words scratch.now) result) }
 {
     let c = words::get_word(scratch, at + 1);
     let class = t.base as usize + words::get_word(scratch, at + 2) as usize;
@@ -78,7 +78,7 @@ fn assertion(store: &[u8], scratch: &[u8], t: Trial, at: usize, count: u32) -> B
 fn chain(scratch: &mut [u8], t: Trial, kind: u32, at: usize, count: u32) -> Breaks
     requires { LineIn scratch.old t kind at count × (27 ≤ kind) × (kind < 29) }
     ensures aside { Aside (words scratch.old) (words scratch.new) }
-    ensures by_index { (w : List ℕ) → Broken w (words scratch.old) t kind at count (leastIn (words scratch.new) result) }
+    ensures by_index { (w : List ℕ) → Broken w (words scratch.old) t kind at count (least_in (words scratch.new) result) }
 {
     let sup = words::get_word(scratch, at + 1);
     let size = t.size as u64;
@@ -104,18 +104,18 @@ fn chain(scratch: &mut [u8], t: Trial, kind: u32, at: usize, count: u32) -> Brea
 }
 
 fn element(store: &[u8], scratch: &mut [u8], t: Trial, kind: u32, at: usize, count: u32) -> Breaks
-    requires { LineThere store.now scratch.old t kind at count × (ofElement kind ≡ true) }
+    requires { LineThere store.now scratch.old t kind at count × (of_element kind ≡ true) }
     ensures aside { Aside (words scratch.old) (words scratch.new) }
-    ensures broken { Broken (words store.now) (words scratch.old) t kind at count (leastIn (words scratch.new) result) }
+    ensures broken { Broken (words store.now) (words scratch.old) t kind at count (least_in (words scratch.new) result) }
 {
     let m = elements::element_mask(store, scratch, t, kind, at, count);
     show_one(scratch, m)
 }
 
 fn pair(scratch: &mut [u8], t: Trial, kind: u32, at: usize, count: u32) -> Breaks
-    requires { LineIn scratch.old t kind at count × (ofPair kind ≡ true) }
+    requires { LineIn scratch.old t kind at count × (of_pair kind ≡ true) }
     ensures aside { Aside (words scratch.old) (words scratch.new) }
-    ensures by_index { (w : List ℕ) → Broken w (words scratch.old) t kind at count (leastIn (words scratch.new) result) }
+    ensures by_index { (w : List ℕ) → Broken w (words scratch.old) t kind at count (least_in (words scratch.new) result) }
 {
     let first = pairs::first_pair(scratch, t, kind, at, count);
     show_two(scratch, first.element, first.set)
@@ -132,7 +132,7 @@ fn row_broken(
 ) -> Breaks
     requires { LineThere store.now scratch.old t kind at count }
     ensures aside { Aside (words scratch.old) (words scratch.new) }
-    ensures broken { Broken (words store.now) (words scratch.old) t kind at count (leastIn (words scratch.new) result) }
+    ensures broken { Broken (words store.now) (words scratch.old) t kind at count (least_in (words scratch.new) result) }
 {
     if kind < 25 {
         return element(store, scratch, t, kind, at, count);
@@ -159,7 +159,7 @@ fn row_broken(
 fn axiom_broken(store: &[u8], scratch: &mut [u8], t: Trial, i: u32) -> Breaks
     requires { SetsThere store.now scratch.old t × (i < t.axioms) }
     ensures aside { Aside (words scratch.old) (words scratch.new) }
-    ensures result_after { (d : Known) (I : Interpretation) → Ready d I (words store.now) (words scratch.old) → ConceptSets d I (length d.concepts) (words scratch.old) → Fits d I t → leastIn (words scratch.new) result ≡ axiomBroken I d.concepts (axiomAt (words scratch.old) i) }
+    ensures result_after { (d : Known) (I : Interpretation) → Ready d I (words store.now) (words scratch.old) → ConceptSets d I (length d.concepts) (words scratch.old) → Fits d I t → least_in (words scratch.new) result ≡ axiom_broken I d.concepts (axiom_at (words scratch.old) i) }
 {
     let kind = axiom::number(scratch, i, 0);
     let at = NUMBERS + axiom::start(scratch, i) as usize;
@@ -169,7 +169,7 @@ fn axiom_broken(store: &[u8], scratch: &mut [u8], t: Trial, i: u32) -> Breaks
 
 pub fn axioms_verdict(store: &[u8], scratch: &mut [u8], t: Trial) -> Verdict
     requires { SetsThere store.now scratch.old t }
-    ensures { (d : Known) (I : Interpretation) → Ready d I (words store.now) (words scratch.old) → ConceptSets d I (length d.concepts) (words scratch.old) → Fits d I t → verdictIn (words scratch.new) result ≡ axiomsVerdict I d }
+    ensures { (d : Known) (I : Interpretation) → Ready d I (words store.now) (words scratch.old) → ConceptSets d I (length d.concepts) (words scratch.old) → Fits d I t → verdict_in (words scratch.new) result ≡ axioms_verdict I d }
 {
     let n = t.axioms;
     let line = t.line;

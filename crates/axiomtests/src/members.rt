@@ -2,8 +2,8 @@
 ghost use Rattle.std.specs.Prelude.{◌≡◌, Bool, not, ◌||◌, ℕ, ◌+◌, ◌<◌, ◌≤◌, eqb};
 ghost use Rattle.words.specs.Words.{words};
 ghost use Rattle.rules.specs.Base.{all, any};
-ghost use Rattle.states.specs.Masks.{maskOf};
-ghost use Rattle.axiomtests.specs.Lists.{numberOf, numbersFrom, numbersOf, memberSet, unlikeAt, clashAt, clashesAt, Members, SetsIn};
+ghost use Rattle.states.specs.Masks.{mask_of};
+ghost use Rattle.axiomtests.specs.Lists.{number_of, numbers_from, numbers_of, member_set, unlike_at, clash_at, clashes_at, Members, SetsIn};
 
 // The numbers stand from word `at` on, and the set of number m is set `first + step * m`.
 #[derive(Clone, Copy)]
@@ -17,7 +17,7 @@ pub struct Sets {
 // The set of number j.
 fn member(scratch: &[u8], l: Sets, j: u32) -> u64
     requires { SetsIn scratch.now l × (j < l.count) }
-    ensures { result ≡ memberSet (words scratch.now) l j }
+    ensures { result ≡ member_set (words scratch.now) l j }
 {
     let m = words::get_word(scratch, l.at + j as usize) as usize;
     sets::kept::get_set(scratch, l.first + l.step * m)
@@ -26,7 +26,7 @@ fn member(scratch: &[u8], l: Sets, j: u32) -> u64
 // What some of them have.
 pub fn some(scratch: &[u8], l: Sets) -> u64
     requires { SetsIn scratch.now l }
-    ensures { (n : ℕ) (f : ℕ → ℕ → Bool) → Members n f (words scratch.now) l → result ≡ maskOf n (λ x. any (λ c. f c x) (numbersOf (words scratch.now) l)) }
+    ensures { (n : ℕ) (f : ℕ → ℕ → Bool) → Members n f (words scratch.now) l → result ≡ mask_of n (λ x. any (λ c. f c x) (numbers_of (words scratch.now) l)) }
 {
     let mut found: u64 = 0;
     let mut j = l.count;
@@ -41,7 +41,7 @@ pub fn some(scratch: &[u8], l: Sets) -> u64
 // What all of them have.
 pub fn every(scratch: &[u8], l: Sets, size: u64) -> u64
     requires { SetsIn scratch.now l × (size ≤ 64) }
-    ensures { (f : ℕ → ℕ → Bool) → Members size f (words scratch.now) l → result ≡ maskOf size (λ x. all (λ c. f c x) (numbersOf (words scratch.now) l)) }
+    ensures { (f : ℕ → ℕ → Bool) → Members size f (words scratch.now) l → result ≡ mask_of size (λ x. all (λ c. f c x) (numbers_of (words scratch.now) l)) }
 {
     let mut found = sets::whole(size);
     let mut j = l.count;
@@ -56,7 +56,7 @@ pub fn every(scratch: &[u8], l: Sets, size: u64) -> u64
 // What one of them has and another has not.
 pub fn unlike(scratch: &[u8], l: Sets, size: u64) -> u64
     requires { SetsIn scratch.now l × (size ≤ 64) }
-    ensures { (f : ℕ → ℕ → Bool) → Members size f (words scratch.now) l → result ≡ maskOf size (λ x. unlikeAt f (numbersOf (words scratch.now) l) x) }
+    ensures { (f : ℕ → ℕ → Bool) → Members size f (words scratch.now) l → result ≡ mask_of size (λ x. unlike_at f (numbers_of (words scratch.now) l) x) }
 {
     sets::without(some(scratch, l), every(scratch, l, size))
 }
@@ -74,7 +74,7 @@ fn clashing(a: u32, b: u32, always: bool) -> bool
 // What the set m of number a and that of number k have, if they clash.
 fn clash(scratch: &[u8], l: Sets, always: bool, a: u32, m: u64, k: u32) -> u64
     requires { SetsIn scratch.now l × (k < l.count) }
-    ensures { (n : ℕ) (f : ℕ → ℕ → Bool) → Members n f (words scratch.now) l → m ≡ maskOf n (f a) → result ≡ maskOf n (clashAt always f a (numberOf (words scratch.now) l k)) }
+    ensures { (n : ℕ) (f : ℕ → ℕ → Bool) → Members n f (words scratch.now) l → m ≡ mask_of n (f a) → result ≡ mask_of n (clash_at always f a (number_of (words scratch.now) l k)) }
 {
     let b = words::get_word(scratch, l.at + k as usize);
     if clashing(a, b, always) {
@@ -86,7 +86,7 @@ fn clash(scratch: &[u8], l: Sets, always: bool, a: u32, m: u64, k: u32) -> u64
 // What number j and a later one have, if they clash.
 fn clash_behind(scratch: &[u8], l: Sets, always: bool, j: u32) -> u64
     requires { SetsIn scratch.now l × (j < l.count) }
-    ensures { (n : ℕ) (f : ℕ → ℕ → Bool) → Members n f (words scratch.now) l → result ≡ maskOf n (λ x. any (λ b. clashAt always f (numberOf (words scratch.now) l j) b x) (numbersFrom (words scratch.now) l (j + 1))) }
+    ensures { (n : ℕ) (f : ℕ → ℕ → Bool) → Members n f (words scratch.now) l → result ≡ mask_of n (λ x. any (λ b. clash_at always f (number_of (words scratch.now) l j) b x) (numbers_from (words scratch.now) l (j + 1))) }
 {
     let a = words::get_word(scratch, l.at + j as usize);
     let m = member(scratch, l, j);
@@ -102,7 +102,7 @@ fn clash_behind(scratch: &[u8], l: Sets, always: bool, j: u32) -> u64
 // What two of them have: by their places, or only if their numbers are unequal.
 pub fn clashes(scratch: &[u8], l: Sets, always: bool) -> u64
     requires { SetsIn scratch.now l }
-    ensures { (n : ℕ) (f : ℕ → ℕ → Bool) → Members n f (words scratch.now) l → result ≡ maskOf n (λ x. clashesAt always f (numbersOf (words scratch.now) l) x) }
+    ensures { (n : ℕ) (f : ℕ → ℕ → Bool) → Members n f (words scratch.now) l → result ≡ mask_of n (λ x. clashes_at always f (numbers_of (words scratch.now) l) x) }
 {
     let mut found: u64 = 0;
     let mut j = l.count;

@@ -2,7 +2,7 @@
 // behind x, and the first x with one.
 ghost use Rattle.std.specs.Prelude.{◌≡◌, true, ◌<◌};
 ghost use Rattle.words.specs.Words.{words};
-ghost use Rattle.axiomtests.specs.Lines.{LineIn, Behind, FirstWith, ofPair};
+ghost use Rattle.axiomtests.specs.Lines.{LineIn, Behind, FirstWith, of_pair};
 
 use crate::members::Sets;
 use crate::{members, roles};
@@ -109,7 +109,7 @@ fn equivalent_roles(scratch: &[u8], t: Trial, at: usize, count: u32, x: u64) -> 
 }
 
 fn pair_mask(scratch: &[u8], t: Trial, kind: u32, at: usize, count: u32, x: u64) -> u64
-    requires { LineIn scratch.now t kind at count × (ofPair kind ≡ true) × (x < t.size) }
+    requires { LineIn scratch.now t kind at count × (of_pair kind ≡ true) × (x < t.size) }
     ensures { Behind (words scratch.now) t kind at count x result }
 {
     if kind == 25 {
@@ -135,7 +135,7 @@ fn pair_mask(scratch: &[u8], t: Trial, kind: u32, at: usize, count: u32, x: u64)
 
 // The first element with a set that is not empty, or an empty set.
 pub fn first_pair(scratch: &[u8], t: Trial, kind: u32, at: usize, count: u32) -> First
-    requires { LineIn scratch.now t kind at count × (ofPair kind ≡ true) }
+    requires { LineIn scratch.now t kind at count × (of_pair kind ≡ true) }
     ensures { FirstWith (words scratch.now) t kind at count result }
 {
     let size = t.size as u64;

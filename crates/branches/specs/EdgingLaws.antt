@@ -5,44 +5,44 @@ use Rattle.std.proofs.Common.{sym, ap, ap₂, ◌∙◌, append-nil, append_asso
 use Rattle.std.proofs.lemmas.List.{drop-append-le}
 use Rattle.ir.specs.declared.atom.Atom.{Atom}
 use Rattle.rules.specs.Base.{any, contains, kept, filter}
-use Rattle.rules.specs.Branches.{isEdge, treeVars, mentions}
-use Rattle.branches.specs.Edges.{anyAtom, edgesOf, innerOf, splits, EdgeIs}
+use Rattle.rules.specs.Branches.{is_edge, tree_vars, mentions}
+use Rattle.branches.specs.Edges.{any_atom, edges_of, inner_of, splits, EdgeIs}
 
 -- ---- tests over two lists
-kept-append : (a : Atom) (l m : List Atom) (b : Bool) → kept a (l ++ m) b ≡ kept a l b ++ m
-kept-append a l m true = refl
-kept-append a l m false = refl
+kept_append : (a : Atom) (l m : List Atom) (b : Bool) → kept a (l ++ m) b ≡ kept a l b ++ m
+kept_append a l m true = refl
+kept_append a l m false = refl
 
-filter-append : (p : Atom → Bool) (l m : List Atom) → filter p (l ++ m) ≡ filter p l ++ filter p m
+filter_append : (p : Atom → Bool) (l m : List Atom) → filter p (l ++ m) ≡ filter p l ++ filter p m
 unfolding filter
-filter-append p [] m = refl
-filter-append p (a ∷ l) m = ap (λ (x : List Atom). kept a x (p a)) (filter-append p l m) ∙ kept-append a (filter p l) (filter p m) (p a)
+filter_append p [] m = refl
+filter_append p (a ∷ l) m = ap (λ (x : List Atom). kept a x (p a)) (filter_append p l m) ∙ kept_append a (filter p l) (filter p m) (p a)
 
-filter-first : (p : Atom → Bool) (a : Atom) (l m : List Atom) (b : Bool) → l ≡ a ∷ m → p a ≡ b → filter p l ≡ kept a (filter p m) b
+filter_first : (p : Atom → Bool) (a : Atom) (l m : List Atom) (b : Bool) → l ≡ a ∷ m → p a ≡ b → filter p l ≡ kept a (filter p m) b
 unfolding filter
-filter-first p a l m b e f = rw (e, f) refl
+filter_first p a l m b e f = rw (e, f) refl
 
-filter-none : (p : Atom → Bool) → filter p [] ≡ []
+filter_none : (p : Atom → Bool) → filter p [] ≡ []
 unfolding filter
-filter-none p = refl
+filter_none p = refl
 
-mentions-append : (v : List ℕ) (l m : List Atom) → mentions v (l ++ m) ≡ (mentions v l || mentions v m)
-mentions-append v [] m = refl
-mentions-append v (a ∷ l) m = ap (λ (b : Bool). any (contains v) (treeVars a) || b) (mentions-append v l m) ∙ sym (or_assoc (any (contains v) (treeVars a)) (mentions v l) (mentions v m))
+mentions_append : (v : List ℕ) (l m : List Atom) → mentions v (l ++ m) ≡ (mentions v l || mentions v m)
+mentions_append v [] m = refl
+mentions_append v (a ∷ l) m = ap (λ (b : Bool). any (contains v) (tree_vars a) || b) (mentions_append v l m) ∙ sym (or_assoc (any (contains v) (tree_vars a)) (mentions v l) (mentions v m))
 
 -- ---- before atom i: e is the one edge, or `count`
 pub record Edging (l : List Atom) (root t count e i : ℕ) : Type 0 where
   pub here : i ≤ count
   pub within : e ≤ count
-  pub quiet : mentions (root ∷ []) (innerOf root t (take i l)) ≡ false
-  pub none : e ≡ count → (edgesOf root t (take i l) ≡ []) × (innerOf root t (take i l) ≡ take i l)
+  pub quiet : mentions (root ∷ []) (inner_of root t (take i l)) ≡ false
+  pub none : e ≡ count → (edges_of root t (take i l) ≡ []) × (inner_of root t (take i l) ≡ take i l)
   pub early : e < count → e < i
-  pub edge : e < count → edgesOf root t (take i l) ≡ get_or l e anyAtom ∷ []
-  pub inner : e < count → innerOf root t (take i l) ≡ take e l ++ drop (e + 1) (take i l)
+  pub edge : e < count → edges_of root t (take i l) ≡ get_or l e any_atom ∷ []
+  pub inner : e < count → inner_of root t (take i l) ≡ take e l ++ drop (e + 1) (take i l)
 
-pub edging-start : (l : List Atom) (root t count : ℕ) → Edging l root t count count 0
+pub edging_start : (l : List Atom) (root t count : ℕ) → Edging l root t count count 0
 unfolding filter
-edging-start l root t count = record {
+edging_start l root t count = record {
   here = omega arith;
   within = omega arith;
   quiet = refl;
@@ -52,103 +52,103 @@ edging-start l root t count = record {
   inner = λ h. absurd (omega arith);
 }
 
-no-split : (l : List Atom) (root t count : ℕ) → splits root t l ≡ false → EdgeIs l root t count count
-no-split l root t count s = record { within = omega arith; none = λ h. s; one = λ h. absurd (omega arith); edge = λ h. absurd (omega arith); inner = λ h. absurd (omega arith) }
+no_split : (l : List Atom) (root t count : ℕ) → splits root t l ≡ false → EdgeIs l root t count count
+no_split l root t count s = record { within = omega arith; none = λ h. s; one = λ h. absurd (omega arith); edge = λ h. absurd (omega arith); inner = λ h. absurd (omega arith) }
 
 module _ (l : List Atom) (root t count e i : ℕ) (E : Edging l root t count e i) (long : count ≡ length l) where
   abbrev inn : Atom → Bool
-  inn a = not (isEdge root t a)
+  inn a = not (is_edge root t a)
 
   module _ (h : i < count) where
     abbrev a : Atom
-    a = get_or l i anyAtom
+    a = get_or l i any_atom
 
     more : take (i + 1) l ≡ take i l ++ (a ∷ [])
-    more = rw (add-one i) (take-suc l i anyAtom (omega arith))
+    more = rw (add-one i) (take-suc l i any_atom (omega arith))
 
     rest : drop i l ≡ a ∷ drop (i + 1) l
-    rest = rw (add-one i) (drop-cons l i anyAtom (omega arith))
+    rest = rw (add-one i) (drop-cons l i any_atom (omega arith))
 
     many : length (take i l) ≡ i
     many = length-take-le i l (omega arith)
 
     -- of the first i + 1, and of all
     module _ (p : Atom → Bool) (b : Bool) (f : p a ≡ b) where
-      filter-more : filter p (take (i + 1) l) ≡ filter p (take i l) ++ kept a [] b
-      filter-more = ap (filter p) more ∙ filter-append p (take i l) (a ∷ []) ∙ ap (λ (x : List Atom). filter p (take i l) ++ x) (filter-first p a (a ∷ []) [] b refl f ∙ ap (λ (x : List Atom). kept a x b) (filter-none p))
+      filter_more : filter p (take (i + 1) l) ≡ filter p (take i l) ++ kept a [] b
+      filter_more = ap (filter p) more ∙ filter_append p (take i l) (a ∷ []) ∙ ap (λ (x : List Atom). filter p (take i l) ++ x) (filter_first p a (a ∷ []) [] b refl f ∙ ap (λ (x : List Atom). kept a x b) (filter_none p))
 
-      filter-all : filter p l ≡ filter p (take i l) ++ kept a (filter p (drop (i + 1) l)) b
-      filter-all = ap (filter p) (sym (take-append-drop i l)) ∙ filter-append p (take i l) (drop i l) ∙ ap (λ (x : List Atom). filter p (take i l) ++ x) (filter-first p a (drop i l) (drop (i + 1) l) b rest f)
+      filter_all : filter p l ≡ filter p (take i l) ++ kept a (filter p (drop (i + 1) l)) b
+      filter_all = ap (filter p) (sym (take-append-drop i l)) ∙ filter_append p (take i l) (drop i l) ∙ ap (λ (x : List Atom). filter p (take i l) ++ x) (filter_first p a (drop i l) (drop (i + 1) l) b rest f)
 
-    module _ (f : isEdge root t a ≡ true) where
-      edges-now : edgesOf root t (take (i + 1) l) ≡ edgesOf root t (take i l) ++ (a ∷ [])
-      edges-now = filter-more (isEdge root t) true f
+    module _ (f : is_edge root t a ≡ true) where
+      edges_now : edges_of root t (take (i + 1) l) ≡ edges_of root t (take i l) ++ (a ∷ [])
+      edges_now = filter_more (is_edge root t) true f
 
-      inner-now : innerOf root t (take (i + 1) l) ≡ innerOf root t (take i l)
-      inner-now = filter-more inn false (ap not f) ∙ append-nil (innerOf root t (take i l))
+      inner_now : inner_of root t (take (i + 1) l) ≡ inner_of root t (take i l)
+      inner_now = filter_more inn false (ap not f) ∙ append-nil (inner_of root t (take i l))
 
-      pub edging-found : count ≤ e → Edging l root t count i (i + 1)
-      edging-found n =
+      pub edging_found : count ≤ e → Edging l root t count i (i + 1)
+      edging_found n =
           let k : e ≡ count = omega (arith, E.within) in
           let z : drop (i + 1) (take (i + 1) l) ≡ [] = drop_of_length-le (take (i + 1) l) {i = i + 1} (omega (arith, length-take-le (i + 1) l (omega arith))) in
           record {
             here = omega arith;
             within = omega arith;
-            quiet = ap (mentions (root ∷ [])) inner-now ∙ E.quiet;
+            quiet = ap (mentions (root ∷ [])) inner_now ∙ E.quiet;
             none = λ q. absurd (omega arith);
             early = λ q. omega arith;
-            edge = λ q. edges-now ∙ ap (λ (x : List Atom). x ++ (a ∷ [])) (E.none k).0;
-            inner = λ q. inner-now ∙ (E.none k).1 ∙ sym (append-nil (take i l)) ∙ ap (λ (x : List Atom). take i l ++ x) (sym z);
+            edge = λ q. edges_now ∙ ap (λ (x : List Atom). x ++ (a ∷ [])) (E.none k).0;
+            inner = λ q. inner_now ∙ (E.none k).1 ∙ sym (append-nil (take i l)) ∙ ap (λ (x : List Atom). take i l ++ x) (sym z);
           }
 
-      pub edging-second : e < count → EdgeIs l root t count count
-      edging-second n =
-          let q : edgesOf root t l ≡ get_or l e anyAtom ∷ a ∷ edgesOf root t (drop (i + 1) l) = filter-all (isEdge root t) true f ∙ ap (λ (x : List Atom). x ++ (a ∷ edgesOf root t (drop (i + 1) l))) (E.edge n) in
-          let s : eqb (length (edgesOf root t l)) 1 ≡ false = ne_eqb (length (edgesOf root t l)) 1 (λ (z : length (edgesOf root t l) ≡ 1). omega (arith, ap length q, z)) in
-          no-split l root t count (ap (λ (b : Bool). b && not (mentions (root ∷ []) (innerOf root t l))) s)
+      pub edging_second : e < count → EdgeIs l root t count count
+      edging_second n =
+          let q : edges_of root t l ≡ get_or l e any_atom ∷ a ∷ edges_of root t (drop (i + 1) l) = filter_all (is_edge root t) true f ∙ ap (λ (x : List Atom). x ++ (a ∷ edges_of root t (drop (i + 1) l))) (E.edge n) in
+          let s : eqb (length (edges_of root t l)) 1 ≡ false = ne_eqb (length (edges_of root t l)) 1 (λ (z : length (edges_of root t l) ≡ 1). omega (arith, ap length q, z)) in
+          no_split l root t count (ap (λ (b : Bool). b && not (mentions (root ∷ []) (inner_of root t l))) s)
 
-    module _ (f : isEdge root t a ≡ false) where
-      edges-same : edgesOf root t (take (i + 1) l) ≡ edgesOf root t (take i l)
-      edges-same = filter-more (isEdge root t) false f ∙ append-nil (edgesOf root t (take i l))
+    module _ (f : is_edge root t a ≡ false) where
+      edges_same : edges_of root t (take (i + 1) l) ≡ edges_of root t (take i l)
+      edges_same = filter_more (is_edge root t) false f ∙ append-nil (edges_of root t (take i l))
 
-      inner-more : innerOf root t (take (i + 1) l) ≡ innerOf root t (take i l) ++ (a ∷ [])
-      inner-more = filter-more inn true (ap not f)
+      inner_more : inner_of root t (take (i + 1) l) ≡ inner_of root t (take i l) ++ (a ∷ [])
+      inner_more = filter_more inn true (ap not f)
 
-      pub edging-on : any (contains (root ∷ [])) (treeVars a) ≡ false → Edging l root t count e (i + 1)
-      edging-on g =
+      pub edging_on : any (contains (root ∷ [])) (tree_vars a) ≡ false → Edging l root t count e (i + 1)
+      edging_on g =
           let m : mentions (root ∷ []) (a ∷ []) ≡ false = ap (λ (b : Bool). b || false) g in
           record {
             here = omega arith;
             within = E.within;
-            quiet = ap (mentions (root ∷ [])) inner-more ∙ mentions-append (root ∷ []) (innerOf root t (take i l)) (a ∷ []) ∙ ap₂ (λ (b c : Bool). b || c) E.quiet m;
-            none = λ q. (edges-same ∙ (E.none q).0, inner-more ∙ ap (λ (x : List Atom). x ++ (a ∷ [])) (E.none q).1 ∙ sym more);
+            quiet = ap (mentions (root ∷ [])) inner_more ∙ mentions_append (root ∷ []) (inner_of root t (take i l)) (a ∷ []) ∙ ap₂ (λ (b c : Bool). b || c) E.quiet m;
+            none = λ q. (edges_same ∙ (E.none q).0, inner_more ∙ ap (λ (x : List Atom). x ++ (a ∷ [])) (E.none q).1 ∙ sym more);
             early = λ q. omega (arith, E.early q);
-            edge = λ q. edges-same ∙ E.edge q;
+            edge = λ q. edges_same ∙ E.edge q;
             inner = λ q.
-                inner-more ∙ ap (λ (x : List Atom). x ++ (a ∷ [])) (E.inner q) ∙ append_assoc (take e l) (drop (e + 1) (take i l)) (a ∷ [])
+                inner_more ∙ ap (λ (x : List Atom). x ++ (a ∷ [])) (E.inner q) ∙ append_assoc (take e l) (drop (e + 1) (take i l)) (a ∷ [])
                 ∙ ap (λ (x : List Atom). take e l ++ x) (sym (drop-append-le (e + 1) (take i l) (a ∷ []) (omega (arith, many, E.early q))) ∙ ap (drop (e + 1)) (sym more));
           }
 
-      pub edging-rooted : any (contains (root ∷ [])) (treeVars a) ≡ true → EdgeIs l root t count count
-      edging-rooted g =
-          let xs = innerOf root t (take i l) in
-          let ys = innerOf root t (drop (i + 1) l) in
+      pub edging_rooted : any (contains (root ∷ [])) (tree_vars a) ≡ true → EdgeIs l root t count count
+      edging_rooted g =
+          let xs = inner_of root t (take i l) in
+          let ys = inner_of root t (drop (i + 1) l) in
           let m : mentions (root ∷ []) (a ∷ ys) ≡ true = ap (λ (b : Bool). b || mentions (root ∷ []) ys) g in
-          let s : mentions (root ∷ []) (innerOf root t l) ≡ true =
-          ap (mentions (root ∷ [])) (filter-all inn true (ap not f)) ∙ mentions-append (root ∷ []) xs (a ∷ ys) ∙ ap (λ (b : Bool). mentions (root ∷ []) xs || b) m ∙ or-true (mentions (root ∷ []) xs) in
-          no-split l root t count (ap (λ (b : Bool). eqb (length (edgesOf root t l)) 1 && not b) s ∙ and-false (eqb (length (edgesOf root t l)) 1))
+          let s : mentions (root ∷ []) (inner_of root t l) ≡ true =
+          ap (mentions (root ∷ [])) (filter_all inn true (ap not f)) ∙ mentions_append (root ∷ []) xs (a ∷ ys) ∙ ap (λ (b : Bool). mentions (root ∷ []) xs || b) m ∙ or-true (mentions (root ∷ []) xs) in
+          no_split l root t count (ap (λ (b : Bool). eqb (length (edges_of root t l)) 1 && not b) s ∙ and-false (eqb (length (edges_of root t l)) 1))
 
   module _ (h : count ≤ i) where
     all : take i l ≡ l
     all = take_all i l (omega arith)
 
-    pub edging-end : EdgeIs l root t count e
-    edging-end =
-        let n : mentions (root ∷ []) (innerOf root t l) ≡ false = ap (λ (x : List Atom). mentions (root ∷ []) (innerOf root t x)) (sym all) ∙ E.quiet in
+    pub edging_end : EdgeIs l root t count e
+    edging_end =
+        let n : mentions (root ∷ []) (inner_of root t l) ≡ false = ap (λ (x : List Atom). mentions (root ∷ []) (inner_of root t x)) (sym all) ∙ E.quiet in
         record {
           within = E.within;
-          none = λ q. ap (λ (x : List Atom). eqb (length x) 1 && not (mentions (root ∷ []) (innerOf root t l))) (ap (edgesOf root t) (sym all) ∙ (E.none q).0);
-          one = λ q. ap₂ (λ (x : List Atom) (b : Bool). eqb (length x) 1 && not b) (ap (edgesOf root t) (sym all) ∙ E.edge q) n;
-          edge = λ q. ap (edgesOf root t) (sym all) ∙ E.edge q;
-          inner = λ q. ap (innerOf root t) (sym all) ∙ E.inner q ∙ ap (λ (x : List Atom). take e l ++ drop (e + 1) x) all;
+          none = λ q. ap (λ (x : List Atom). eqb (length x) 1 && not (mentions (root ∷ []) (inner_of root t l))) (ap (edges_of root t) (sym all) ∙ (E.none q).0);
+          one = λ q. ap₂ (λ (x : List Atom) (b : Bool). eqb (length x) 1 && not b) (ap (edges_of root t) (sym all) ∙ E.edge q) n;
+          edge = λ q. ap (edges_of root t) (sym all) ∙ E.edge q;
+          inner = λ q. ap (inner_of root t) (sym all) ∙ E.inner q ∙ ap (λ (x : List Atom). take e l ++ drop (e + 1) x) all;
         }

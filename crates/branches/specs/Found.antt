@@ -3,10 +3,10 @@ use Rattle.std.specs.Prelude.{◌≡◌, List, map, ℕ, ◌+◌, ◌<◌, ◌�
 use Rattle.std.proofs.Math.Option.{Option, none, some}
 use Rattle.ir.specs.declared.atom.Atom.{Atom}
 use Rattle.rules.specs.Invariants.{Each}
-use Rattle.rules.specs.Branches.{memoOf}
+use Rattle.rules.specs.Branches.{memo_of}
 use Rattle.rules.specs.Branches as Rules
 use Rattle.tables.specs.TabledLaws.{At}
-use Rattle.branches.specs.Memo.{packed, Packable, namedWords, NamedHeld}
+use Rattle.branches.specs.Memo.{packed, Packable, named_words, NamedHeld}
 use Rattle.branches.specs.declared.memo.Naming.{Naming}
 
 -- the body in `count` words from r on
@@ -23,6 +23,6 @@ Found s none i = i ≡ s.named
 -- before branch i, whose words begin at p: it is none of those before
 pub record Searching (r : ℕ) (w : List ℕ) (s : Naming) (count p i : ℕ) : Type 0 where
   pub here : i ≤ s.named
-  pub words : (z : Rules.Naming) → NamedHeld w s z → At w p (namedWords (drop i z.named))
-  pub room : (z : Rules.Naming) → NamedHeld w s z → p + length (namedWords (drop i z.named)) ≡ s.used
-  pub left : (body : List Atom) (z : Rules.Naming) → BodyHeld r w count body → NamedHeld w s z → memoOf z.named body ≡ memoOf (drop i z.named) body
+  pub words : (z : Rules.Naming) → NamedHeld w s z → At w p (named_words (drop i z.named))
+  pub room : (z : Rules.Naming) → NamedHeld w s z → p + length (named_words (drop i z.named)) ≡ s.used
+  pub left : (body : List Atom) (z : Rules.Naming) → BodyHeld r w count body → NamedHeld w s z → memo_of z.named body ≡ memo_of (drop i z.named) body

@@ -1,36 +1,36 @@
 -- Where the pass keeps its work in the words of scratch: records BODY and COPY, and words.
 use Rattle.std.specs.Prelude.{ℕ}
 
-abbrev pub mostNamed : ℕ
-mostNamed = 262144
+abbrev pub most_named : ℕ
+most_named = 262144
 
 -- the filter's words, and where they end
-abbrev pub filterAt : ℕ
-filterAt = 262144
+abbrev pub filter_at : ℕ
+filter_at = 262144
 
-abbrev pub namedEnd : ℕ
-namedEnd = 294912
+abbrev pub named_end : ℕ
+named_end = 294912
 
-abbrev pub bodyAt : ℕ
-bodyAt = 49152
+abbrev pub body_at : ℕ
+body_at = 49152
 
-abbrev pub copyAt : ℕ
-copyAt = 49408
+abbrev pub copy_at : ℕ
+copy_at = 49408
 
-abbrev pub boundAt : ℕ
-boundAt = 297984
+abbrev pub bound_at : ℕ
+bound_at = 297984
 
-abbrev pub topsAt : ℕ
-topsAt = 298241
+abbrev pub tops_at : ℕ
+tops_at = 298241
 
-abbrev pub metAt : ℕ
-metAt = 298498
+abbrev pub met_at : ℕ
+met_at = 298498
 
-abbrev pub keepAt : ℕ
-keepAt = 299011
+abbrev pub keep_at : ℕ
+keep_at = 299011
 
-abbrev pub renumberedAt : ℕ
-renumberedAt = 299523
+abbrev pub renumbered_at : ℕ
+renumbered_at = 299523
 
-abbrev pub workWords : ℕ
-workWords = 299779
+abbrev pub work_words : ℕ
+work_words = 299779

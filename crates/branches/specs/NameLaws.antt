@@ -4,117 +4,117 @@ use Rattle.std.proofs.Common.{sym, ap, subst, ◌∙◌, arith, length-append, g
 use Rattle.std.proofs.Math.Option.{Option, none, some}
 use Rattle.ir.specs.Pick.{pick}
 use Rattle.ir.specs.Records.{six}
-use Rattle.ir.specs.RecordLaws.{six-inj}
+use Rattle.ir.specs.RecordLaws.{six_inj}
 use Rattle.ir.specs.declared.atom.Atom.{Atom}
 use Rattle.ir.specs.declared.atom.Atom.TheVariants.{Class, Exists, AtMost, AtLeast, Equal, Role as RoleAtom}
 use Rattle.rules.specs.Base.{ok, contains}
 use Rattle.rules.specs.Run.{flat}
-use Rattle.rules.specs.DecodeLaws.{flat-long}
+use Rattle.rules.specs.DecodeLaws.{flat_long}
 use Rattle.rules.specs.Invariants.{Each}
-use Rattle.rules.specs.Branches.{memoOf, nameOf, nameOrNew, metWith, renumber, renumberFrom}
+use Rattle.rules.specs.Branches.{memo_of, name_of, name_or_new, met_with, renumber, renumber_from}
 use Rattle.rules.specs.Branches as Rules
-use Rattle.rules.specs.BranchLaws.{renumber-length}
-use Rattle.branches.specs.Layout.{namedEnd, metAt, keepAt}
+use Rattle.rules.specs.BranchLaws.{renumber_length}
+use Rattle.branches.specs.Layout.{named_end, met_at, keep_at}
 use Rattle.tables.specs.TabledLaws.{At}
 use Rattle.branches.specs.Wide.{AtomsAre}
-use Rattle.branches.specs.Memo.{packed, Packable, Tame, TameThere, namedWords, NamedHeld, NamedThere, Named, OnlyMemo}
+use Rattle.branches.specs.Memo.{packed, Packable, Tame, TameThere, named_words, NamedHeld, NamedThere, Named, OnlyMemo}
 use Rattle.branches.specs.Renumbered.{run, OnlyRenumbered}
 use Rattle.branches.specs.Found.{BodyHeld, Found}
-use Rattle.branches.specs.PackLaws.{cons-same}
-use Rattle.branches.specs.MetLaws.{place-most}
-use Rattle.branches.specs.RenumberLaws.{run-kept}
-use Rattle.branches.specs.FilterLaws.{marks-kept}
+use Rattle.branches.specs.PackLaws.{cons_same}
+use Rattle.branches.specs.MetLaws.{place_most}
+use Rattle.branches.specs.RenumberLaws.{run_kept}
+use Rattle.branches.specs.FilterLaws.{marks_kept}
 use Rattle.branches.specs.declared.memo.Naming.{Naming}
 
 -- ---- words determine their atoms
-flat-inj : (l m : List Atom) → flat l ≡ flat m → l ≡ m
+flat_inj : (l m : List Atom) → flat l ≡ flat m → l ≡ m
 unfolding flat
-flat-inj [] [] e = refl
-flat-inj [] (b ∷ m) e = absurd (let z : 0 ≡ length (six b ++ flat m) = ap length e in let k = length-append (six b) (flat m) in omega arith)
-flat-inj (a ∷ l) [] e = absurd (let z : length (six a ++ flat l) ≡ 0 = ap length e in let k = length-append (six a) (flat l) in omega arith)
-flat-inj (a ∷ l) (b ∷ m) e = cons-same a b l m (six-inj a b (ap (take 6) e)) (flat-inj l m (ap (drop 6) e))
+flat_inj [] [] e = refl
+flat_inj [] (b ∷ m) e = absurd (let z : 0 ≡ length (six b ++ flat m) = ap length e in let k = length-append (six b) (flat m) in omega arith)
+flat_inj (a ∷ l) [] e = absurd (let z : length (six a ++ flat l) ≡ 0 = ap length e in let k = length-append (six a) (flat l) in omega arith)
+flat_inj (a ∷ l) (b ∷ m) e = cons_same a b l m (six_inj a b (ap (take 6) e)) (flat_inj l m (ap (drop 6) e))
 
-pub atoms-same : (w : List ℕ) (base count : ℕ) (l m : List Atom) → AtomsAre w base count l → AtomsAre w base count m → l ≡ m
-atoms-same w base count l m A B =
-    let n : length (flat l) ≡ length (flat m) = omega (arith, flat-long l, flat-long m, A.long, B.long) in
-    flat-inj l m (sym A.there ∙ ap (λ (j : ℕ). run w (6 * base) j) n ∙ B.there)
+pub atoms_same : (w : List ℕ) (base count : ℕ) (l m : List Atom) → AtomsAre w base count l → AtomsAre w base count m → l ≡ m
+atoms_same w base count l m A B =
+    let n : length (flat l) ≡ length (flat m) = omega (arith, flat_long l, flat_long m, A.long, B.long) in
+    flat_inj l m (sym A.there ∙ ap (λ (j : ℕ). run w (6 * base) j) n ∙ B.there)
 
 -- ---- a renumbered body fits in words
-met-more : (met : List ℕ) (v : ℕ) → length (metWith met v) ≤ length met + 1
-met-more met v = go (contains met v)
+met_more : (met : List ℕ) (v : ℕ) → length (met_with met v) ≤ length met + 1
+met_more met v = go (contains met v)
   where
     go : (b : Bool) → length (pick b met (met ++ (v ∷ []))) ≤ length met + 1
     go true = omega arith
     go false = let h = length-append met (v ∷ []) in omega arith
 
-renumber-packable : (met : List ℕ) (l : List Atom) → length met + 2 * length l < 1024 → Each Tame l → Each Packable (renumberFrom met l)
-unfolding renumberFrom
-renumber-packable met [] h p = tt
-renumber-packable met (Class k v ∷ l) h p =
-    let x = place-most met v in
-    let y = met-more met v in
-    ((p.0, omega arith), renumber-packable (metWith met v) l (omega arith) p.1)
-renumber-packable met (RoleAtom r u v ∷ l) h p =
-    let x = place-most met u in
-    let y = met-more met u in
-    let z = place-most (metWith met u) v in
-    let t = met-more (metWith met u) v in
-    ((p.0, omega arith, omega arith), renumber-packable (metWith (metWith met u) v) l (omega arith) p.1)
-renumber-packable met (Exists _ _ _ ∷ l) h p = absurd p.0
-renumber-packable met (AtMost _ _ _ _ ∷ l) h p = absurd p.0
-renumber-packable met (AtLeast _ _ _ _ ∷ l) h p = absurd p.0
-renumber-packable met (Equal _ _ ∷ l) h p = absurd p.0
+renumber_packable : (met : List ℕ) (l : List Atom) → length met + 2 * length l < 1024 → Each Tame l → Each Packable (renumber_from met l)
+unfolding renumber_from
+renumber_packable met [] h p = tt
+renumber_packable met (Class k v ∷ l) h p =
+    let x = place_most met v in
+    let y = met_more met v in
+    ((p.0, omega arith), renumber_packable (met_with met v) l (omega arith) p.1)
+renumber_packable met (RoleAtom r u v ∷ l) h p =
+    let x = place_most met u in
+    let y = met_more met u in
+    let z = place_most (met_with met u) v in
+    let t = met_more (met_with met u) v in
+    ((p.0, omega arith, omega arith), renumber_packable (met_with (met_with met u) v) l (omega arith) p.1)
+renumber_packable met (Exists _ _ _ ∷ l) h p = absurd p.0
+renumber_packable met (AtMost _ _ _ _ ∷ l) h p = absurd p.0
+renumber_packable met (AtLeast _ _ _ _ ∷ l) h p = absurd p.0
+renumber_packable met (Equal _ _ ∷ l) h p = absurd p.0
 
-pub body-held : (r : ℕ) (w w' : List ℕ) (base count root : ℕ) (l : List Atom) → TameThere w base count → count ≤ 256 → AtomsAre w base count l → At w' r (map packed (renumber l root)) → BodyHeld r w' count (renumber l root)
-body-held r w w' base count root l T few A a = record {
-  long = A.long ∙ sym (renumber-length (root ∷ []) l);
-  packable = renumber-packable (root ∷ []) l (omega (arith, A.long)) (subst (Each Tame) (atoms-same w base count T.list l T.are A) T.tame);
+pub body_held : (r : ℕ) (w w' : List ℕ) (base count root : ℕ) (l : List Atom) → TameThere w base count → count ≤ 256 → AtomsAre w base count l → At w' r (map packed (renumber l root)) → BodyHeld r w' count (renumber l root)
+body_held r w w' base count root l T few A a = record {
+  long = A.long ∙ sym (renumber_length (root ∷ []) l);
+  packable = renumber_packable (root ∷ []) l (omega (arith, A.long)) (subst (Each Tame) (atoms_same w base count T.list l T.are A) T.tame);
   words = a;
 }
 
 -- ---- the branches stay
-pub get-below : (m : ℕ) (w w' : List ℕ) (j : ℕ) → take m w' ≡ take m w → j < m → get_or w' j 0 ≡ get_or w j 0
-get-below m w w' j e h = sym (get_or-take m w' j 0 h) ∙ ap (λ (l : List ℕ). get_or l j 0) e ∙ get_or-take m w j 0 h
+pub get_below : (m : ℕ) (w w' : List ℕ) (j : ℕ) → take m w' ≡ take m w → j < m → get_or w' j 0 ≡ get_or w j 0
+get_below m w w' j e h = sym (get_or-take m w' j 0 h) ∙ ap (λ (l : List ℕ). get_or l j 0) e ∙ get_or-take m w j 0 h
 
-pub named-kept : (m : ℕ) (w w' : List ℕ) (s : Naming) (z : Rules.Naming) → take m w' ≡ take m w → namedEnd ≤ m → NamedHeld w s z → NamedHeld w' s z
-named-kept m w w' s z e h H = record {
+pub named_kept : (m : ℕ) (w w' : List ℕ) (s : Naming) (z : Rules.Naming) → take m w' ≡ take m w → named_end ≤ m → NamedHeld w s z → NamedHeld w' s z
+named_kept m w w' s z e h H = record {
   many = H.many;
   names = H.names;
   next = H.next;
   used = H.used;
   few = H.few;
-  words = run-kept m w w' 0 (length (namedWords z.named)) e (omega (arith, H.used, H.few)) ∙ H.words;
+  words = run_kept m w w' 0 (length (named_words z.named)) e (omega (arith, H.used, H.few)) ∙ H.words;
   bodies = H.bodies;
-  marks = marks-kept w w' z.named (λ j l. get-below m w w' j e (omega arith)) H.marks;
+  marks = marks_kept w w' z.named (λ j l. get_below m w w' j e (omega arith)) H.marks;
 }
 
-pub there-kept : (m : ℕ) (w w' : List ℕ) (s : Naming) → take m w' ≡ take m w → namedEnd ≤ m → NamedThere w s → NamedThere w' s
-there-kept m w w' s e h T = record { state = T.state; held = named-kept m w w' s T.state e h T.held }
+pub there_kept : (m : ℕ) (w w' : List ℕ) (s : Naming) → take m w' ≡ take m w → named_end ≤ m → NamedThere w s → NamedThere w' s
+there_kept m w w' s e h T = record { state = T.state; held = named_kept m w w' s T.state e h T.held }
 
 -- ---- the answer
-found-some : (s : Naming) (i : ℕ) (body : List Atom) (z : Rules.Naming) (o : Option ℕ) → i < s.named → Found s o i → nameOrNew body z o ≡ ok (s.first + i) z
-found-some s i body z (some e) h f = ap (λ (x : ℕ). ok x z) f.1
-found-some s i body z none h f = absurd (omega arith)
+found_some : (s : Naming) (i : ℕ) (body : List Atom) (z : Rules.Naming) (o : Option ℕ) → i < s.named → Found s o i → name_or_new body z o ≡ ok (s.first + i) z
+found_some s i body z (some e) h f = ap (λ (x : ℕ). ok x z) f.1
+found_some s i body z none h f = absurd (omega arith)
 
-pub named-old : (w : List ℕ) (s : Naming) (i : ℕ) (body : List Atom) (z : Rules.Naming) → i < s.named → Found s (memoOf z.named body) i → NamedHeld w s z → Named w body z s (s.first + i)
-unfolding nameOf
-named-old w s i body z h f H = record { state = z; is = found-some s i body z (memoOf z.named body) h f; held = H }
+pub named_old : (w : List ℕ) (s : Naming) (i : ℕ) (body : List Atom) (z : Rules.Naming) → i < s.named → Found s (memo_of z.named body) i → NamedHeld w s z → Named w body z s (s.first + i)
+unfolding name_of
+named_old w s i body z h f H = record { state = z; is = found_some s i body z (memo_of z.named body) h f; held = H }
 
-pub found-none : (s : Naming) (i : ℕ) (o : Option ℕ) → s.named ≤ i → Found s o i → o ≡ none
-found-none s i (some e) h f = absurd (let k = f.0 in omega arith)
-found-none s i none h f = refl
+pub found_none : (s : Naming) (i : ℕ) (o : Option ℕ) → s.named ≤ i → Found s o i → o ≡ none
+found_none s i (some e) h f = absurd (let k = f.0 in omega arith)
+found_none s i none h f = refl
 
 -- ---- what is not written
-get-run : (k n : ℕ) (w : List ℕ) (j : ℕ) → k ≤ j → j < k + n → get_or (run w k n) (j - k) 0 ≡ get_or w j 0
-get-run k n w j h l =
+get_run : (k n : ℕ) (w : List ℕ) (j : ℕ) → k ≤ j → j < k + n → get_or (run w k n) (j - k) 0 ≡ get_or w j 0
+get_run k n w j h l =
     let e : k + (j - k) ≡ j = omega arith in
     get_or-take n (drop k w) (j - k) 0 (omega arith) ∙ get_or-drop k w (j - k) 0 ∙ ap (λ (i : ℕ). get_or w i 0) e
 
-pub get-within : (k n : ℕ) (w w' : List ℕ) (j : ℕ) → run w' k n ≡ run w k n → k ≤ j → j < k + n → get_or w' j 0 ≡ get_or w j 0
-get-within k n w w' j e h l = sym (get-run k n w' j h l) ∙ ap (λ (x : List ℕ). get_or x (j - k) 0) e ∙ get-run k n w j h l
+pub get_within : (k n : ℕ) (w w' : List ℕ) (j : ℕ) → run w' k n ≡ run w k n → k ≤ j → j < k + n → get_or w' j 0 ≡ get_or w j 0
+get_within k n w w' j e h l = sym (get_run k n w' j h l) ∙ ap (λ (x : List ℕ). get_or x (j - k) 0) e ∙ get_run k n w j h l
 
-pub only-memo : (w w1 w2 : List ℕ) → OnlyRenumbered metAt keepAt w w1 → ((j : ℕ) → namedEnd ≤ j → get_or w2 j 0 ≡ get_or w1 j 0) → OnlyMemo w w2
-only-memo w w1 w2 O f = record {
-  work = λ j h l. f j h ∙ get-below metAt w w1 j O.before l;
-  keep = λ j h l. f j (omega arith) ∙ get-within keepAt 512 w w1 j O.keep h l;
+pub only_memo : (w w1 w2 : List ℕ) → OnlyRenumbered met_at keep_at w w1 → ((j : ℕ) → named_end ≤ j → get_or w2 j 0 ≡ get_or w1 j 0) → OnlyMemo w w2
+only_memo w w1 w2 O f = record {
+  work = λ j h l. f j h ∙ get_below met_at w w1 j O.before l;
+  keep = λ j h l. f j (omega arith) ∙ get_within keep_at 512 w w1 j O.keep h l;
 }

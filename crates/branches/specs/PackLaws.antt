@@ -3,21 +3,21 @@ use Rattle.std.specs.Prelude.{Bool, true, false, ◌≡◌, refl, List, [], ◌�
 use Rattle.std.proofs.Common.{sym, ap, ◌∙◌, arith, eqb-true}
 use Rattle.std.proofs.lemmas.Bool.{eqb-false}
 use Rattle.ir.specs.Pick.{pick}
-use Rattle.ir.specs.Records.{sameAtom}
-use Rattle.ir.specs.RecordLaws.{same-atom, same-atom-refl}
-use Rattle.ir.specs.Roles.{roleId, roleCode, roleOf, role-code}
+use Rattle.ir.specs.Records.{same_atom}
+use Rattle.ir.specs.RecordLaws.{same_atom_lem, same_atom_refl}
+use Rattle.ir.specs.Roles.{role_id, role_code, role_of, role_code_lem}
 use Rattle.ir.specs.declared.role.Role.{Role}
 use Rattle.ir.specs.declared.role.Role.TheVariants.{Named, Inverse}
 use Rattle.ir.specs.declared.atom.Atom.{Atom}
 use Rattle.ir.specs.declared.atom.Atom.TheVariants.{Class, Exists, AtMost, AtLeast, Equal, Role as RoleAtom}
-use Rattle.rules.specs.Added.{both-true}
-use Rattle.rules.specs.Reflexive.{sameAtoms}
+use Rattle.rules.specs.Added.{both_true}
+use Rattle.rules.specs.Reflexive.{same_atoms}
 use Rattle.rules.specs.Invariants.{Each}
 use Rattle.branches.specs.Memo.{packed, Packable}
 
-pub code-small : (r : Role) → roleCode r < 2048 → roleId r < 2147483648
-code-small (Named i) h = omega arith
-code-small (Inverse i) h = omega arith
+pub code_small : (r : Role) → role_code r < 2048 → role_id r < 2147483648
+code_small (Named i) h = omega arith
+code_small (Inverse i) h = omega arith
 
 -- the last digit to base 1024, and the rest
 digit : (a b w : ℕ) → b < 1024 → w ≡ 1024 * a + b → (w / 1024 ≡ a) × (w % 1024 ≡ b)
@@ -27,69 +27,69 @@ half : (x w : ℕ) → w ≡ 2 * x + 1 → w / 2 ≡ x
 half x w e = omega arith
 
 -- ---- an even word is a class atom's, an odd one a role atom's
-pub unpack-class : (w : ℕ) (a : Atom) → w % 2 ≡ 0 → Packable a → w ≡ packed a → Class (w / 2 / 1024) (w / 2 % 1024) ≡ a
-unpack-class w (Class k v) z p e =
+pub unpack_class : (w : ℕ) (a : Atom) → w % 2 ≡ 0 → Packable a → w ≡ packed a → Class (w / 2 / 1024) (w / 2 % 1024) ≡ a
+unpack_class w (Class k v) z p e =
     let x : w / 2 ≡ 1024 * k + v = omega arith in
     let d = digit k v (w / 2) p.1 x in
     rw (d.0, d.1) refl
-unpack-class w (RoleAtom r u v) z p e = absurd (omega arith)
-unpack-class w (Exists _ _ _) z p e = absurd p
-unpack-class w (AtMost _ _ _ _) z p e = absurd p
-unpack-class w (AtLeast _ _ _ _) z p e = absurd p
-unpack-class w (Equal _ _) z p e = absurd p
+unpack_class w (RoleAtom r u v) z p e = absurd (omega arith)
+unpack_class w (Exists _ _ _) z p e = absurd p
+unpack_class w (AtMost _ _ _ _) z p e = absurd p
+unpack_class w (AtLeast _ _ _ _) z p e = absurd p
+unpack_class w (Equal _ _) z p e = absurd p
 
-pub unpack-role : (w : ℕ) (a : Atom) → (w % 2 ≡ 0 → ⊥) → Packable a → w ≡ packed a → RoleAtom (roleOf (w / 2 / 1024 / 1024)) (w / 2 / 1024 % 1024) (w / 2 % 1024) ≡ a
-unpack-role w (Class k v) z p e = absurd (z (omega arith))
-unpack-role w (RoleAtom r u v) z p e =
-    let c = roleCode r in
+pub unpack_role : (w : ℕ) (a : Atom) → (w % 2 ≡ 0 → ⊥) → Packable a → w ≡ packed a → RoleAtom (role_of (w / 2 / 1024 / 1024)) (w / 2 / 1024 % 1024) (w / 2 % 1024) ≡ a
+unpack_role w (Class k v) z p e = absurd (z (omega arith))
+unpack_role w (RoleAtom r u v) z p e =
+    let c = role_code r in
     let x : w / 2 ≡ 1024 * (1024 * c + u) + v = half (1024 * (1024 * c + u) + v) w e in
     let d = digit (1024 * c + u) v (w / 2) p.2 x in
     let f = digit c u (w / 2 / 1024) p.1 d.0 in
-    rw (f.0, f.1, d.1, role-code r) refl
-unpack-role w (Exists _ _ _) z p e = absurd p
-unpack-role w (AtMost _ _ _ _) z p e = absurd p
-unpack-role w (AtLeast _ _ _ _) z p e = absurd p
-unpack-role w (Equal _ _) z p e = absurd p
+    rw (f.0, f.1, d.1, role_code_lem r) refl
+unpack_role w (Exists _ _ _) z p e = absurd p
+unpack_role w (AtMost _ _ _ _) z p e = absurd p
+unpack_role w (AtLeast _ _ _ _) z p e = absurd p
+unpack_role w (Equal _ _) z p e = absurd p
 
-pub pack-inj : (a b : Atom) → Packable a → Packable b → packed a ≡ packed b → a ≡ b
-pack-inj a b p q e = go (eqb (packed a % 2) 0) refl
+pub pack_inj : (a b : Atom) → Packable a → Packable b → packed a ≡ packed b → a ≡ b
+pack_inj a b p q e = go (eqb (packed a % 2) 0) refl
   where
     go : (t : Bool) → eqb (packed a % 2) 0 ≡ t → a ≡ b
-    go true h = let z = eqb-true (packed a % 2) 0 h in sym (unpack-class (packed a) a z p refl) ∙ unpack-class (packed a) b z q e
-    go false h = let z = eqb-false (packed a % 2) 0 h in sym (unpack-role (packed a) a z p refl) ∙ unpack-role (packed a) b z q e
+    go true h = let z = eqb-true (packed a % 2) 0 h in sym (unpack_class (packed a) a z p refl) ∙ unpack_class (packed a) b z q e
+    go false h = let z = eqb-false (packed a % 2) 0 h in sym (unpack_role (packed a) a z p refl) ∙ unpack_role (packed a) b z q e
 
 -- ---- atoms in words
-pub cons-same : (a b : Atom) (l m : List Atom) → a ≡ b → l ≡ m → a ∷ l ≡ b ∷ m
-cons-same a b l m e f = cc
+pub cons_same : (a b : Atom) (l m : List Atom) → a ≡ b → l ≡ m → a ∷ l ≡ b ∷ m
+cons_same a b l m e f = cc
 
-pub packs-inj : (l m : List Atom) → Each Packable l → Each Packable m → map packed l ≡ map packed m → l ≡ m
-packs-inj [] [] p q e = refl
-packs-inj [] (b ∷ m) p q e = absurd (let z : ◌≡◌ {A = ℕ} 0 (suc (length (map packed m))) = ap length e in omega arith)
-packs-inj (a ∷ l) [] p q e = absurd (let z : ◌≡◌ {A = ℕ} (suc (length (map packed l))) 0 = ap length e in omega arith)
-packs-inj (a ∷ l) (b ∷ m) p q e =
+pub packs_inj : (l m : List Atom) → Each Packable l → Each Packable m → map packed l ≡ map packed m → l ≡ m
+packs_inj [] [] p q e = refl
+packs_inj [] (b ∷ m) p q e = absurd (let z : ◌≡◌ {A = ℕ} 0 (suc (length (map packed m))) = ap length e in omega arith)
+packs_inj (a ∷ l) [] p q e = absurd (let z : ◌≡◌ {A = ℕ} (suc (length (map packed l))) 0 = ap length e in omega arith)
+packs_inj (a ∷ l) (b ∷ m) p q e =
     let h : packed a ≡ packed b = ap (λ (x : List ℕ). get_or x 0 0) e in
     let t : map packed l ≡ map packed m = ap (λ (x : List ℕ). drop 1 x) e in
-    cons-same a b l m (pack-inj a b p.0 q.0 h) (packs-inj l m p.1 q.1 t)
+    cons_same a b l m (pack_inj a b p.0 q.0 h) (packs_inj l m p.1 q.1 t)
 
 -- equality of bodies is equality of their words
-same-is : (l m : List Atom) → sameAtoms l m ≡ true → l ≡ m
-unfolding sameAtoms
-same-is [] [] e = refl
-same-is [] (b ∷ m) e = absurd (let z : ◌≡◌ {A = ℕ} 0 1 = ap (λ (t : Bool). pick t 1 0) e in omega arith)
-same-is (a ∷ l) [] e = absurd (let z : ◌≡◌ {A = ℕ} 0 1 = ap (λ (t : Bool). pick t 1 0) e in omega arith)
-same-is (a ∷ l) (b ∷ m) e = let h = both-true (sameAtom a b) (sameAtoms l m) e in cons-same a b l m (same-atom a b h.0) (same-is l m h.1)
+same_is : (l m : List Atom) → same_atoms l m ≡ true → l ≡ m
+unfolding same_atoms
+same_is [] [] e = refl
+same_is [] (b ∷ m) e = absurd (let z : ◌≡◌ {A = ℕ} 0 1 = ap (λ (t : Bool). pick t 1 0) e in omega arith)
+same_is (a ∷ l) [] e = absurd (let z : ◌≡◌ {A = ℕ} 0 1 = ap (λ (t : Bool). pick t 1 0) e in omega arith)
+same_is (a ∷ l) (b ∷ m) e = let h = both_true (same_atom a b) (same_atoms l m) e in cons_same a b l m (same_atom_lem a b h.0) (same_is l m h.1)
 
-same-refl : (l : List Atom) → sameAtoms l l ≡ true
-unfolding sameAtoms
-same-refl [] = refl
-same-refl (a ∷ l) = rw (same-atom-refl a, same-refl l) refl
+same_refl : (l : List Atom) → same_atoms l l ≡ true
+unfolding same_atoms
+same_refl [] = refl
+same_refl (a ∷ l) = rw (same_atom_refl a, same_refl l) refl
 
-pub same-packed : (l m : List Atom) → Each Packable l → Each Packable m → map packed l ≡ map packed m → sameAtoms l m ≡ true
-same-packed l m p q e = rw (packs-inj l m p q e) (same-refl m)
+pub same_packed : (l m : List Atom) → Each Packable l → Each Packable m → map packed l ≡ map packed m → same_atoms l m ≡ true
+same_packed l m p q e = rw (packs_inj l m p q e) (same_refl m)
 
-pub other-packed : (l m : List Atom) → (map packed l ≡ map packed m → ⊥) → sameAtoms l m ≡ false
-other-packed l m f = go (sameAtoms l m) refl
+pub other_packed : (l m : List Atom) → (map packed l ≡ map packed m → ⊥) → same_atoms l m ≡ false
+other_packed l m f = go (same_atoms l m) refl
   where
-    go : (b : Bool) → sameAtoms l m ≡ b → b ≡ false
-    go true e = absurd (f (ap (map packed) (same-is l m e)))
+    go : (b : Bool) → same_atoms l m ≡ b → b ≡ false
+    go true e = absurd (f (ap (map packed) (same_is l m e)))
     go false e = refl

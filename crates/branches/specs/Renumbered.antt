@@ -1,11 +1,11 @@
 -- A body renumbered from its root, in the words of scratch: the variables met stand from word m on, those to keep from k on,
 -- and the renumbered body from r on.
 use Rattle.std.specs.Prelude.{◌≡◌, List, ◌++◌, map, ℕ, ◌+◌, ◌*◌, ◌≤◌, length, get_or, take, drop}
-use Rattle.ir.specs.Records.{atomAt}
+use Rattle.ir.specs.Records.{atom_at}
 use Rattle.ir.specs.declared.atom.Atom.{Atom}
 use Rattle.ir.specs.declared.atom.Atom.TheVariants.{Class, Exists, AtMost, AtLeast, Equal, Role as RoleAtom}
 use Rattle.ir.specs.declared.record.Read.TheVariants.{Atom as ReadAtom}
-use Rattle.rules.specs.Branches.{placeOf, metWith, renumber, renumberFrom}
+use Rattle.rules.specs.Branches.{place_of, met_with, renumber, renumber_from}
 use Rattle.branches.specs.Wide.{AtomsAre}
 use Rattle.branches.specs.Memo.{packed, Tame}
 
@@ -16,11 +16,11 @@ run w m n = take n (drop m w)
 -- a search for v among n words from m on, at i
 pub record Placing (m : ℕ) (w : List ℕ) (n v i : ℕ) : Type 0 where
   pub here : i ≤ n
-  pub left : placeOf (run w m n) v ≡ i + placeOf (drop i (run w m n)) v
+  pub left : place_of (run w m n) v ≡ i + place_of (drop i (run w m n)) v
 
 -- one variable is met: nothing but the variables met is written
 pub record Met (m k : ℕ) (w : List ℕ) (n v : ℕ) (w' : List ℕ) (n' : ℕ) : Type 0 where
-  pub vars : run w' m n' ≡ metWith (run w m n) v
+  pub vars : run w' m n' ≡ met_with (run w m n) v
   pub few : n' ≤ n + 1
   pub long : length w' ≡ length w
   pub before : take m w' ≡ take m w
@@ -28,17 +28,17 @@ pub record Met (m k : ℕ) (w : List ℕ) (n v : ℕ) (w' : List ℕ) (n' : ℕ)
 
 -- ---- an atom
 -- the variables met, and the atom of their places
-abbrev pub metAfter : List ℕ → Atom → List ℕ
-metAfter met (Class k v) = metWith met v
-metAfter met (RoleAtom r u v) = metWith (metWith met u) v
-metAfter met (Exists _ _ _) = met
-metAfter met (AtMost _ _ _ _) = met
-metAfter met (AtLeast _ _ _ _) = met
-metAfter met (Equal _ _) = met
+abbrev pub met_after : List ℕ → Atom → List ℕ
+met_after met (Class k v) = met_with met v
+met_after met (RoleAtom r u v) = met_with (met_with met u) v
+met_after met (Exists _ _ _) = met
+met_after met (AtMost _ _ _ _) = met
+met_after met (AtLeast _ _ _ _) = met
+met_after met (Equal _ _) = met
 
 abbrev pub placed : List ℕ → Atom → Atom
-placed met (Class k v) = Class k (placeOf met v)
-placed met (RoleAtom r u v) = RoleAtom r (placeOf met u) (placeOf (metWith met u) v)
+placed met (Class k v) = Class k (place_of met v)
+placed met (RoleAtom r u v) = RoleAtom r (place_of met u) (place_of (met_with met u) v)
 placed met (Exists r k v) = Exists r k v
 placed met (AtMost r q n v) = AtMost r q n v
 placed met (AtLeast r q n v) = AtLeast r q n v
@@ -46,7 +46,7 @@ placed met (Equal u v) = Equal u v
 
 -- the words before word i of the renumbered body are as they were
 pub record Put (m k r : ℕ) (w : List ℕ) (n i : ℕ) (a : Atom) (w' : List ℕ) (n' : ℕ) : Type 0 where
-  pub vars : run w' m n' ≡ metAfter (run w m n) a
+  pub vars : run w' m n' ≡ met_after (run w m n) a
   pub few : n' ≤ n + 2
   pub word : get_or w' (r + i) 0 ≡ packed (placed (run w m n) a)
   pub long : length w' ≡ length w
@@ -56,7 +56,7 @@ pub record Put (m k r : ℕ) (w : List ℕ) (n i : ℕ) (a : Atom) (w' : List �
 
 pub record TameAt (w : List ℕ) (at : ℕ) : Type 0 where
   pub atom : Atom
-  pub is : atomAt w at ≡ ReadAtom atom
+  pub is : atom_at w at ≡ ReadAtom atom
   pub tame : Tame atom
 
 -- ---- the body
@@ -71,4 +71,4 @@ pub record Renumbering (m k r : ℕ) (w : List ℕ) (base count root : ℕ) (w' 
   pub here : i ≤ count
   pub few : n ≤ 1 + 2 * i
   pub only : OnlyRenumbered m k w w'
-  pub left : (l : List Atom) → AtomsAre w base count l → map packed (renumber l root) ≡ run w' r i ++ map packed (renumberFrom (run w' m n) (drop i l))
+  pub left : (l : List Atom) → AtomsAre w base count l → map packed (renumber l root) ≡ run w' r i ++ map packed (renumber_from (run w' m n) (drop i l))

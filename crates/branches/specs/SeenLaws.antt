@@ -3,7 +3,7 @@ use Rattle.std.specs.Prelude.{Bool, true, false, ◌||◌, ◌≡◌, refl, List
 use Rattle.std.proofs.Common.{sym, ap, ◌∙◌, arith, add-one, eq-eqb, ne_eqb, length-append, drop_of_length-le, length-take-le, drop-cons, get_or-take, take-suc-set}
 use Rattle.ir.specs.Pick.{pick}
 use Rattle.rules.specs.Base.{contains}
-use Rattle.rules.specs.Branches.{seenVar, distinct, metWith}
+use Rattle.rules.specs.Branches.{seen_var, distinct, met_with}
 use Rattle.branches.specs.Seen.{mets}
 
 -- ---- a search among the first n, at i
@@ -13,60 +13,60 @@ module _ (l : List ℕ) (n v i : ℕ) (long : n ≤ length l) where
       let k : length (take n l) ≡ n = length-take-le n l long in
       rw (add-one i) (drop-cons (take n l) i 0 (omega arith) ∙ ap (λ (x : ℕ). x ∷ drop (suc i) (take n l)) (get_or-take n l i 0 h))
 
-  pub search-found : i < n → get_or l i 0 ≡ v → contains (drop i (take n l)) v ≡ true
-  search-found h e = rw (from h, eq-eqb v (get_or l i 0) (sym e)) refl
+  pub search_found : i < n → get_or l i 0 ≡ v → contains (drop i (take n l)) v ≡ true
+  search_found h e = rw (from h, eq-eqb v (get_or l i 0) (sym e)) refl
 
-  pub search-on : i < n → (get_or l i 0 ≡ v → ⊥) → contains (drop i (take n l)) v ≡ contains (drop (i + 1) (take n l)) v
-  search-on h e = rw (from h, ne_eqb v (get_or l i 0) (λ q. e (sym q))) refl
+  pub search_on : i < n → (get_or l i 0 ≡ v → ⊥) → contains (drop i (take n l)) v ≡ contains (drop (i + 1) (take n l)) v
+  search_on h e = rw (from h, ne_eqb v (get_or l i 0) (λ q. e (sym q))) refl
 
-  pub search-out : n ≤ i → contains (drop i (take n l)) v ≡ false
-  search-out h =
+  pub search_out : n ≤ i → contains (drop i (take n l)) v ≡ false
+  search_out h =
       let k : length (take n l) ≡ n = length-take-le n l long in
       let z : length (take n l) ≤ i = omega arith in
       rw (drop_of_length-le (take n l) z) refl
 
 -- ---- one variable more
 module _ (l : List ℕ) (n v : ℕ) where
-  pub see-old : contains (take n l) v ≡ true → take n l ≡ metWith (take n l) v
-  see-old e = rw e refl
+  pub see_old : contains (take n l) v ≡ true → take n l ≡ met_with (take n l) v
+  see_old e = rw e refl
 
-  pub see-new : n < length l → contains (take n l) v ≡ false → take (n + 1) (set l n v) ≡ metWith (take n l) v
-  see-new h e = rw (e, add-one n) (take-suc-set l n v h)
+  pub see_new : n < length l → contains (take n l) v ≡ false → take (n + 1) (set l n v) ≡ met_with (take n l) v
+  see_new h e = rw (e, add-one n) (take-suc-set l n v h)
 
 -- ---- how many they are
-met-long : (met : List ℕ) (v : ℕ) (b : Bool) → length met ≤ length (pick b met (met ++ (v ∷ [])))
-met-long met v true = omega arith
-met-long met v false = omega (arith, length-append met (v ∷ []))
+met_long : (met : List ℕ) (v : ℕ) (b : Bool) → length met ≤ length (pick b met (met ++ (v ∷ [])))
+met_long met v true = omega arith
+met_long met v false = omega (arith, length-append met (v ∷ []))
 
-pub mets-long : (met l : List ℕ) → length met ≤ length (mets met l)
+pub mets_long : (met l : List ℕ) → length met ≤ length (mets met l)
 unfolding mets
-mets-long met [] = omega arith
-mets-long met (v ∷ l) = omega (arith, mets-long (metWith met v) l, met-long met v (contains met v))
+mets_long met [] = omega arith
+mets_long met (v ∷ l) = omega (arith, mets_long (met_with met v) l, met_long met v (contains met v))
 
 -- a new variable counts once, wherever it is put
-or-three : (a b c : Bool) → (a || (b || c)) ≡ (b || (a || c))
-or-three true true c = refl
-or-three true false c = refl
-or-three false true c = refl
-or-three false false c = refl
+or_three : (a b c : Bool) → (a || (b || c)) ≡ (b || (a || c))
+or_three true true c = refl
+or_three true false c = refl
+or_three false true c = refl
+or_three false false c = refl
 
-contains-snoc : (l : List ℕ) (v u : ℕ) → contains (l ++ (v ∷ [])) u ≡ contains (v ∷ l) u
-contains-snoc [] v u = refl
-contains-snoc (x ∷ l) v u = rw (contains-snoc l v u) (or-three (eqb u x) (eqb u v) (contains l u))
+contains_snoc : (l : List ℕ) (v u : ℕ) → contains (l ++ (v ∷ [])) u ≡ contains (v ∷ l) u
+contains_snoc [] v u = refl
+contains_snoc (x ∷ l) v u = rw (contains_snoc l v u) (or_three (eqb u x) (eqb u v) (contains l u))
 
 -- the same variables, and as many
 pub record SameVars (met seen : List ℕ) : Type 0 where
   pub long : length met ≡ length seen
   pub same : (u : ℕ) → contains met u ≡ contains seen u
 
-same-more : (met seen : List ℕ) (v : ℕ) (b : Bool) → SameVars met seen → SameVars (pick b met (met ++ (v ∷ []))) (seenVar seen v b)
-same-more met seen v true a = a
-same-more met seen v false a = record {
+same_more : (met seen : List ℕ) (v : ℕ) (b : Bool) → SameVars met seen → SameVars (pick b met (met ++ (v ∷ []))) (seen_var seen v b)
+same_more met seen v true a = a
+same_more met seen v false a = record {
   long = omega (arith, length-append met (v ∷ []), a.long);
-  same = λ u. contains-snoc met v u ∙ rw (a.same u) refl;
+  same = λ u. contains_snoc met v u ∙ rw (a.same u) refl;
 }
 
-pub mets-distinct : (met seen l : List ℕ) → SameVars met seen → length (mets met l) ≡ length (distinct seen l)
+pub mets_distinct : (met seen l : List ℕ) → SameVars met seen → length (mets met l) ≡ length (distinct seen l)
 unfolding mets distinct
-mets-distinct met seen [] a = a.long
-mets-distinct met seen (v ∷ l) a = mets-distinct (metWith met v) (seenVar seen v (contains seen v)) l (rw (← a.same v) (same-more met seen v (contains met v) a))
+mets_distinct met seen [] a = a.long
+mets_distinct met seen (v ∷ l) a = mets_distinct (met_with met v) (seen_var seen v (contains seen v)) l (rw (← a.same v) (same_more met seen v (contains met v) a))

@@ -2,24 +2,24 @@
 ghost use Rattle.std.specs.Prelude.{◌≡◌, ◌*◌, ◌<◌, ◌≤◌, length, replicate};
 ghost use Rattle.std.proofs.lemmas.List.Edits.{sets};
 ghost use Rattle.words.specs.Words.{words};
-ghost use Rattle.branches.specs.Layout.{filterAt, renumberedAt, workWords};
-ghost use Rattle.branches.specs.Hash.{hashOf};
+ghost use Rattle.branches.specs.Layout.{filter_at, renumbered_at, work_words};
+ghost use Rattle.branches.specs.Hash.{hash_of};
 ghost use Rattle.branches.specs.Renumbered.{run};
 
 use crate::layout::{FILTER, RENUMBERED};
 
 // No word is set.
 pub fn clear(scratch: &mut [u8])
-    requires { 4 * workWords ≤ length scratch.old }
-    ensures { words scratch.new ≡ sets (words scratch.old) filterAt (replicate 32768 0) }
+    requires { 4 * work_words ≤ length scratch.old }
+    ensures { words scratch.new ≡ sets (words scratch.old) filter_at (replicate 32768 0) }
 {
     words::clear_words(scratch, FILTER, 32768);
 }
 
 // The hash of the `count` renumbered words. Modulo 2^32 a role, whose code stands in the high bits, would hardly tell.
 pub fn hash(scratch: &[u8], count: u32) -> usize
-    requires { (count ≤ 256) × (4 * workWords ≤ length scratch.now) }
-    ensures { (result ≡ hashOf (run (words scratch.now) renumberedAt count)) × (result < 32768) }
+    requires { (count ≤ 256) × (4 * work_words ≤ length scratch.now) }
+    ensures { (result ≡ hash_of (run (words scratch.now) renumbered_at count)) × (result < 32768) }
 {
     let mut h: usize = 0;
     let mut i: usize = 0;

@@ -2,15 +2,15 @@
 ghost use Rattle.std.specs.Prelude.{◌≡◌, List, ℕ, ◌+◌, ◌*◌, ◌<◌, ◌≤◌, length, get_or};
 ghost use Rattle.std.proofs.Math.Option.{none};
 ghost use Rattle.words.specs.Words.{words};
-ghost use Rattle.ir.specs.Records.{sameWords};
+ghost use Rattle.ir.specs.Records.{same_words};
 ghost use Rattle.ir.specs.declared.atom.Atom.{Atom};
-ghost use Rattle.rules.specs.Branches.{renumber, memoOf};
+ghost use Rattle.rules.specs.Branches.{renumber, memo_of};
 ghost use Rattle.rules.specs.Branches as Rules;
-ghost use Rattle.branches.specs.Layout.{mostNamed, namedEnd, boundAt, renumberedAt, workWords};
+ghost use Rattle.branches.specs.Layout.{most_named, named_end, bound_at, renumbered_at, work_words};
 ghost use Rattle.tables.specs.TabledLaws.{At};
 ghost use Rattle.branches.specs.Wide.{AtomsAre};
 ghost use Rattle.branches.specs.Memo.{TameThere, NamedHeld, NamedThere, NamedBy, OnlyMemo};
-ghost use Rattle.branches.specs.Hash.{hashOf};
+ghost use Rattle.branches.specs.Hash.{hash_of};
 ghost use Rattle.branches.specs.Renumbered.{run};
 ghost use Rattle.branches.specs.Found.{BodyHeld, Found};
 
@@ -33,7 +33,7 @@ pub enum Name {
 
 fn same_words(scratch: &[u8], a: usize, b: usize, count: u32) -> bool
     requires { (4 * (a + count) ≤ length scratch.now) × (4 * (b + count) ≤ length scratch.now) }
-    ensures { result ≡ sameWords (run (words scratch.now) a count) (run (words scratch.now) b count) }
+    ensures { result ≡ same_words (run (words scratch.now) a count) (run (words scratch.now) b count) }
 {
     let mut i: usize = 0;
     while i < count as usize {
@@ -47,8 +47,8 @@ fn same_words(scratch: &[u8], a: usize, b: usize, count: u32) -> bool
 
 // The branch whose words begin at word p has the `count` renumbered words.
 fn is_body(scratch: &[u8], p: usize, n: u32, count: u32) -> bool
-    requires { (p + n < mostNamed) × (count ≤ 256) × (4 * workWords ≤ length scratch.now) }
-    ensures { (l m : List ℕ) → n ≡ length l → count ≡ length m → At (words scratch.now) (p + 1) l → At (words scratch.now) renumberedAt m → result ≡ sameWords l m }
+    requires { (p + n < most_named) × (count ≤ 256) × (4 * work_words ≤ length scratch.now) }
+    ensures { (l m : List ℕ) → n ≡ length l → count ≡ length m → At (words scratch.now) (p + 1) l → At (words scratch.now) renumbered_at m → result ≡ same_words l m }
 {
     if n != count {
         return false;
@@ -58,8 +58,8 @@ fn is_body(scratch: &[u8], p: usize, n: u32, count: u32) -> bool
 
 // The place of the branch whose body is the `count` renumbered words, or how many are named.
 fn scan(scratch: &[u8], s: Naming, count: u32) -> u32
-    requires { NamedThere (words scratch.now) s × (count ≤ 256) × (4 * workWords ≤ length scratch.now) }
-    ensures { (body : List Atom) (z : Rules.Naming) → BodyHeld renumberedAt (words scratch.now) count body → NamedHeld (words scratch.now) s z → Found s (memoOf z.named body) result }
+    requires { NamedThere (words scratch.now) s × (count ≤ 256) × (4 * work_words ≤ length scratch.now) }
+    ensures { (body : List Atom) (z : Rules.Naming) → BodyHeld renumbered_at (words scratch.now) count body → NamedHeld (words scratch.now) s z → Found s (memo_of z.named body) result }
 {
     let mut p: usize = NAMED;
     let mut i: u32 = 0;
@@ -76,8 +76,8 @@ fn scan(scratch: &[u8], s: Naming, count: u32) -> u32
 
 // The same, the words' hash being h: no branch is equal where the filter's word is not set.
 fn memo(scratch: &[u8], s: Naming, count: u32, h: usize) -> u32
-    requires { NamedThere (words scratch.now) s × (count ≤ 256) × (4 * workWords ≤ length scratch.now) × (h ≡ hashOf (run (words scratch.now) renumberedAt count)) × (h < 32768) }
-    ensures { (body : List Atom) (z : Rules.Naming) → BodyHeld renumberedAt (words scratch.now) count body → NamedHeld (words scratch.now) s z → Found s (memoOf z.named body) result }
+    requires { NamedThere (words scratch.now) s × (count ≤ 256) × (4 * work_words ≤ length scratch.now) × (h ≡ hash_of (run (words scratch.now) renumbered_at count)) × (h < 32768) }
+    ensures { (body : List Atom) (z : Rules.Naming) → BodyHeld renumbered_at (words scratch.now) count body → NamedHeld (words scratch.now) s z → Found s (memo_of z.named body) result }
 {
     if words::get_word(scratch, FILTER + h) == 0 {
         return s.named;
@@ -87,9 +87,9 @@ fn memo(scratch: &[u8], s: Naming, count: u32, h: usize) -> u32
 
 // One branch more, of the `count` renumbered words, whose hash is h.
 fn name_new(scratch: &mut [u8], s: Naming, count: u32, h: usize) -> Name
-    requires { NamedThere (words scratch.old) s × (count ≤ 256) × (s.first + s.named < 2097151) × (4 * workWords ≤ length scratch.old) × (h ≡ hashOf (run (words scratch.old) renumberedAt count)) × (h < 32768) }
-    ensures named_by { (body : List Atom) (z : Rules.Naming) → BodyHeld renumberedAt (words scratch.old) count body → NamedHeld (words scratch.old) s z → memoOf z.named body ≡ none → NamedBy (words scratch.new) body z result }
-    ensures by_index { (j : ℕ) → namedEnd ≤ j → get_or (words scratch.new) j 0 ≡ get_or (words scratch.old) j 0 }
+    requires { NamedThere (words scratch.old) s × (count ≤ 256) × (s.first + s.named < 2097151) × (4 * work_words ≤ length scratch.old) × (h ≡ hash_of (run (words scratch.old) renumbered_at count)) × (h < 32768) }
+    ensures named_by { (body : List Atom) (z : Rules.Naming) → BodyHeld renumbered_at (words scratch.old) count body → NamedHeld (words scratch.old) s z → memo_of z.named body ≡ none → NamedBy (words scratch.new) body z result }
+    ensures by_index { (j : ℕ) → named_end ≤ j → get_or (words scratch.new) j 0 ≡ get_or (words scratch.old) j 0 }
 {
     if MOST_NAMED < s.used as usize + 1 + count as usize {
         return Name::Refused(12);
@@ -108,7 +108,7 @@ fn name_new(scratch: &mut [u8], s: Naming, count: u32, h: usize) -> Name
 
 // The name of the `count` atoms from record `base` on, below the root.
 pub fn name_of(scratch: &mut [u8], s: Naming, base: usize, count: u32, root: u32) -> Name
-    requires { TameThere (words scratch.old) base count × (count ≤ 256) × (namedEnd ≤ 6 * base) × (6 * (base + count) ≤ boundAt) × NamedThere (words scratch.old) s × (s.first + s.named < 2097151) × (4 * workWords ≤ length scratch.old) }
+    requires { TameThere (words scratch.old) base count × (count ≤ 256) × (named_end ≤ 6 * base) × (6 * (base + count) ≤ bound_at) × NamedThere (words scratch.old) s × (s.first + s.named < 2097151) × (4 * work_words ≤ length scratch.old) }
     ensures named_by { (l : List Atom) (z : Rules.Naming) → AtomsAre (words scratch.old) base count l → NamedHeld (words scratch.old) s z → NamedBy (words scratch.new) (renumber l root) z result }
     ensures only_memo { OnlyMemo (words scratch.old) (words scratch.new) }
 {

@@ -1,14 +1,14 @@
 // A body renumbered from its root, a word an atom: a variable's number is its place among the variables met.
 ghost use Rattle.std.specs.Prelude.{◌≡◌, List, map, ◌+◌, ◌*◌, ◌<◌, ◌≤◌, length};
 ghost use Rattle.words.specs.Words.{words};
-ghost use Rattle.ir.specs.Roles.{roleCode};
-ghost use Rattle.ir.specs.Records.{atomAt};
+ghost use Rattle.ir.specs.Roles.{role_code};
+ghost use Rattle.ir.specs.Records.{atom_at};
 ghost use Rattle.ir.specs.declared.atom.Atom.{Atom};
 ghost use Rattle.ir.specs.declared.atom.Atom.TheVariants.{Class, Role as RoleAtom};
 ghost use Rattle.ir.specs.declared.record.Read.TheVariants.{Atom as ReadAtom};
-ghost use Rattle.rules.specs.Branches.{placeOf};
+ghost use Rattle.rules.specs.Branches.{place_of};
 ghost use Rattle.rules.specs.Branches as Rules;
-ghost use Rattle.branches.specs.Layout.{boundAt, metAt, keepAt, renumberedAt, workWords};
+ghost use Rattle.branches.specs.Layout.{bound_at, met_at, keep_at, renumbered_at, work_words};
 ghost use Rattle.tables.specs.TabledLaws.{At};
 ghost use Rattle.branches.specs.Wide.{AtomsAre};
 ghost use Rattle.branches.specs.Memo.{packed, Tame, TameThere};
@@ -23,8 +23,8 @@ use ir::role::Role;
 
 // The place of v among the n variables met, or n.
 fn place(scratch: &[u8], n: usize, v: u32) -> usize
-    requires { (n ≤ 513) × (4 * workWords ≤ length scratch.now) }
-    ensures { result ≡ placeOf (run (words scratch.now) metAt n) v }
+    requires { (n ≤ 513) × (4 * work_words ≤ length scratch.now) }
+    ensures { result ≡ place_of (run (words scratch.now) met_at n) v }
 {
     let mut i: usize = 0;
     while i < n {
@@ -38,8 +38,8 @@ fn place(scratch: &[u8], n: usize, v: u32) -> usize
 
 // v is met: where it is new, it is the last of n + 1.
 fn meet(scratch: &mut [u8], n: usize, v: u32) -> usize
-    requires { (n < 513) × (4 * workWords ≤ length scratch.old) }
-    ensures { Met metAt keepAt (words scratch.old) n v (words scratch.new) result }
+    requires { (n < 513) × (4 * work_words ≤ length scratch.old) }
+    ensures { Met met_at keep_at (words scratch.old) n v (words scratch.new) result }
 {
     let i = place(scratch, n, v);
     if i == n {
@@ -51,8 +51,8 @@ fn meet(scratch: &mut [u8], n: usize, v: u32) -> usize
 
 // Word i of the renumbered body, for a class atom.
 fn put_class(scratch: &mut [u8], n: usize, i: usize, k: u32, v: u32) -> usize
-    requires { (n + 2 ≤ 513) × (i < 256) × (4 * workWords ≤ length scratch.old) × (k < 2097152) }
-    ensures { Put metAt keepAt renumberedAt (words scratch.old) n i (Class k v) (words scratch.new) result }
+    requires { (n + 2 ≤ 513) × (i < 256) × (4 * work_words ≤ length scratch.old) × (k < 2097152) }
+    ensures { Put met_at keep_at renumbered_at (words scratch.old) n i (Class k v) (words scratch.new) result }
 {
     let m = meet(scratch, n, v);
     let p = place(scratch, m, v) as u32;
@@ -63,8 +63,8 @@ fn put_class(scratch: &mut [u8], n: usize, i: usize, k: u32, v: u32) -> usize
 
 // For a role atom.
 fn put_role(scratch: &mut [u8], n: usize, i: usize, r: Role, u: u32, v: u32) -> usize
-    requires { (n + 2 ≤ 513) × (i < 256) × (4 * workWords ≤ length scratch.old) × (roleCode r < 2048) }
-    ensures { Put metAt keepAt renumberedAt (words scratch.old) n i (RoleAtom r u v) (words scratch.new) result }
+    requires { (n + 2 ≤ 513) × (i < 256) × (4 * work_words ≤ length scratch.old) × (role_code r < 2048) }
+    ensures { Put met_at keep_at renumbered_at (words scratch.old) n i (RoleAtom r u v) (words scratch.new) result }
 {
     let l = meet(scratch, n, u);
     let m = meet(scratch, l, v);
@@ -76,8 +76,8 @@ fn put_role(scratch: &mut [u8], n: usize, i: usize, r: Role, u: u32, v: u32) -> 
 }
 
 fn put_atom(scratch: &mut [u8], n: usize, i: usize, a: Atom) -> usize
-    requires { (n + 2 ≤ 513) × (i < 256) × (4 * workWords ≤ length scratch.old) × Tame a }
-    ensures { Put metAt keepAt renumberedAt (words scratch.old) n i a (words scratch.new) result }
+    requires { (n + 2 ≤ 513) × (i < 256) × (4 * work_words ≤ length scratch.old) × Tame a }
+    ensures { Put met_at keep_at renumbered_at (words scratch.old) n i a (words scratch.new) result }
 {
     match a {
         Atom::Class(k, v) => put_class(scratch, n, i, k, v),
@@ -88,8 +88,8 @@ fn put_atom(scratch: &mut [u8], n: usize, i: usize, a: Atom) -> usize
 
 // For the atom of record `at`.
 fn put_record(scratch: &mut [u8], n: usize, i: usize, at: usize) -> usize
-    requires { (n + 2 ≤ 513) × (i < 256) × (4 * workWords ≤ length scratch.old) × (6 * at + 6 ≤ boundAt) × TameAt (words scratch.old) at }
-    ensures { (a : Atom) → atomAt (words scratch.old) at ≡ ReadAtom a → Put metAt keepAt renumberedAt (words scratch.old) n i a (words scratch.new) result }
+    requires { (n + 2 ≤ 513) × (i < 256) × (4 * work_words ≤ length scratch.old) × (6 * at + 6 ≤ bound_at) × TameAt (words scratch.old) at }
+    ensures { (a : Atom) → atom_at (words scratch.old) at ≡ ReadAtom a → Put met_at keep_at renumbered_at (words scratch.old) n i a (words scratch.new) result }
 {
     match record::get_atom(scratch, at) {
         Read::Atom(a) => put_atom(scratch, n, i, a),
@@ -99,9 +99,9 @@ fn put_record(scratch: &mut [u8], n: usize, i: usize, at: usize) -> usize
 
 // The `count` atoms from record `base` on, renumbered from the root.
 pub fn renumber(scratch: &mut [u8], base: usize, count: u32, root: u32)
-    requires { TameThere (words scratch.old) base count × (count ≤ 256) × (6 * (base + count) ≤ boundAt) × (4 * workWords ≤ length scratch.old) }
-    ensures at { (l : List Atom) → AtomsAre (words scratch.old) base count l → At (words scratch.new) renumberedAt (map packed (Rules.renumber l root)) }
-    ensures only_renumbered { OnlyRenumbered metAt keepAt (words scratch.old) (words scratch.new) }
+    requires { TameThere (words scratch.old) base count × (count ≤ 256) × (6 * (base + count) ≤ bound_at) × (4 * work_words ≤ length scratch.old) }
+    ensures at { (l : List Atom) → AtomsAre (words scratch.old) base count l → At (words scratch.new) renumbered_at (map packed (Rules.renumber l root)) }
+    ensures only_renumbered { OnlyRenumbered met_at keep_at (words scratch.old) (words scratch.new) }
 {
     words::put_word(scratch, MET, root);
     let mut n: usize = 1;

@@ -2,8 +2,8 @@
 ghost use Rattle.std.specs.Prelude.{◌≡◌, List, ◌+◌, ◌≤◌, ◌<◌, length, take, ltb, eqb};
 ghost use Rattle.ir.specs.Pick.{pick};
 ghost use Rattle.ir.specs.declared.atom.Atom.{Atom};
-ghost use Rattle.rules.specs.Base.{contains as inList};
-ghost use Rattle.rules.specs.Branches.{maxBodyVars, bodyVarCountFrom, metWith};
+ghost use Rattle.rules.specs.Base.{contains as in_list};
+ghost use Rattle.rules.specs.Branches.{max_body_vars, body_var_count_from, met_with};
 ghost use Rattle.tables.specs.Tabled.{Run};
 
 use tables::read;
@@ -14,7 +14,7 @@ const MOST: usize = 8;
 // v is one of the first n.
 fn contains(list: &[u32], n: usize, v: u32) -> bool
     requires { n ≤ length list.now }
-    ensures { result ≡ inList (take n list.now) v }
+    ensures { result ≡ in_list (take n list.now) v }
 {
     let mut i: usize = 0;
     while i < n {
@@ -29,7 +29,7 @@ fn contains(list: &[u32], n: usize, v: u32) -> bool
 // Adds v to the n variables seen; how many they are then.
 fn see(seen: &mut [u32], n: usize, v: u32) -> usize
     requires { n < length seen.old }
-    ensures { (take result seen.new ≡ metWith (take n seen.old) v) × (n ≤ result) × (result ≤ n + 1) }
+    ensures { (take result seen.new ≡ met_with (take n seen.old) v) × (n ≤ result) × (result ≤ n + 1) }
 {
     if contains(seen, n, v) {
         return n;
@@ -47,7 +47,7 @@ fn from_root(v: u32, root: u32) -> u32
 
 // The role atoms of a body have more variables than MAX_BODY_VARS, X among them, which stands for the root.
 pub fn is_wide(body: &[u8], root: u32) -> bool
-    ensures { (l : List Atom) → Run body.now l → result ≡ ltb maxBodyVars (bodyVarCountFrom l root) }
+    ensures { (l : List Atom) → Run body.now l → result ≡ ltb max_body_vars (body_var_count_from l root) }
 {
     let count = read::atom_room(body);
     let mut seen = [0; 10];

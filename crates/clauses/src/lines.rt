@@ -3,19 +3,19 @@ ghost use Rattle.std.specs.Prelude.{List, [], ◌∷◌, ◌+◌, ◌*◌, ◌�
 ghost use Rattle.words.specs.Words.{words};
 ghost use Rattle.rules.specs.State.{Deferred};
 ghost use Rattle.rules.specs.Axioms.{Clausifier};
-ghost use Rattle.rules.specs.Run.{deferralWords};
-ghost use Rattle.rules.specs.Lister.{fieldsText};
+ghost use Rattle.rules.specs.Run.{deferral_words};
+ghost use Rattle.rules.specs.Lister.{fields_text};
 ghost use Rattle.rows.specs.Rows.{Put};
 ghost use Rattle.staging.specs.Stage.{Shows, Showing};
-ghost use Rattle.clauses.specs.Stage.{deferralsText, stateText, refusalText, lent, mostText, Deferring};
+ghost use Rattle.clauses.specs.Stage.{deferrals_text, state_text, refusal_text, lent, most_text, Deferring};
 
 use ir::counters::Counters;
 use tables::read;
 
 // The first n deferrals, from byte `at` on; where they end.
 fn put_deferrals(deferrals: &[u8], n: u32, out: &mut [u8], at: usize) -> usize
-    requires { (4 * (deferralWords * n) ≤ length deferrals.now) × (at + 34 * n ≤ length out.old) }
-    ensures { (l : List Deferred) → Deferring (words deferrals.now) n l → Put out.old at (deferralsText l) out.new result }
+    requires { (4 * (deferral_words * n) ≤ length deferrals.now) × (at + 34 * n ≤ length out.old) }
+    ensures { (l : List Deferred) → Deferring (words deferrals.now) n l → Put out.old at (deferrals_text l) out.new result }
 {
     let mut p = at;
     let mut i: u32 = 0;
@@ -31,7 +31,7 @@ fn put_deferrals(deferrals: &[u8], n: u32, out: &mut [u8], at: usize) -> usize
 // The sums.
 fn put_sums(out: &mut [u8], at: usize, k: Counters) -> usize
     requires { at + 89 ≤ length out.old }
-    ensures { Put out.old at (fieldsText (44 ∷ k.clauses ∷ k.atoms ∷ k.deferrals ∷ k.next_class ∷ k.visits ∷ k.concepts ∷ k.members ∷ [])) out.new result }
+    ensures { Put out.old at (fields_text (44 ∷ k.clauses ∷ k.atoms ∷ k.deferrals ∷ k.next_class ∷ k.visits ∷ k.concepts ∷ k.members ∷ [])) out.new result }
 {
     let p = rows::put_field(out, at, 44);
     let q = rows::put_field(out, p, k.clauses);
@@ -48,9 +48,9 @@ pub fn put_state(
     k: Counters,
     out: &mut [u8],
 ) -> usize
-    requires { Showing lent k (words clauses.now) (words atoms.now) (words deferrals.now) × (mostText ≤ length out.old) }
-    ensures put { (z : Clausifier) → Shows lent k (words clauses.now) (words atoms.now) (words deferrals.now) z → Put out.old 0 (stateText z) out.new result }
-    ensures upper_bound { result ≤ mostText }
+    requires { Showing lent k (words clauses.now) (words atoms.now) (words deferrals.now) × (most_text ≤ length out.old) }
+    ensures put { (z : Clausifier) → Shows lent k (words clauses.now) (words atoms.now) (words deferrals.now) z → Put out.old 0 (state_text z) out.new result }
+    ensures upper_bound { result ≤ most_text }
 {
     let p = listing::put_clauses(clauses, atoms, k.clauses, out, 0);
     let q = put_deferrals(deferrals, k.deferrals, out, p);
@@ -59,9 +59,9 @@ pub fn put_state(
 
 // A refusal.
 pub fn put_refusal(out: &mut [u8], number: u32, line: u32) -> usize
-    requires { mostText ≤ length out.old }
-    ensures put { Put out.old 0 (refusalText number line) out.new result }
-    ensures upper_bound { result ≤ mostText }
+    requires { most_text ≤ length out.old }
+    ensures put { Put out.old 0 (refusal_text number line) out.new result }
+    ensures upper_bound { result ≤ most_text }
 {
     rows::put_three(out, 0, 49, number, line)
 }

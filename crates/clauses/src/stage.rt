@@ -1,12 +1,12 @@
 // The text of a deck's clauses.
 ghost use Rattle.std.specs.Prelude.{◌+◌, ◌*◌, ◌≤◌, length};
 ghost use Rattle.words.specs.Words.{words};
-ghost use Rattle.ir.specs.Scratch.{limitsAt, limitsWords};
-ghost use Rattle.rules.specs.Deck.{readDeck};
+ghost use Rattle.ir.specs.Scratch.{limits_at, limits_words};
+ghost use Rattle.rules.specs.Deck.{read_deck};
 ghost use Rattle.rows.specs.Rows.{Put};
 ghost use Rattle.clausifier.specs.Prepare.{Preparing};
 ghost use Rattle.staging.specs.Stage.{staged, Blank};
-ghost use Rattle.clauses.specs.Stage.{linedText, stageText, lent, mostText};
+ghost use Rattle.clauses.specs.Stage.{lined_text, stage_text, lent, most_text};
 
 use crate::lines;
 use ir::answer::Lined;
@@ -24,9 +24,9 @@ fn put_clausified(
     n: u32,
     out: &mut [u8],
 ) -> usize
-    requires { Preparing scratch.old k n × Blank lent (words clauses.old) (words atoms.old) (words deferrals.old) × (mostText ≤ length out.old) }
-    ensures put { (P : Preparing scratch.old k n) → Put out.old 0 (linedText (staged P.limit lent P.known)) out.new result }
-    ensures upper_bound { result ≤ mostText }
+    requires { Preparing scratch.old k n × Blank lent (words clauses.old) (words atoms.old) (words deferrals.old) × (most_text ≤ length out.old) }
+    ensures put { (P : Preparing scratch.old k n) → Put out.old 0 (lined_text (staged P.limit lent P.known)) out.new result }
+    ensures upper_bound { result ≤ most_text }
 {
     match staging::clausify_deck(scratch, clauses, atoms, deferrals, k, n) {
         Lined::Finished(v) => lines::put_state(clauses, atoms, deferrals, v, out),
@@ -43,9 +43,9 @@ pub fn put_stage(
     deferrals: &mut [u8],
     out: &mut [u8],
 ) -> usize
-    requires { (4 * (limitsAt + limitsWords) ≤ length scratch.old) × Blank lent (words clauses.old) (words atoms.old) (words deferrals.old) × (mostText ≤ length out.old) }
-    ensures put { Put out.old 0 (stageText (readDeck deck.now)) out.new result }
-    ensures upper_bound { result ≤ mostText }
+    requires { (4 * (limits_at + limits_words) ≤ length scratch.old) × Blank lent (words clauses.old) (words atoms.old) (words deferrals.old) × (most_text ≤ length out.old) }
+    ensures put { Put out.old 0 (stage_text (read_deck deck.now)) out.new result }
+    ensures upper_bound { result ≤ most_text }
 {
     match load::load(deck, scratch, 1000000) {
         Loaded::Accepted(k, n) => put_clausified(scratch, clauses, atoms, deferrals, k, n, out),

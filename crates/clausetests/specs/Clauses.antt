@@ -4,9 +4,9 @@ use Rattle.words.specs.Words.{words}
 use Rattle.rules.specs.Base.{any}
 use Rattle.rules.specs.State.{Clause}
 use Rattle.rules.specs.Invariants.{Each}
-use Rattle.rules.specs.Run.{scratchBytes}
+use Rattle.rules.specs.Run.{scratch_bytes}
 use Rattle.rules.specs.Semantics.{Interpretation}
-use Rattle.states.specs.Test.{wideClause}
+use Rattle.states.specs.Test.{wide_clause}
 use Rattle.tables.specs.Drawn.{Sized}
 use Rattle.tables.specs.Tabled.{Tabled, ClauseAt}
 use Rattle.clausetests.specs.Given.{Given, NamesRoles}
@@ -22,20 +22,20 @@ pub record ClausesThere (size count : ℕ) (text clauses atoms store scratch : L
   pub given : Given meant roles size text (words store) (words scratch)
   pub tabled : Tabled (words clauses) (words atoms) count list
   pub names : Each (ClauseNames roles) list
-  pub narrow : any wideClause list ≡ false
+  pub narrow : any wide_clause list ≡ false
   pub sized : Sized (length clauses) (length atoms) 0
-  pub space : scratchBytes ≤ length scratch
+  pub space : scratch_bytes ≤ length scratch
 
 -- clause i is c, has at most four variables, and names no other role
 pub record ClauseIs (I : Interpretation) (roles size : ℕ) (c : Clause) (i : ℕ) (text clauses atoms w s : List ℕ) : Type 0 where
   pub given : Given I roles size text w s
   pub at : ClauseAt clauses atoms i c
   pub names : ClauseNames roles c
-  pub narrow : wideClause c ≡ false
+  pub narrow : wide_clause c ≡ false
 
 pub record ClauseHere (size i : ℕ) (text clauses atoms store scratch : List ℕ) : Type 0 where
   pub meant : Interpretation
   pub roles : ℕ
   pub clause : Clause
   pub is : ClauseIs meant roles size clause i text (words clauses) (words atoms) (words store) (words scratch)
-  pub space : scratchBytes ≤ length scratch
+  pub space : scratch_bytes ≤ length scratch

@@ -2,18 +2,18 @@
 -- variables and each element for the first of them, those for the second that break every atom of the two.
 use Rattle.std.specs.Prelude.{◌≡◌, Bool, true, false, not, ◌&&◌, ◌||◌, List, [], ◌∷◌, ◌++◌, ℕ, zero, suc, ◌+◌, ◌*◌, ◌<◌, ◌≤◌, length, get_or, eqb}
 use Rattle.words.specs.Words.{words}
-use Rattle.ir.specs.Atoms.{atomVars}
+use Rattle.ir.specs.Atoms.{atom_vars}
 use Rattle.ir.specs.declared.atom.Atom.{Atom}
 use Rattle.rules.specs.Base.{all}
 use Rattle.rules.specs.State.{Clause}
 use Rattle.rules.specs.Invariants.{Each}
-use Rattle.rules.specs.Run.{scratchBytes}
-use Rattle.rules.specs.Semantics.{Interpretation, implies, chosen, atomHolds, clauseVars}
+use Rattle.rules.specs.Run.{scratch_bytes}
+use Rattle.rules.specs.Semantics.{Interpretation, implies, chosen, atom_holds, clause_vars}
 use Rattle.meaning.specs.Choices.{InVars}
-use Rattle.states.specs.Masks.{maskOf}
+use Rattle.states.specs.Masks.{mask_of}
 use Rattle.states.specs.LiteralLaws.{Distinct}
-use Rattle.sets.specs.Kept.{setAt}
-use Rattle.sets.specs.Places.{varsAt, pairsAt}
+use Rattle.sets.specs.Kept.{set_at}
+use Rattle.sets.specs.Places.{vars_at, pairs_at}
 use Rattle.sets.specs.Laid.{KeptTo}
 use Rattle.tables.specs.Tabled.{Run}
 use Rattle.clausetests.specs.declared.vars.Vars.{Vars}
@@ -30,15 +30,15 @@ pairs (suc (suc (suc zero))) = 3
 pairs (suc (suc (suc (suc k)))) = 6
 
 -- the sets of the places i and j, i before j
-abbrev pub pairAt : ℕ → ℕ → ℕ
-pairAt i j = pairsAt + 64 * (i + pairs j)
+abbrev pub pair_at : ℕ → ℕ → ℕ
+pair_at i j = pairs_at + 64 * (i + pairs j)
 
 -- ---- what they say: `one` of a place and an element, `two` of two places and an element for each
 abbrev pub Ones : ℕ → ℕ → (ℕ → ℕ → Bool) → List ℕ → Type 0
-Ones n k one v = (j : ℕ) → j < k → setAt v (varsAt + j) ≡ maskOf n (one j)
+Ones n k one v = (j : ℕ) → j < k → set_at v (vars_at + j) ≡ mask_of n (one j)
 
 abbrev pub Twos : ℕ → ℕ → (ℕ → ℕ → ℕ → ℕ → Bool) → List ℕ → Type 0
-Twos n k two v = (i j e : ℕ) → i < j → j < k → e < n → setAt v (pairAt i j + e) ≡ maskOf n (two i j e)
+Twos n k two v = (i j e : ℕ) → i < j → j < k → e < n → set_at v (pair_at i j + e) ≡ mask_of n (two i j e)
 
 -- of n elements and k places
 pub record Tables (n k : ℕ) (one : ℕ → ℕ → Bool) (two : ℕ → ℕ → ℕ → ℕ → Bool) (v : List ℕ) : Type 0 where
@@ -51,39 +51,39 @@ turned true b = not b
 turned false b = b
 
 -- u is the one variable of the list; s and t are the two
-abbrev pub onlyIn : ℕ → List ℕ → Bool
-onlyIn u l = all (λ x. eqb x u) l
+abbrev pub only_in : ℕ → List ℕ → Bool
+only_in u l = all (λ x. eqb x u) l
 
-abbrev pub bothIn : ℕ → ℕ → List ℕ → Bool
-bothIn s t [] = false
-bothIn s t (x ∷ []) = false
-bothIn s t (x ∷ y ∷ l) = (eqb x s && eqb y t) || (eqb x t && eqb y s)
+abbrev pub both_in : ℕ → ℕ → List ℕ → Bool
+both_in s t [] = false
+both_in s t (x ∷ []) = false
+both_in s t (x ∷ y ∷ l) = (eqb x s && eqb y t) || (eqb x t && eqb y s)
 
-abbrev pub atomOne : Interpretation → List ℕ → Bool → Atom → ℕ → ℕ → Bool
-atomOne I vs head a j x = implies (onlyIn (get_or vs j 0) (atomVars a)) (turned head (atomHolds I (λ _. x) a))
+abbrev pub atom_one : Interpretation → List ℕ → Bool → Atom → ℕ → ℕ → Bool
+atom_one I vs head a j x = implies (only_in (get_or vs j 0) (atom_vars a)) (turned head (atom_holds I (λ _. x) a))
 
-abbrev pub atomTwo : Interpretation → List ℕ → Bool → Atom → ℕ → ℕ → ℕ → ℕ → Bool
-atomTwo I vs head a i j e x = implies (bothIn (get_or vs i 0) (get_or vs j 0) (atomVars a)) (turned head (atomHolds I (chosen (λ _. e) (get_or vs j 0) x) a))
+abbrev pub atom_two : Interpretation → List ℕ → Bool → Atom → ℕ → ℕ → ℕ → ℕ → Bool
+atom_two I vs head a i j e x = implies (both_in (get_or vs i 0) (get_or vs j 0) (atom_vars a)) (turned head (atom_holds I (chosen (λ _. e) (get_or vs j 0) x) a))
 
 -- narrowed by one atom, by some
-abbrev pub oneWith : Interpretation → List ℕ → Bool → Atom → (ℕ → ℕ → Bool) → ℕ → ℕ → Bool
-oneWith I vs head a one j x = one j x && atomOne I vs head a j x
+abbrev pub one_with : Interpretation → List ℕ → Bool → Atom → (ℕ → ℕ → Bool) → ℕ → ℕ → Bool
+one_with I vs head a one j x = one j x && atom_one I vs head a j x
 
-abbrev pub twoWith : Interpretation → List ℕ → Bool → Atom → (ℕ → ℕ → ℕ → ℕ → Bool) → ℕ → ℕ → ℕ → ℕ → Bool
-twoWith I vs head a two i j e x = two i j e x && atomTwo I vs head a i j e x
+abbrev pub two_with : Interpretation → List ℕ → Bool → Atom → (ℕ → ℕ → ℕ → ℕ → Bool) → ℕ → ℕ → ℕ → ℕ → Bool
+two_with I vs head a two i j e x = two i j e x && atom_two I vs head a i j e x
 
-abbrev pub onesWith : Interpretation → List ℕ → Bool → List Atom → (ℕ → ℕ → Bool) → ℕ → ℕ → Bool
-onesWith I vs head l one j x = one j x && all (λ a. atomOne I vs head a j x) l
+abbrev pub ones_with : Interpretation → List ℕ → Bool → List Atom → (ℕ → ℕ → Bool) → ℕ → ℕ → Bool
+ones_with I vs head l one j x = one j x && all (λ a. atom_one I vs head a j x) l
 
-abbrev pub twosWith : Interpretation → List ℕ → Bool → List Atom → (ℕ → ℕ → ℕ → ℕ → Bool) → ℕ → ℕ → ℕ → ℕ → Bool
-twosWith I vs head l two i j e x = two i j e x && all (λ a. atomTwo I vs head a i j e x) l
+abbrev pub twos_with : Interpretation → List ℕ → Bool → List Atom → (ℕ → ℕ → ℕ → ℕ → Bool) → ℕ → ℕ → ℕ → ℕ → Bool
+twos_with I vs head l two i j e x = two i j e x && all (λ a. atom_two I vs head a i j e x) l
 
 -- a clause's
-abbrev pub clauseOne : Interpretation → Clause → ℕ → ℕ → Bool
-clauseOne I c j x = all (λ a. atomOne I (clauseVars c) false a j x) c.body && all (λ a. atomOne I (clauseVars c) true a j x) c.head
+abbrev pub clause_one : Interpretation → Clause → ℕ → ℕ → Bool
+clause_one I c j x = all (λ a. atom_one I (clause_vars c) false a j x) c.body && all (λ a. atom_one I (clause_vars c) true a j x) c.head
 
-abbrev pub clauseTwo : Interpretation → Clause → ℕ → ℕ → ℕ → ℕ → Bool
-clauseTwo I c i j e x = all (λ a. atomTwo I (clauseVars c) false a i j e x) c.body && all (λ a. atomTwo I (clauseVars c) true a i j e x) c.head
+abbrev pub clause_two : Interpretation → Clause → ℕ → ℕ → ℕ → ℕ → Bool
+clause_two I c i j e x = all (λ a. atom_two I (clause_vars c) false a i j e x) c.body && all (λ a. atom_two I (clause_vars c) true a i j e x) c.head
 
 -- ---- the other words stay
 -- only words from a on and below b have changed
@@ -105,7 +105,7 @@ pub record MeantThere (size : ℕ) (l : List Atom) (v : Vars) (text store scratc
   pub roles : ℕ
   pub vars : List ℕ
   pub so : Meant meant roles vars size l v text (words store) (words scratch)
-  pub space : scratchBytes ≤ length scratch
+  pub space : scratch_bytes ≤ length scratch
 
 -- the atoms of these bytes
 pub record RunMeant (size : ℕ) (run : List ℕ) (v : Vars) (text store scratch : List ℕ) : Type 0 where
@@ -116,6 +116,6 @@ pub record RunMeant (size : ℕ) (run : List ℕ) (v : Vars) (text store scratch
 -- a clause of this body and this head
 pub record ClauseMeant (size : ℕ) (body head : List ℕ) (v : Vars) (text store scratch : List ℕ) : Type 0 where
   pub clause : Clause
-  pub body-run : Run body clause.body
-  pub head-run : Run head clause.head
+  pub body_run : Run body clause.body
+  pub head_run : Run head clause.head
   pub there : MeantThere size (clause.body ++ clause.head) v text store scratch

@@ -3,9 +3,9 @@ use Rattle.std.specs.Prelude.{◌≡◌, List, ◌⊎◌, ℕ, ◌≤◌, ◌<�
 use Rattle.words.specs.Words.{words}
 use Rattle.ir.specs.declared.atom.Atom.{Atom}
 use Rattle.ir.specs.declared.atom.Atom.TheVariants.{Class, Exists, AtMost, AtLeast, Equal, Role as RoleAtom}
-use Rattle.ir.specs.Roles.{roleId}
-use Rattle.rules.specs.Deck.{mostRoles}
-use Rattle.rules.specs.Run.{scratchBytes}
+use Rattle.ir.specs.Roles.{role_id}
+use Rattle.rules.specs.Deck.{most_roles}
+use Rattle.rules.specs.Run.{scratch_bytes}
 use Rattle.rules.specs.Semantics.{Interpretation}
 use Rattle.sets.specs.Laid.{Laid, Found}
 
@@ -13,15 +13,15 @@ pub record Given (I : Interpretation) (roles size : ℕ) (text w v : List ℕ) :
   pub laid : Laid I roles w v
   pub found : Found I text w
   pub elements : size ≡ I.size
-  pub few : roles ≤ mostRoles
+  pub few : roles ≤ most_roles
 
 -- the roles that an atom names are among the first n
 abbrev pub NamesRoles : ℕ → Atom → Type 0
 NamesRoles n (Class k v) = Unit {0}
-NamesRoles n (RoleAtom r u v) = roleId r < n
-NamesRoles n (Exists r k v) = roleId r < n
-NamesRoles n (AtMost r q m v) = roleId r < n
-NamesRoles n (AtLeast r q m v) = roleId r < n
+NamesRoles n (RoleAtom r u v) = role_id r < n
+NamesRoles n (Exists r k v) = role_id r < n
+NamesRoles n (AtMost r q m v) = role_id r < n
+NamesRoles n (AtLeast r q m v) = role_id r < n
 NamesRoles n (Equal u v) = Unit {0}
 
 -- an atom of two variables of which one is x
@@ -41,11 +41,11 @@ pub record GivenThere (size : ℕ) (text store scratch : List ℕ) : Type 0 wher
   pub meant : Interpretation
   pub roles : ℕ
   pub given : Given meant roles size text (words store) (words scratch)
-  pub space : scratchBytes ≤ length scratch
+  pub space : scratch_bytes ≤ length scratch
 
 pub record AtomThere (size : ℕ) (a : Atom) (text store scratch : List ℕ) : Type 0 where
   pub meant : Interpretation
   pub roles : ℕ
   pub given : Given meant roles size text (words store) (words scratch)
   pub names : NamesRoles roles a
-  pub space : scratchBytes ≤ length scratch
+  pub space : scratch_bytes ≤ length scratch

@@ -2,22 +2,22 @@
 use Rattle.std.specs.Prelude.{Bool, ◌&&◌, List, [], ◌∷◌, ℕ, zero, suc, ◌+◌, take}
 use Rattle.std.proofs.Math.Option.{Option, none, some}
 use Rattle.ir.specs.Pick.{pick}
-use Rattle.states.specs.Conditions.{rises, behind, firstOf}
+use Rattle.states.specs.Conditions.{rises, behind, first_of}
 use Rattle.clausetests.specs.declared.search.Found.{Found}
 
 -- k elements, as the code has them
-abbrev pub foundIn : ℕ → Found → Option (List ℕ)
-foundIn k f = pick f.yes (some (take k (f.a ∷ f.b ∷ f.c ∷ f.d ∷ []))) none
+abbrev pub found_in : ℕ → Found → Option (List ℕ)
+found_in k f = pick f.yes (some (take k (f.a ∷ f.b ∷ f.c ∷ f.d ∷ []))) none
 
 -- what fits at each place, with x at place j
 abbrev pub narrowed : (ℕ → ℕ → ℕ → ℕ → Bool) → ℕ → ℕ → (ℕ → ℕ → Bool) → ℕ → ℕ → Bool
 narrowed two j x F q y = F q y && two j q x y
 
 -- the least k elements from place j on
-unfoldable pub searchBy : (n : ℕ) (two : ℕ → ℕ → ℕ → ℕ → Bool) (k j : ℕ) → (ℕ → ℕ → Bool) → Option (List ℕ)
-searchBy n two zero j F = some []
-searchBy n two (suc k) j F = firstOf (λ x. pick (F j x) (behind x (searchBy n two k (j + 1) (narrowed two j x F))) none) (rises 0 n)
+unfoldable pub search_by : (n : ℕ) (two : ℕ → ℕ → ℕ → ℕ → Bool) (k j : ℕ) → (ℕ → ℕ → Bool) → Option (List ℕ)
+search_by n two zero j F = some []
+search_by n two (suc k) j F = first_of (λ x. pick (F j x) (behind x (search_by n two k (j + 1) (narrowed two j x F))) none) (rises 0 n)
 
 -- those that begin with x
-abbrev pub searchAt : (n : ℕ) (two : ℕ → ℕ → ℕ → ℕ → Bool) (k j : ℕ) → (ℕ → ℕ → Bool) → ℕ → Option (List ℕ)
-searchAt n two k j F x = pick (F j x) (behind x (searchBy n two k (j + 1) (narrowed two j x F))) none
+abbrev pub search_at : (n : ℕ) (two : ℕ → ℕ → ℕ → ℕ → Bool) (k j : ℕ) → (ℕ → ℕ → Bool) → ℕ → Option (List ℕ)
+search_at n two k j F x = pick (F j x) (behind x (search_by n two k (j + 1) (narrowed two j x F))) none

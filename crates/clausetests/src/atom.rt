@@ -4,11 +4,11 @@ ghost use Rattle.words.specs.Words.{words};
 ghost use Rattle.ir.specs.Pick.{pick};
 ghost use Rattle.ir.specs.Roles.{flipped};
 ghost use Rattle.ir.specs.declared.atom.Atom.TheVariants as Atoms;
-ghost use Rattle.rules.specs.Semantics.{Interpretation, qualifies, atomHolds, chosen};
-ghost use Rattle.states.specs.Masks.{maskOf};
+ghost use Rattle.rules.specs.Semantics.{Interpretation, qualifies, atom_holds, chosen};
+ghost use Rattle.states.specs.Masks.{mask_of};
 ghost use Rattle.sets.specs.Laid.{Rows};
 ghost use Rattle.clausetests.specs.Given.{Given, NamesRoles, PairWith, AtomThere};
-ghost use Rattle.clausetests.specs.SetLaws.{RowsThere, countIn};
+ghost use Rattle.clausetests.specs.SetLaws.{RowsThere, count_in};
 
 use crate::class;
 use ir::atom::{Atom, Qualifier};
@@ -18,7 +18,7 @@ use sets::kept;
 // How many of a set x is related to.
 fn count_in(scratch: &[u8], code: u32, x: u32, among: u64) -> u32
     requires { RowsThere code (x + 1) scratch.now }
-    ensures { (n : ℕ) (R : ℕ → ℕ → Bool) (f : ℕ → Bool) → x < n → Rows (words scratch.now) code n R → among ≡ maskOf n f → result ≡ countIn n R f x }
+    ensures { (n : ℕ) (R : ℕ → ℕ → Bool) (f : ℕ → Bool) → x < n → Rows (words scratch.now) code n R → among ≡ mask_of n f → result ≡ count_in n R f x }
 {
     sets::size(sets::both(kept::row(scratch, code, x), among))
 }
@@ -26,7 +26,7 @@ fn count_in(scratch: &[u8], code: u32, x: u32, among: u64) -> u32
 // The elements that are related to at most n of a set.
 fn at_most(scratch: &[u8], code: u32, among: u64, n: u32, size: u32) -> u64
     requires { RowsThere code size scratch.now }
-    ensures { (R : ℕ → ℕ → Bool) (f : ℕ → Bool) → Rows (words scratch.now) code size R → among ≡ maskOf size f → result ≡ maskOf size (λ x. leb (countIn size R f x) n) }
+    ensures { (R : ℕ → ℕ → Bool) (f : ℕ → Bool) → Rows (words scratch.now) code size R → among ≡ mask_of size f → result ≡ mask_of size (λ x. leb (count_in size R f x) n) }
 {
     let mut m: u64 = 0;
     let mut x: u32 = 0;
@@ -40,7 +40,7 @@ fn at_most(scratch: &[u8], code: u32, among: u64, n: u32, size: u32) -> u64
 // To at least n.
 fn at_least(scratch: &[u8], code: u32, among: u64, n: u32, size: u32) -> u64
     requires { RowsThere code size scratch.now }
-    ensures { (R : ℕ → ℕ → Bool) (f : ℕ → Bool) → Rows (words scratch.now) code size R → among ≡ maskOf size f → result ≡ maskOf size (λ x. leb n (countIn size R f x)) }
+    ensures { (R : ℕ → ℕ → Bool) (f : ℕ → Bool) → Rows (words scratch.now) code size R → among ≡ mask_of size f → result ≡ mask_of size (λ x. leb n (count_in size R f x)) }
 {
     let mut m: u64 = 0;
     let mut x: u32 = 0;
@@ -54,7 +54,7 @@ fn at_least(scratch: &[u8], code: u32, among: u64, n: u32, size: u32) -> u64
 // The elements that a number restriction counts.
 fn filler(text: &[u8], store: &[u8], q: Qualifier, size: u32) -> u64
     requires { size ≤ 64 }
-    ensures { (I : Interpretation) (roles : ℕ) (v : List ℕ) → Given I roles size text.now (words store.now) v → result ≡ maskOf I.size (qualifies I q) }
+    ensures { (I : Interpretation) (roles : ℕ) (v : List ℕ) → Given I roles size text.now (words store.now) v → result ≡ mask_of I.size (qualifies I q) }
 {
     match q {
         Qualifier::Unqualified => sets::whole(size as u64),
@@ -65,7 +65,7 @@ fn filler(text: &[u8], store: &[u8], q: Qualifier, size: u32) -> u64
 // The elements of which the atom holds, where they are all its variables.
 pub fn atom_set(text: &[u8], store: &[u8], scratch: &[u8], a: Atom, size: u32) -> u64
     requires { AtomThere size a text.now store.now scratch.now }
-    ensures { (I : Interpretation) (roles : ℕ) → Given I roles size text.now (words store.now) (words scratch.now) → NamesRoles roles a → result ≡ maskOf I.size (λ x. atomHolds I (λ _. x) a) }
+    ensures { (I : Interpretation) (roles : ℕ) → Given I roles size text.now (words store.now) (words scratch.now) → NamesRoles roles a → result ≡ mask_of I.size (λ x. atom_holds I (λ _. x) a) }
 {
     match a {
         Atom::Class(c, _) => class::class_set(text, store, c, size),
@@ -108,7 +108,7 @@ fn turned(r: Role, turn: bool) -> Role
 // The elements of which an atom of two variables holds for the variable `free`, where x is the other.
 pub fn atom_row(scratch: &[u8], a: Atom, free: u32, x: u32, size: u32) -> u64
     requires { (x < size) × PairWith «free» a × ((text store : List ℕ) × AtomThere size a text store scratch.now) }
-    ensures { (I : Interpretation) (roles : ℕ) (text w : List ℕ) → Given I roles size text w (words scratch.now) → NamesRoles roles a → result ≡ maskOf I.size (λ y. atomHolds I (chosen (λ _. x) «free» y) a) }
+    ensures { (I : Interpretation) (roles : ℕ) (text w : List ℕ) → Given I roles size text w (words scratch.now) → NamesRoles roles a → result ≡ mask_of I.size (λ y. atom_holds I (chosen (λ _. x) «free» y) a) }
 {
     match a {
         Atom::Role(r, u, _) => kept::row(scratch, turned(r, u == free).code(), x),

@@ -2,18 +2,18 @@
 ghost use Rattle.std.specs.Prelude.{◌≡◌, ◌&&◌, List, [], ◌∷◌, ◌++◌, ℕ, suc, ◌+◌, ◌*◌, ◌≤◌, length, get_or, drop, eqb};
 ghost use Rattle.words.specs.Words.{words};
 ghost use Rattle.rules.specs.Semantics.{Interpretation};
-ghost use Rattle.states.specs.Masks.{maskOf};
-ghost use Rattle.states.specs.ScanLaws.{scanBy, scanned};
-ghost use Rattle.text.specs.Rows.{rowAt};
+ghost use Rattle.states.specs.Masks.{mask_of};
+ghost use Rattle.states.specs.ScanLaws.{scan_by, scanned};
+ghost use Rattle.text.specs.Rows.{row_at};
 ghost use Rattle.clausetests.specs.Given.{Given};
-ghost use Rattle.clausetests.specs.ScanCode.{setOf};
+ghost use Rattle.clausetests.specs.ScanCode.{set_of};
 
 use sets::kept;
 
 // With x, which is no element where it is not below size.
 fn with_below(m: u64, x: usize, size: u32) -> u64
     requires { size ≤ 64 }
-    ensures { (l : List ℕ) → m ≡ setOf size l → result ≡ setOf size (l ++ (x ∷ [])) }
+    ensures { (l : List ℕ) → m ≡ set_of size l → result ≡ set_of size (l ++ (x ∷ [])) }
 {
     if x < size as usize {
         return sets::with(m, x as u64);
@@ -24,7 +24,7 @@ fn with_below(m: u64, x: usize, size: u32) -> u64
 // The numbers behind the first two of a line.
 fn line_set(text: &[u8], p: usize, n: usize, size: u32) -> u64
     requires { (p + 11 * n ≤ length text.now) × (size ≤ 64) }
-    ensures { result ≡ setOf size (drop 2 (rowAt text.now p n)) }
+    ensures { result ≡ set_of size (drop 2 (row_at text.now p n)) }
 {
     let mut m: u64 = 0;
     let mut k: usize = 2;
@@ -38,7 +38,7 @@ fn line_set(text: &[u8], p: usize, n: usize, size: u32) -> u64
 // The line is class c's.
 fn is_line(text: &[u8], p: usize, n: usize, c: u32) -> bool
     requires { p + 11 * n ≤ length text.now }
-    ensures { result ≡ eqb (get_or (rowAt text.now p n) 0 0) 51 && eqb c (get_or (rowAt text.now p n) 1 0) }
+    ensures { result ≡ eqb (get_or (row_at text.now p n) 0 0) 51 && eqb c (get_or (row_at text.now p n) 1 0) }
 {
     if text::entry(text, p, n, 0) != 51 {
         return false;
@@ -49,7 +49,7 @@ fn is_line(text: &[u8], p: usize, n: usize, c: u32) -> bool
 // Class c's line, from the line at `from` on.
 fn scan_lines(text: &[u8], from: usize, c: u32, size: u32) -> u64
     requires { (from ≤ length text.now) × (size ≤ 64) }
-    ensures { result ≡ setOf size (scanBy (suc (length (drop from text.now))) (drop from text.now) c) }
+    ensures { result ≡ set_of size (scan_by (suc (length (drop from text.now))) (drop from text.now) c) }
 {
     let mut p = from;
     while p < text.len() {
@@ -68,7 +68,7 @@ fn scan_lines(text: &[u8], from: usize, c: u32, size: u32) -> u64
 // In the whole text, from its second line on.
 fn scan(text: &[u8], c: u32, size: u32) -> u64
     requires { size ≤ 64 }
-    ensures { result ≡ setOf size (scanned text.now c) }
+    ensures { result ≡ set_of size (scanned text.now c) }
 {
     if text.len() == 0 {
         return 0;
@@ -83,7 +83,7 @@ fn scan(text: &[u8], c: u32, size: u32) -> u64
 // Class c's set.
 pub fn class_set(text: &[u8], store: &[u8], c: u32, size: u32) -> u64
     requires { size ≤ 64 }
-    ensures { (I : Interpretation) (roles : ℕ) (v : List ℕ) → Given I roles size text.now (words store.now) v → result ≡ maskOf I.size (I.class c) }
+    ensures { (I : Interpretation) (roles : ℕ) (v : List ℕ) → Given I roles size text.now (words store.now) v → result ≡ mask_of I.size (I.class c) }
 {
     let i = c as usize;
     if 8 * i + 8 <= store.len() {

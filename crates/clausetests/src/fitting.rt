@@ -1,18 +1,18 @@
 // The tables of a clause: for each variable a set, for each pair of variables a set for each element of the first.
 ghost use Rattle.std.specs.Prelude.{◌≡◌, Bool, true, false, ◌&&◌, List, [], ◌∷◌, ◌++◌, ℕ, ◌<◌, ◌≤◌, ◌+◌, ◌*◌, length, get_or};
 ghost use Rattle.words.specs.Words.{words};
-ghost use Rattle.ir.specs.Atoms.{atomVars};
+ghost use Rattle.ir.specs.Atoms.{atom_vars};
 ghost use Rattle.ir.specs.declared.atom.Atom.{Atom};
 ghost use Rattle.rules.specs.State.{Clause};
-ghost use Rattle.rules.specs.Run.{scratchBytes};
-ghost use Rattle.rules.specs.Semantics.{Interpretation, atomHolds, chosen, clauseVars};
-ghost use Rattle.states.specs.Masks.{maskOf};
-ghost use Rattle.sets.specs.Kept.{setAt};
-ghost use Rattle.sets.specs.Places.{varsAt, shownAt};
+ghost use Rattle.rules.specs.Run.{scratch_bytes};
+ghost use Rattle.rules.specs.Semantics.{Interpretation, atom_holds, chosen, clause_vars};
+ghost use Rattle.states.specs.Masks.{mask_of};
+ghost use Rattle.sets.specs.Kept.{set_at};
+ghost use Rattle.sets.specs.Places.{vars_at, shown_at};
 ghost use Rattle.tables.specs.Tabled.{Run};
-ghost use Rattle.tables.specs.AtomLaws.{noAtom};
+ghost use Rattle.tables.specs.AtomLaws.{no_atom};
 ghost use Rattle.clausetests.specs.Given.{Given, NamesRoles, PairWith, AtomThere};
-ghost use Rattle.clausetests.specs.Fitting.{pairs, pairAt, Tables, turned, oneWith, twoWith, onesWith, twosWith, clauseOne, clauseTwo, Changed, Meant, MeantThere, RunMeant, ClauseMeant};
+ghost use Rattle.clausetests.specs.Fitting.{pairs, pair_at, Tables, turned, one_with, two_with, ones_with, twos_with, clause_one, clause_two, Changed, Meant, MeantThere, RunMeant, ClauseMeant};
 
 use crate::vars::Vars;
 use crate::{atom, vars};
@@ -42,15 +42,15 @@ fn pairs(k: u32) -> usize
 // Where the sets of the places i and j begin.
 fn pair_at(i: u32, j: u32) -> usize
     requires { (i < j) × (j < 4) }
-    ensures { result ≡ pairAt i j }
+    ensures { result ≡ pair_at i j }
 {
     PAIRS + 64 * (i as usize + pairs(j))
 }
 
 // What fits at place j with element e at place i.
 pub fn row(scratch: &[u8], i: u32, j: u32, e: u32) -> u64
-    requires { (i < j) × (j < 4) × (e < 64) × (scratchBytes ≤ length scratch.now) }
-    ensures { result ≡ setAt (words scratch.now) (pairAt i j + e) }
+    requires { (i < j) × (j < 4) × (e < 64) × (scratch_bytes ≤ length scratch.now) }
+    ensures { result ≡ set_at (words scratch.now) (pair_at i j + e) }
 {
     kept::get_set(scratch, pair_at(i, j) + e as usize)
 }
@@ -58,7 +58,7 @@ pub fn row(scratch: &[u8], i: u32, j: u32, e: u32) -> u64
 // n sets from `from` on become m.
 fn fill(scratch: &mut [u8], from: usize, n: usize, m: u64)
     requires { 8 * (from + n) ≤ length scratch.old }
-    ensures by_index { (i : ℕ) → i < n → setAt (words scratch.new) (from + i) ≡ m }
+    ensures by_index { (i : ℕ) → i < n → set_at (words scratch.new) (from + i) ≡ m }
     ensures changed { Changed (2 * from) (2 * (from + n)) (words scratch.old) (words scratch.new) }
 {
     let mut i: usize = 0;
@@ -70,9 +70,9 @@ fn fill(scratch: &mut [u8], from: usize, n: usize, m: u64)
 
 // Tables of k variables before any atom.
 fn start(scratch: &mut [u8], k: u32, size: u32)
-    requires { (k ≤ 4) × (size ≤ 64) × (scratchBytes ≤ length scratch.old) }
+    requires { (k ≤ 4) × (size ≤ 64) × (scratch_bytes ≤ length scratch.old) }
     ensures tables { Tables size k (λ _ _. true) (λ _ _ _ _. true) (words scratch.new) }
-    ensures changed { Changed (2 * varsAt) shownAt (words scratch.old) (words scratch.new) }
+    ensures changed { Changed (2 * vars_at) shown_at (words scratch.old) (words scratch.new) }
 {
     let m = sets::whole(size as u64);
     fill(scratch, VARS, k as usize, m);
@@ -81,7 +81,7 @@ fn start(scratch: &mut [u8], k: u32, size: u32)
 
 // What the set a has and the atom's set m allows; an atom of a head allows what it fails of.
 fn allowed(a: u64, m: u64, head: bool) -> u64
-    ensures { (n : ℕ) (f g : ℕ → Bool) → a ≡ maskOf n f → m ≡ maskOf n g → result ≡ maskOf n (λ x. f x && turned head (g x)) }
+    ensures { (n : ℕ) (f g : ℕ → Bool) → a ≡ mask_of n f → m ≡ mask_of n g → result ≡ mask_of n (λ x. f x && turned head (g x)) }
 {
     if head {
         return sets::without(a, m);
@@ -92,7 +92,7 @@ fn allowed(a: u64, m: u64, head: bool) -> u64
 // Set i, narrowed by an atom's set.
 fn narrow(scratch: &mut [u8], i: usize, m: u64, head: bool)
     requires { 8 * i + 8 ≤ length scratch.old }
-    ensures by_index { (n : ℕ) (f g : ℕ → Bool) → setAt (words scratch.old) i ≡ maskOf n f → m ≡ maskOf n g → setAt (words scratch.new) i ≡ maskOf n (λ x. f x && turned head (g x)) }
+    ensures by_index { (n : ℕ) (f g : ℕ → Bool) → set_at (words scratch.old) i ≡ mask_of n f → m ≡ mask_of n g → set_at (words scratch.new) i ≡ mask_of n (λ x. f x && turned head (g x)) }
     ensures changed { Changed (2 * i) (2 * i + 2) (words scratch.old) (words scratch.new) }
 {
     let a = kept::get_set(scratch, i);
@@ -102,7 +102,7 @@ fn narrow(scratch: &mut [u8], i: usize, m: u64, head: bool)
 // The sets from `at` on, one for each element, narrowed by an atom of two variables; `free` is the second of them.
 fn narrow_rows(scratch: &mut [u8], a: Atom, at: usize, free: u32, head: bool, size: u32)
     requires { (at + 64 ≤ 44032) × PairWith «free» a × ((text store : List ℕ) × AtomThere size a text store scratch.old) }
-    ensures e_after { (I : Interpretation) (roles : ℕ) (text w : List ℕ) (f : ℕ → ℕ → Bool) → Given I roles size text w (words scratch.old) → NamesRoles roles a → ((e : ℕ) → e < size → setAt (words scratch.old) (at + e) ≡ maskOf size (f e)) → (e : ℕ) → e < size → setAt (words scratch.new) (at + e) ≡ maskOf size (λ y. f e y && turned head (atomHolds I (chosen (λ _. e) «free» y) a)) }
+    ensures e_after { (I : Interpretation) (roles : ℕ) (text w : List ℕ) (f : ℕ → ℕ → Bool) → Given I roles size text w (words scratch.old) → NamesRoles roles a → ((e : ℕ) → e < size → set_at (words scratch.old) (at + e) ≡ mask_of size (f e)) → (e : ℕ) → e < size → set_at (words scratch.new) (at + e) ≡ mask_of size (λ y. f e y && turned head (atom_holds I (chosen (λ _. e) «free» y) a)) }
     ensures changed { Changed (2 * at) (2 * (at + 64)) (words scratch.old) (words scratch.new) }
 {
     let mut e: u32 = 0;
@@ -116,8 +116,8 @@ fn narrow_rows(scratch: &mut [u8], a: Atom, at: usize, free: u32, head: bool, si
 // The set of place j, narrowed by an atom that has no other variable.
 fn narrow_one(text: &[u8], store: &[u8], scratch: &mut [u8], a: Atom, j: u32, head: bool, size: u32)
     requires { (j < 4) × AtomThere size a text.now store.now scratch.old }
-    ensures j_after { (I : Interpretation) (roles : ℕ) (f : ℕ → Bool) → Given I roles size text.now (words store.now) (words scratch.old) → NamesRoles roles a → setAt (words scratch.old) (varsAt + j) ≡ maskOf size f → setAt (words scratch.new) (varsAt + j) ≡ maskOf size (λ x. f x && turned head (atomHolds I (λ _. x) a)) }
-    ensures changed { Changed (2 * (varsAt + j)) (2 * (varsAt + j) + 2) (words scratch.old) (words scratch.new) }
+    ensures j_after { (I : Interpretation) (roles : ℕ) (f : ℕ → Bool) → Given I roles size text.now (words store.now) (words scratch.old) → NamesRoles roles a → set_at (words scratch.old) (vars_at + j) ≡ mask_of size f → set_at (words scratch.new) (vars_at + j) ≡ mask_of size (λ x. f x && turned head (atom_holds I (λ _. x) a)) }
+    ensures changed { Changed (2 * (vars_at + j)) (2 * (vars_at + j) + 2) (words scratch.old) (words scratch.new) }
 {
     let m = atom::atom_set(text, store, scratch, a, size);
     narrow(scratch, VARS + j as usize, m, head);
@@ -135,9 +135,9 @@ fn narrow_pair(
     head: bool,
     size: u32,
 )
-    requires { (atomVars a ≡ x ∷ y ∷ []) × MeantThere size (a ∷ []) v text.now store.now scratch.old }
-    ensures tables { (I : Interpretation) (roles : ℕ) (vs : List ℕ) (one : ℕ → ℕ → Bool) (two : ℕ → ℕ → ℕ → ℕ → Bool) → Meant I roles vs size (a ∷ []) v text.now (words store.now) (words scratch.old) → Tables size v.n one two (words scratch.old) → Tables size v.n (oneWith I vs head a one) (twoWith I vs head a two) (words scratch.new) }
-    ensures changed { Changed (2 * varsAt) shownAt (words scratch.old) (words scratch.new) }
+    requires { (atom_vars a ≡ x ∷ y ∷ []) × MeantThere size (a ∷ []) v text.now store.now scratch.old }
+    ensures tables { (I : Interpretation) (roles : ℕ) (vs : List ℕ) (one : ℕ → ℕ → Bool) (two : ℕ → ℕ → ℕ → ℕ → Bool) → Meant I roles vs size (a ∷ []) v text.now (words store.now) (words scratch.old) → Tables size v.n one two (words scratch.old) → Tables size v.n (one_with I vs head a one) (two_with I vs head a two) (words scratch.new) }
+    ensures changed { Changed (2 * vars_at) shown_at (words scratch.old) (words scratch.new) }
 {
     let i = vars::place(v, x);
     let j = vars::place(v, y);
@@ -163,8 +163,8 @@ fn narrow_atom(
     size: u32,
 )
     requires { MeantThere size (a ∷ []) v text.now store.now scratch.old }
-    ensures tables { (I : Interpretation) (roles : ℕ) (vs : List ℕ) (one : ℕ → ℕ → Bool) (two : ℕ → ℕ → ℕ → ℕ → Bool) → Meant I roles vs size (a ∷ []) v text.now (words store.now) (words scratch.old) → Tables size v.n one two (words scratch.old) → Tables size v.n (oneWith I vs head a one) (twoWith I vs head a two) (words scratch.new) }
-    ensures changed { Changed (2 * varsAt) shownAt (words scratch.old) (words scratch.new) }
+    ensures tables { (I : Interpretation) (roles : ℕ) (vs : List ℕ) (one : ℕ → ℕ → Bool) (two : ℕ → ℕ → ℕ → ℕ → Bool) → Meant I roles vs size (a ∷ []) v text.now (words store.now) (words scratch.old) → Tables size v.n one two (words scratch.old) → Tables size v.n (one_with I vs head a one) (two_with I vs head a two) (words scratch.new) }
+    ensures changed { Changed (2 * vars_at) shown_at (words scratch.old) (words scratch.new) }
 {
     match ir::atom::atom_vars(a) {
         ir::atom::Vars::One(x) => {
@@ -187,8 +187,8 @@ fn narrow_at(
     size: u32,
 )
     requires { (24 * i + 24 ≤ length run.now) × RunMeant size run.now v text.now store.now scratch.old }
-    ensures tables { (I : Interpretation) (roles : ℕ) (vs : List ℕ) (l : List Atom) (one : ℕ → ℕ → Bool) (two : ℕ → ℕ → ℕ → ℕ → Bool) → Run run.now l → Meant I roles vs size l v text.now (words store.now) (words scratch.old) → Tables size v.n one two (words scratch.old) → Tables size v.n (oneWith I vs head (get_or l i noAtom) one) (twoWith I vs head (get_or l i noAtom) two) (words scratch.new) }
-    ensures changed { Changed (2 * varsAt) shownAt (words scratch.old) (words scratch.new) }
+    ensures tables { (I : Interpretation) (roles : ℕ) (vs : List ℕ) (l : List Atom) (one : ℕ → ℕ → Bool) (two : ℕ → ℕ → ℕ → ℕ → Bool) → Run run.now l → Meant I roles vs size l v text.now (words store.now) (words scratch.old) → Tables size v.n one two (words scratch.old) → Tables size v.n (one_with I vs head (get_or l i no_atom) one) (two_with I vs head (get_or l i no_atom) two) (words scratch.new) }
+    ensures changed { Changed (2 * vars_at) shown_at (words scratch.old) (words scratch.new) }
 {
     let Read::Atom(a) = record::get_atom(run, i) else {
         return;
@@ -207,8 +207,8 @@ fn narrow_run(
     size: u32,
 )
     requires { RunMeant size run.now v text.now store.now scratch.old }
-    ensures tables { (I : Interpretation) (roles : ℕ) (vs : List ℕ) (l : List Atom) (one : ℕ → ℕ → Bool) (two : ℕ → ℕ → ℕ → ℕ → Bool) → Run run.now l → Meant I roles vs size l v text.now (words store.now) (words scratch.old) → Tables size v.n one two (words scratch.old) → Tables size v.n (onesWith I vs head l one) (twosWith I vs head l two) (words scratch.new) }
-    ensures changed { Changed (2 * varsAt) shownAt (words scratch.old) (words scratch.new) }
+    ensures tables { (I : Interpretation) (roles : ℕ) (vs : List ℕ) (l : List Atom) (one : ℕ → ℕ → Bool) (two : ℕ → ℕ → ℕ → ℕ → Bool) → Run run.now l → Meant I roles vs size l v text.now (words store.now) (words scratch.old) → Tables size v.n one two (words scratch.old) → Tables size v.n (ones_with I vs head l one) (twos_with I vs head l two) (words scratch.new) }
+    ensures changed { Changed (2 * vars_at) shown_at (words scratch.old) (words scratch.new) }
 {
     let n = run.len() / 24;
     let mut i: usize = 0;
@@ -229,8 +229,8 @@ pub fn clause_tables(
     size: u32,
 )
     requires { ClauseMeant size body.now head.now v text.now store.now scratch.old }
-    ensures tables { (I : Interpretation) (roles : ℕ) (c : Clause) → Run body.now c.body → Run head.now c.head → Meant I roles (clauseVars c) size (c.body ++ c.head) v text.now (words store.now) (words scratch.old) → Tables size v.n (clauseOne I c) (clauseTwo I c) (words scratch.new) }
-    ensures changed { Changed (2 * varsAt) shownAt (words scratch.old) (words scratch.new) }
+    ensures tables { (I : Interpretation) (roles : ℕ) (c : Clause) → Run body.now c.body → Run head.now c.head → Meant I roles (clause_vars c) size (c.body ++ c.head) v text.now (words store.now) (words scratch.old) → Tables size v.n (clause_one I c) (clause_two I c) (words scratch.new) }
+    ensures changed { Changed (2 * vars_at) shown_at (words scratch.old) (words scratch.new) }
 {
     start(scratch, v.n, size);
     narrow_run(text, store, scratch, body, v, false, size);

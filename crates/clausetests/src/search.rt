@@ -2,11 +2,11 @@
 ghost use Rattle.std.specs.Prelude.{◌≡◌, Bool, [], ◌∷◌, ℕ, ◌<◌, ◌≤◌, ◌+◌, length, take};
 ghost use Rattle.std.proofs.Math.Option.{none, some};
 ghost use Rattle.words.specs.Words.{words};
-ghost use Rattle.rules.specs.Run.{scratchBytes};
+ghost use Rattle.rules.specs.Run.{scratch_bytes};
 ghost use Rattle.states.specs.Conditions.{behind};
-ghost use Rattle.states.specs.Masks.{maskOf};
+ghost use Rattle.states.specs.Masks.{mask_of};
 ghost use Rattle.clausetests.specs.Fitting.{Twos, Tables};
-ghost use Rattle.clausetests.specs.Search.{foundIn, searchBy, searchAt};
+ghost use Rattle.clausetests.specs.Search.{found_in, search_by, search_at};
 
 use crate::fitting;
 use sets::kept;
@@ -23,7 +23,7 @@ pub struct Found {
 }
 
 fn nothing() -> Found
-    ensures { (k : ℕ) → foundIn k result ≡ none }
+    ensures { (k : ℕ) → found_in k result ≡ none }
 {
     Found {
         yes: false,
@@ -36,7 +36,7 @@ fn nothing() -> Found
 
 // x for one variable; for none no element.
 fn alone(x: u32) -> Found
-    ensures { (k : ℕ) → k ≤ 1 → foundIn k result ≡ some (take k (x ∷ [])) }
+    ensures { (k : ℕ) → k ≤ 1 → found_in k result ≡ some (take k (x ∷ [])) }
 {
     Found {
         yes: true,
@@ -50,7 +50,7 @@ fn alone(x: u32) -> Found
 impl Found {
     // With x before them.
     fn behind(self, x: u32) -> Found
-        ensures { (k : ℕ) → k < 4 → foundIn (k + 1) result ≡ behind x (foundIn k self) }
+        ensures { (k : ℕ) → k < 4 → found_in (k + 1) result ≡ behind x (found_in k self) }
     {
         Found {
             yes: self.yes,
@@ -64,7 +64,7 @@ impl Found {
 
 // The last variable, of the set m.
 fn search_one(m: u64) -> Found
-    ensures { (n j : ℕ) (two : ℕ → ℕ → ℕ → ℕ → Bool) (F : ℕ → ℕ → Bool) → n ≤ 64 → m ≡ maskOf n (F j) → foundIn 1 result ≡ searchBy n two 1 j F }
+    ensures { (n j : ℕ) (two : ℕ → ℕ → ℕ → ℕ → Bool) (F : ℕ → ℕ → Bool) → n ≤ 64 → m ≡ mask_of n (F j) → found_in 1 result ≡ search_by n two 1 j F }
 {
     if m == 0 {
         return nothing();
@@ -75,8 +75,8 @@ fn search_one(m: u64) -> Found
 
 // The last two variables, at place j and behind it, of the sets a and b, with x for the first.
 fn two_with(scratch: &[u8], j: u32, a: u64, b: u64, x: u32, size: u32) -> Found
-    requires { (j < 3) × (x < size) × (size ≤ 64) × (scratchBytes ≤ length scratch.now) }
-    ensures { (k : ℕ) (two : ℕ → ℕ → ℕ → ℕ → Bool) (F : ℕ → ℕ → Bool) → j + 2 ≤ k → Twos size k two (words scratch.now) → a ≡ maskOf size (F j) → b ≡ maskOf size (F (j + 1)) → foundIn 2 result ≡ searchAt size two 1 j F x }
+    requires { (j < 3) × (x < size) × (size ≤ 64) × (scratch_bytes ≤ length scratch.now) }
+    ensures { (k : ℕ) (two : ℕ → ℕ → ℕ → ℕ → Bool) (F : ℕ → ℕ → Bool) → j + 2 ≤ k → Twos size k two (words scratch.now) → a ≡ mask_of size (F j) → b ≡ mask_of size (F (j + 1)) → found_in 2 result ≡ search_at size two 1 j F x }
 {
     if !sets::has(a, x as u64) {
         return nothing();
@@ -86,8 +86,8 @@ fn two_with(scratch: &[u8], j: u32, a: u64, b: u64, x: u32, size: u32) -> Found
 }
 
 fn search_two(scratch: &[u8], j: u32, a: u64, b: u64, size: u32) -> Found
-    requires { (j < 3) × (size ≤ 64) × (scratchBytes ≤ length scratch.now) }
-    ensures { (k : ℕ) (two : ℕ → ℕ → ℕ → ℕ → Bool) (F : ℕ → ℕ → Bool) → j + 2 ≤ k → Twos size k two (words scratch.now) → a ≡ maskOf size (F j) → b ≡ maskOf size (F (j + 1)) → foundIn 2 result ≡ searchBy size two 2 j F }
+    requires { (j < 3) × (size ≤ 64) × (scratch_bytes ≤ length scratch.now) }
+    ensures { (k : ℕ) (two : ℕ → ℕ → ℕ → ℕ → Bool) (F : ℕ → ℕ → Bool) → j + 2 ≤ k → Twos size k two (words scratch.now) → a ≡ mask_of size (F j) → b ≡ mask_of size (F (j + 1)) → found_in 2 result ≡ search_by size two 2 j F }
 {
     let mut x: u32 = 0;
     while x < size {
@@ -102,8 +102,8 @@ fn search_two(scratch: &[u8], j: u32, a: u64, b: u64, size: u32) -> Found
 
 // The last three, of the sets a, b and c, with x for the first.
 fn three_with(scratch: &[u8], j: u32, a: u64, b: u64, c: u64, x: u32, size: u32) -> Found
-    requires { (j < 2) × (x < size) × (size ≤ 64) × (scratchBytes ≤ length scratch.now) }
-    ensures { (k : ℕ) (two : ℕ → ℕ → ℕ → ℕ → Bool) (F : ℕ → ℕ → Bool) → j + 3 ≤ k → Twos size k two (words scratch.now) → a ≡ maskOf size (F j) → b ≡ maskOf size (F (j + 1)) → c ≡ maskOf size (F (j + 2)) → foundIn 3 result ≡ searchAt size two 2 j F x }
+    requires { (j < 2) × (x < size) × (size ≤ 64) × (scratch_bytes ≤ length scratch.now) }
+    ensures { (k : ℕ) (two : ℕ → ℕ → ℕ → ℕ → Bool) (F : ℕ → ℕ → Bool) → j + 3 ≤ k → Twos size k two (words scratch.now) → a ≡ mask_of size (F j) → b ≡ mask_of size (F (j + 1)) → c ≡ mask_of size (F (j + 2)) → found_in 3 result ≡ search_at size two 2 j F x }
 {
     if !sets::has(a, x as u64) {
         return nothing();
@@ -114,8 +114,8 @@ fn three_with(scratch: &[u8], j: u32, a: u64, b: u64, c: u64, x: u32, size: u32)
 }
 
 fn search_three(scratch: &[u8], j: u32, a: u64, b: u64, c: u64, size: u32) -> Found
-    requires { (j < 2) × (size ≤ 64) × (scratchBytes ≤ length scratch.now) }
-    ensures { (k : ℕ) (two : ℕ → ℕ → ℕ → ℕ → Bool) (F : ℕ → ℕ → Bool) → j + 3 ≤ k → Twos size k two (words scratch.now) → a ≡ maskOf size (F j) → b ≡ maskOf size (F (j + 1)) → c ≡ maskOf size (F (j + 2)) → foundIn 3 result ≡ searchBy size two 3 j F }
+    requires { (j < 2) × (size ≤ 64) × (scratch_bytes ≤ length scratch.now) }
+    ensures { (k : ℕ) (two : ℕ → ℕ → ℕ → ℕ → Bool) (F : ℕ → ℕ → Bool) → j + 3 ≤ k → Twos size k two (words scratch.now) → a ≡ mask_of size (F j) → b ≡ mask_of size (F (j + 1)) → c ≡ mask_of size (F (j + 2)) → found_in 3 result ≡ search_by size two 3 j F }
 {
     let mut x: u32 = 0;
     while x < size {
@@ -130,8 +130,8 @@ fn search_three(scratch: &[u8], j: u32, a: u64, b: u64, c: u64, size: u32) -> Fo
 
 // All four, of the sets a, b, c and d, with x for the first.
 fn four_with(scratch: &[u8], a: u64, b: u64, c: u64, d: u64, x: u32, size: u32) -> Found
-    requires { (x < size) × (size ≤ 64) × (scratchBytes ≤ length scratch.now) }
-    ensures { (two : ℕ → ℕ → ℕ → ℕ → Bool) (F : ℕ → ℕ → Bool) → Twos size 4 two (words scratch.now) → a ≡ maskOf size (F 0) → b ≡ maskOf size (F 1) → c ≡ maskOf size (F 2) → d ≡ maskOf size (F 3) → foundIn 4 result ≡ searchAt size two 3 0 F x }
+    requires { (x < size) × (size ≤ 64) × (scratch_bytes ≤ length scratch.now) }
+    ensures { (two : ℕ → ℕ → ℕ → ℕ → Bool) (F : ℕ → ℕ → Bool) → Twos size 4 two (words scratch.now) → a ≡ mask_of size (F 0) → b ≡ mask_of size (F 1) → c ≡ mask_of size (F 2) → d ≡ mask_of size (F 3) → found_in 4 result ≡ search_at size two 3 0 F x }
 {
     if !sets::has(a, x as u64) {
         return nothing();
@@ -143,8 +143,8 @@ fn four_with(scratch: &[u8], a: u64, b: u64, c: u64, d: u64, x: u32, size: u32) 
 }
 
 fn search_four(scratch: &[u8], a: u64, b: u64, c: u64, d: u64, size: u32) -> Found
-    requires { (size ≤ 64) × (scratchBytes ≤ length scratch.now) }
-    ensures { (two : ℕ → ℕ → ℕ → ℕ → Bool) (F : ℕ → ℕ → Bool) → Twos size 4 two (words scratch.now) → a ≡ maskOf size (F 0) → b ≡ maskOf size (F 1) → c ≡ maskOf size (F 2) → d ≡ maskOf size (F 3) → foundIn 4 result ≡ searchBy size two 4 0 F }
+    requires { (size ≤ 64) × (scratch_bytes ≤ length scratch.now) }
+    ensures { (two : ℕ → ℕ → ℕ → ℕ → Bool) (F : ℕ → ℕ → Bool) → Twos size 4 two (words scratch.now) → a ≡ mask_of size (F 0) → b ≡ mask_of size (F 1) → c ≡ mask_of size (F 2) → d ≡ mask_of size (F 3) → found_in 4 result ≡ search_by size two 4 0 F }
 {
     let mut x: u32 = 0;
     while x < size {
@@ -159,8 +159,8 @@ fn search_four(scratch: &[u8], a: u64, b: u64, c: u64, d: u64, size: u32) -> Fou
 
 // The least elements for k variables.
 pub fn search(scratch: &[u8], k: u32, size: u32) -> Found
-    requires { (k ≤ 4) × (size ≤ 64) × (scratchBytes ≤ length scratch.now) }
-    ensures { (one : ℕ → ℕ → Bool) (two : ℕ → ℕ → ℕ → ℕ → Bool) → Tables size k one two (words scratch.now) → foundIn k result ≡ searchBy size two k 0 one }
+    requires { (k ≤ 4) × (size ≤ 64) × (scratch_bytes ≤ length scratch.now) }
+    ensures { (one : ℕ → ℕ → Bool) (two : ℕ → ℕ → ℕ → ℕ → Bool) → Tables size k one two (words scratch.now) → found_in k result ≡ search_by size two k 0 one }
 {
     if k == 0 {
         return alone(0);

@@ -4,12 +4,12 @@ ghost use Rattle.words.specs.Words.{words};
 ghost use Rattle.rules.specs.Base.{any};
 ghost use Rattle.rules.specs.State.{Clause};
 ghost use Rattle.rules.specs.Invariants.{Each};
-ghost use Rattle.rules.specs.Run.{scratchBytes};
+ghost use Rattle.rules.specs.Run.{scratch_bytes};
 ghost use Rattle.rules.specs.Semantics.{Interpretation};
-ghost use Rattle.states.specs.Conditions.{clauseBroken};
-ghost use Rattle.states.specs.Test.{holds, orBroken, wideClause, clausesVerdict};
-ghost use Rattle.sets.specs.Places.{varsAt, shownAt};
-ghost use Rattle.sets.specs.Verdicts.{shown, verdictIn};
+ghost use Rattle.states.specs.Conditions.{clause_broken};
+ghost use Rattle.states.specs.Test.{holds, or_broken, wide_clause, clauses_verdict};
+ghost use Rattle.sets.specs.Places.{vars_at, shown_at};
+ghost use Rattle.sets.specs.Verdicts.{shown, verdict_in};
 ghost use Rattle.tables.specs.Tabled.{Tabled};
 ghost use Rattle.clausetests.specs.Given.{Given};
 ghost use Rattle.clausetests.specs.Fitting.{Changed};
@@ -23,9 +23,9 @@ use tables::read;
 
 // The elements stand in scratch.
 fn put_shown(scratch: &mut [u8], f: Found)
-    requires { scratchBytes ≤ length scratch.old }
+    requires { scratch_bytes ≤ length scratch.old }
     ensures by_index { (k : ℕ) → k ≤ 4 → shown (words scratch.new) k ≡ take k (f.a ∷ f.b ∷ f.c ∷ f.d ∷ []) }
-    ensures changed { Changed shownAt (shownAt + 4) (words scratch.old) (words scratch.new) }
+    ensures changed { Changed shown_at (shown_at + 4) (words scratch.old) (words scratch.new) }
 {
     words::put_word(scratch, SHOWN, f.a);
     words::put_word(scratch, SHOWN + 1, f.b);
@@ -44,8 +44,8 @@ fn clause_verdict(
     size: u32,
 ) -> Verdict
     requires { ClauseHere size i text.now clauses.now atoms.now store.now scratch.old }
-    ensures result_after { (I : Interpretation) (roles : ℕ) (c : Clause) → ClauseIs I roles size c i text.now (words clauses.now) (words atoms.now) (words store.now) (words scratch.old) → verdictIn (words scratch.new) result ≡ orBroken i (clauseBroken I c) holds }
-    ensures changed { Changed (2 * varsAt) (shownAt + 4) (words scratch.old) (words scratch.new) }
+    ensures result_after { (I : Interpretation) (roles : ℕ) (c : Clause) → ClauseIs I roles size c i text.now (words clauses.now) (words atoms.now) (words store.now) (words scratch.old) → verdict_in (words scratch.new) result ≡ or_broken i (clause_broken I c) holds }
+    ensures changed { Changed (2 * vars_at) (shown_at + 4) (words scratch.old) (words scratch.new) }
 {
     let v = vars::clause_vars(read::atoms_of(clauses, atoms, i));
     let body = read::body_of(clauses, atoms, i);
@@ -70,7 +70,7 @@ pub fn clauses_verdict(
     size: u32,
 ) -> Verdict
     requires { ClausesThere size count text.now clauses.now atoms.now store.now scratch.old }
-    ensures { (I : Interpretation) (roles : ℕ) (l : List Clause) → Given I roles size text.now (words store.now) (words scratch.old) → Tabled (words clauses.now) (words atoms.now) count l → Each (ClauseNames roles) l → any wideClause l ≡ false → verdictIn (words scratch.new) result ≡ clausesVerdict I l }
+    ensures { (I : Interpretation) (roles : ℕ) (l : List Clause) → Given I roles size text.now (words store.now) (words scratch.old) → Tabled (words clauses.now) (words atoms.now) count l → Each (ClauseNames roles) l → any wide_clause l ≡ false → verdict_in (words scratch.new) result ≡ clauses_verdict I l }
 {
     let mut i: u32 = 0;
     while i < count {

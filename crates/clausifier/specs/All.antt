@@ -6,22 +6,22 @@ use Rattle.ir.specs.declared.answer.Lined.{Lined as CodeLined}
 use Rattle.ir.specs.declared.answer.Lined.TheVariants.{Finished, Stopped}
 use Rattle.rules.specs.State.{Rooms, Env, Out}
 use Rattle.rules.specs.Axioms.{Clausifier}
-use Rattle.rules.specs.Run.{Lined, done, stopped, clausifyAxioms}
+use Rattle.rules.specs.Run.{Lined, done, stopped, clausify_axioms}
 use Rattle.rules.specs.Invariants.{Each, Bounds, AxiomIn}
-use Rattle.pool.specs.Layout.{poolOf}
-use Rattle.ontology.specs.Layout.{axiomsOf}
+use Rattle.pool.specs.Layout.{pool_of}
+use Rattle.ontology.specs.Layout.{axioms_of}
 use Rattle.tables.specs.Drawn.{tables}
 use Rattle.hands.specs.Hands.{Four}
 use Rattle.axioms.specs.Wholes.{Whole, whole, drawn, standing, Clausifying, Untouched, Onward}
 use Rattle.clausifier.specs.Limited.{Readied}
 
-abbrev pub shownLined : Counters → Rooms → Lined Clausifier (Unit {0}) → Lined Whole (Unit {0})
-shownLined k rooms (done a z) = done a (drawn k rooms z)
-shownLined k rooms (stopped e line) = stopped e line
+abbrev pub shown_lined : Counters → Rooms → Lined Clausifier (Unit {0}) → Lined Whole (Unit {0})
+shown_lined k rooms (done a z) = done a (drawn k rooms z)
+shown_lined k rooms (stopped e line) = stopped e line
 
-abbrev pub afterLined : CodeLined → Four → Lined Whole (Unit {0})
-afterLined (Finished k) y = done tt (whole (poolOf y.scratch k.concepts) (tables k y.clauses y.atoms y.deferrals))
-afterLined (Stopped e line) y = stopped e line
+abbrev pub after_lined : CodeLined → Four → Lined Whole (Unit {0})
+after_lined (Finished k) y = done tt (whole (pool_of y.scratch k.concepts) (tables k y.clauses y.atoms y.deferrals))
+after_lined (Stopped e line) y = stopped e line
 
 abbrev pub ClausifyingLined : List ℕ → CodeLined → Type 0
 ClausifyingLined s (Finished k) = Clausifying s k
@@ -37,11 +37,11 @@ pub record ReadyForAll (n : ℕ) (k : Counters) (x : Four) : Type 0 where
   pub bounds : Bounds
   pub state : Out
   pub readied : Readied env bounds k x state
-  pub inside : Each (AxiomIn bounds k.concepts) (axiomsOf x.scratch n)
+  pub inside : Each (AxiomIn bounds k.concepts) (axioms_of x.scratch n)
 
 -- a call did what the rule does with them
 pub record ClausifiedAll (n line : ℕ) (k : Counters) (x y : Four) (r : CodeLined) : Type 0 where
-  pub equal : (env : Env) (B : Bounds) (s : Out) → Readied env B k x s → Each (AxiomIn B k.concepts) (axiomsOf x.scratch n)
-      → afterLined r y ≡ shownLined k env.rooms (clausifyAxioms env line (axiomsOf x.scratch n) (standing k x s))
+  pub equal : (env : Env) (B : Bounds) (s : Out) → Readied env B k x s → Each (AxiomIn B k.concepts) (axioms_of x.scratch n)
+      → after_lined r y ≡ shown_lined k env.rooms (clausify_axioms env line (axioms_of x.scratch n) (standing k x s))
   pub untouched : Untouched x.scratch y.scratch
   pub onward : OnwardLined k r

@@ -4,13 +4,13 @@ use Rattle.ir.specs.declared.counters.Counters.{Counters}
 use Rattle.ir.specs.declared.answer.Answer.{Answer}
 use Rattle.rules.specs.Concept.{Axiom}
 use Rattle.rules.specs.State.{Env, Out}
-use Rattle.rules.specs.Axioms.{clausifyWhole}
+use Rattle.rules.specs.Axioms.{clausify_whole}
 use Rattle.rules.specs.Invariants.{Bounds, AxiomIn}
 use Rattle.rules.specs.EmitLaws.{RolesKept}
 use Rattle.rules.specs.SettleLaws.{Ready}
 use Rattle.tables.specs.Drawn.{tables, show}
 use Rattle.hands.specs.Hands.{Four, EnvHeld}
-use Rattle.axioms.specs.Wholes.{shownWhole, afterWhole, standing, Untouched, OnwardAnswer}
+use Rattle.axioms.specs.Wholes.{shown_whole, after_whole, standing, Untouched, OnwardAnswer}
 
 -- the state s stands at (k, x), and no limit waits in it
 pub record Readied (env : Env) (B : Bounds) (k : Counters) (x : Four) (s : Out) : Type 0 where
@@ -27,8 +27,8 @@ pub record ReadyFor (a : Axiom) (k : Counters) (x : Four) : Type 0 where
   pub readied : Readied env bounds k x state
   pub inside : AxiomIn bounds k.concepts a
 
--- a call did what `clausifyWhole` does
+-- a call did what `clausify_whole` does
 pub record Limited (a : Axiom) (k : Counters) (x y : Four) (r : Answer) : Type 0 where
-  pub equal : (env : Env) (B : Bounds) (s : Out) → Readied env B k x s → AxiomIn B k.concepts a → afterWhole r y ≡ shownWhole (λ _. 0) k env.rooms (clausifyWhole env a (standing k x s))
+  pub equal : (env : Env) (B : Bounds) (s : Out) → Readied env B k x s → AxiomIn B k.concepts a → after_whole r y ≡ shown_whole (λ _. 0) k env.rooms (clausify_whole env a (standing k x s))
   pub untouched : Untouched x.scratch y.scratch
   pub onward : OnwardAnswer k r

@@ -1,7 +1,7 @@
 -- From a deck that was read to the state before the first clause.
 use Rattle.std.specs.Prelude.{◌≡◌, List, ℕ, ◌+◌, ◌*◌, ◌≤◌, length, replicate}
 use Rattle.words.specs.Words.{words}
-use Rattle.ir.specs.Scratch.{limitsAt, limitsWords}
+use Rattle.ir.specs.Scratch.{limits_at, limits_words}
 use Rattle.ir.specs.declared.counters.Counters.{Counters}
 use Rattle.ir.specs.declared.answer.Lined.{Lined as CodeLined}
 use Rattle.ir.specs.declared.answer.Lined.TheVariants.{Finished, Stopped}
@@ -10,9 +10,9 @@ use Rattle.rules.specs.Normalize.{St}
 use Rattle.rules.specs.State.{Rooms}
 use Rattle.rules.specs.Deck.{Known}
 use Rattle.rules.specs.DeckLaws.{DeckIn}
-use Rattle.rules.specs.Run.{done, stopped, envOf, start, clauseWords, atomWords, deferralWords}
-use Rattle.pool.specs.Layout.{poolOf}
-use Rattle.ontology.specs.Layout.{axiomsOf}
+use Rattle.rules.specs.Run.{done, stopped, env_of, start, clause_words, atom_words, deferral_words}
+use Rattle.pool.specs.Layout.{pool_of}
+use Rattle.ontology.specs.Layout.{axioms_of}
 use Rattle.ontology.specs.Loads.{Holds}
 use Rattle.normalize.specs.Loaded.{normalized}
 use Rattle.tables.specs.Drawn.{Tables, tables, show}
@@ -27,11 +27,11 @@ pub record Preparing (s : List ℕ) (k : Counters) (n : ℕ) : Type 0 where
   pub limit : ℕ
   pub most : limit ≤ 1000000
   pub holds : Holds known limit (words s) k n
-  pub space : 4 * (limitsAt + limitsWords) ≤ length s
+  pub space : 4 * (limits_at + limits_words) ≤ length s
 
 -- lent tables of zeros
 abbrev pub empty : Counters → Rooms → Tables
-empty k rooms = tables k (replicate (clauseWords * rooms.clauses) 0) (replicate (atomWords * rooms.atoms) 0) (replicate (deferralWords * rooms.deferrals) 0)
+empty k rooms = tables k (replicate (clause_words * rooms.clauses) 0) (replicate (atom_words * rooms.atoms) 0) (replicate (deferral_words * rooms.deferrals) 0)
 
 -- the deck's normal form stands there, with all that clausify_axioms reads
 pub record Prepared (d : Known) (limit : ℕ) (s : List ℕ) (k : Counters) (n : ℕ) : Type 0 where
@@ -41,9 +41,9 @@ pub record Prepared (d : Known) (limit : ℕ) (s : List ℕ) (k : Counters) (n :
   pub options : k.options ≡ d.header.options
   pub clausifying : Clausifying s k
   pub axioms : AxiomsOf (words s) k n
-  pub listed : axiomsOf (words s) n ≡ normal
-  pub pool : poolOf (words s) k.concepts ≡ state.pool
-  pub read : (rooms : Rooms) → EnvIn (envOf d rooms normal) k (words s)
+  pub listed : axioms_of (words s) n ≡ normal
+  pub pool : pool_of (words s) k.concepts ≡ state.pool
+  pub read : (rooms : Rooms) → EnvIn (env_of d rooms normal) k (words s)
   pub shown : (rooms : Rooms) → empty k rooms ≡ show k rooms (start d state).out
 
 -- or the rule's refusal

@@ -11,12 +11,12 @@ use Rattle.rules.specs.SettleLaws.{Settling}
 use Rattle.tables.specs.Drawn.{tables, show}
 use Rattle.waiting.specs.Limits.{Waits}
 use Rattle.hands.specs.Hands.{Four, four, EnvHeld}
-use Rattle.axioms.specs.Wholes.{shownWhole, afterWhole, standing, Clausifying, Untouched, Onward, OnwardAnswer}
+use Rattle.axioms.specs.Wholes.{shown_whole, after_whole, standing, Clausifying, Untouched, Onward, OnwardAnswer}
 use Rattle.axioms.specs.WholeLaws.{Standing}
 use Rattle.lists.specs.Turns.{SameLong}
 
-abbrev pub limitOf : ℕ → ℕ → Limit
-limitOf filler name = record { filler = filler; name = name }
+abbrev pub limit_of : ℕ → ℕ → Limit
+limit_of filler name = record { filler = filler; name = name }
 
 -- the state s stands at (k, x), its limits in scratch
 pub record Settlable (env : Env) (B : Bounds) (k : Counters) (x : Four) (s : Out) : Type 0 where
@@ -35,7 +35,7 @@ pub record Unsettled (k : Counters) (x : Four) : Type 0 where
 
 -- a call did what `settle` does
 pub record Settled (k : Counters) (x y : Four) (r : Answer) : Type 0 where
-  pub equal : (env : Env) (B : Bounds) (s : Out) → Settlable env B k x s → afterWhole r y ≡ shownWhole (λ _. 0) k env.rooms (settle env (standing k x s))
+  pub equal : (env : Env) (B : Bounds) (s : Out) → Settlable env B k x s → after_whole r y ≡ shown_whole (λ _. 0) k env.rooms (settle env (standing k x s))
   pub untouched : Untouched x.scratch y.scratch
   pub onward : OnwardAnswer k r
 

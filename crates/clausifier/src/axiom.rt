@@ -1,11 +1,11 @@
 // clausify_axiom: the arms, over the numbers of an axiom.
 ghost use Rattle.std.specs.Prelude.{◌<◌, ◌≤◌, length};
 ghost use Rattle.words.specs.Words.{words};
-ghost use Rattle.rules.specs.Axioms.{clausifyAxiom};
+ghost use Rattle.rules.specs.Axioms.{clausify_axiom};
 ghost use Rattle.tables.specs.Drawn.{Sized};
 ghost use Rattle.hands.specs.Hands.{four};
-ghost use Rattle.ontology.specs.Layout.{axiomAt};
-ghost use Rattle.ontology.specs.Rows.{rowAxiom};
+ghost use Rattle.ontology.specs.Layout.{axiom_at};
+ghost use Rattle.ontology.specs.Rows.{row_axiom};
 ghost use Rattle.axioms.specs.Wholes.{Clausifying, ClausifyingAfter, Clausified};
 ghost use Rattle.clausifier.specs.Arms.{AxiomOf, Axiomed};
 ghost use Rattle.clausifier.specs.Rows.{Row};
@@ -33,7 +33,7 @@ fn clausify_classes(
     requires { Clausifying scratch.old k × Row (words scratch.old) k kind at count × (kind < 27) × Sized (length clauses.old) (length atoms.old) (length deferrals.old) }
     ensures fact { let old = four (words scratch.old) (words clauses.old) (words atoms.old) (words deferrals.old) in
         let new = four (words scratch.new) (words clauses.new) (words atoms.new) (words deferrals.new) in
-        Axiomed (rowAxiom old.scratch kind at count) k old new result }
+        Axiomed (row_axiom old.scratch kind at count) k old new result }
     ensures clausifying_after { ClausifyingAfter scratch.new result }
 {
     let a = words::get_word(scratch, at + 1);
@@ -74,7 +74,7 @@ fn clausify_chain(
     requires { Clausifying scratch.old k × Row (words scratch.old) k 27 at count × Sized (length clauses.old) (length atoms.old) (length deferrals.old) }
     ensures fact { let old = four (words scratch.old) (words clauses.old) (words atoms.old) (words deferrals.old) in
         let new = four (words scratch.new) (words clauses.new) (words atoms.new) (words deferrals.new) in
-        Clausified (λ env. clausifyAxiom env (rowAxiom old.scratch 27 at count)) k old new result }
+        Clausified (λ env. clausify_axiom env (row_axiom old.scratch 27 at count)) k old new result }
     ensures clausifying_after { ClausifyingAfter scratch.new result }
 {
     if count != 4 {
@@ -100,7 +100,7 @@ fn clausify_roles(
     requires { Clausifying scratch.old k × Row (words scratch.old) k kind at count × (27 ≤ kind) × Sized (length clauses.old) (length atoms.old) (length deferrals.old) }
     ensures fact { let old = four (words scratch.old) (words clauses.old) (words atoms.old) (words deferrals.old) in
         let new = four (words scratch.new) (words clauses.new) (words atoms.new) (words deferrals.new) in
-        Clausified (λ env. clausifyAxiom env (rowAxiom old.scratch kind at count)) k old new result }
+        Clausified (λ env. clausify_axiom env (row_axiom old.scratch kind at count)) k old new result }
     ensures clausifying_after { ClausifyingAfter scratch.new result }
 {
     let r = words::get_word(scratch, at + 1);
@@ -126,7 +126,7 @@ pub fn clausify_axiom(
     requires { Clausifying scratch.old k × AxiomOf (words scratch.old) k i × Sized (length clauses.old) (length atoms.old) (length deferrals.old) }
     ensures fact { let old = four (words scratch.old) (words clauses.old) (words atoms.old) (words deferrals.old) in
         let new = four (words scratch.new) (words clauses.new) (words atoms.new) (words deferrals.new) in
-        Axiomed (axiomAt old.scratch i) k old new result }
+        Axiomed (axiom_at old.scratch i) k old new result }
     ensures clausifying_after { ClausifyingAfter scratch.new result }
 {
     let kind = axiom::number(scratch, i, 0);

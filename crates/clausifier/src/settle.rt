@@ -2,12 +2,12 @@
 ghost use Rattle.std.specs.Prelude.{◌<◌, length};
 ghost use Rattle.words.specs.Words.{words};
 ghost use Rattle.rules.specs.State.{Env};
-ghost use Rattle.rules.specs.Axioms.{C, otherHalf};
+ghost use Rattle.rules.specs.Axioms.{C, other_half};
 ghost use Rattle.tables.specs.Drawn.{Sized};
-ghost use Rattle.tables.specs.Good.{mostNames};
+ghost use Rattle.tables.specs.Good.{most_names};
 ghost use Rattle.hands.specs.Hands.{four};
 ghost use Rattle.axioms.specs.Wholes.{Clausifying, ClausifyingAfter, Clausified, Queued};
-ghost use Rattle.clausifier.specs.Settles.{limitOf, Unsettled, Settled};
+ghost use Rattle.clausifier.specs.Settles.{limit_of, Unsettled, Settled};
 
 use inclusions::gci;
 use ir::answer::Answer;
@@ -24,10 +24,10 @@ fn settle_one(
     filler: u32,
     name: u32,
 ) -> Answer
-    requires { Clausifying scratch.old k × (filler < k.concepts) × (name < mostNames) × Sized (length clauses.old) (length atoms.old) (length deferrals.old) }
+    requires { Clausifying scratch.old k × (filler < k.concepts) × (name < most_names) × Sized (length clauses.old) (length atoms.old) (length deferrals.old) }
     ensures clausified { let old = four (words scratch.old) (words clauses.old) (words atoms.old) (words deferrals.old) in
         let new = four (words scratch.new) (words clauses.new) (words atoms.new) (words deferrals.new) in
-        let rule : Env → C (Unit {0}) = λ env. otherHalf env (limitOf filler name) in
+        let rule : Env → C (Unit {0}) = λ env. other_half env (limit_of filler name) in
         Clausified rule k old new result × Queued rule k old new }
     ensures clausifying_after { ClausifyingAfter scratch.new result }
 {

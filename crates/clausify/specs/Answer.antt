@@ -2,14 +2,14 @@
 use Rattle.std.specs.Prelude.{◌≡◌, Bool, true, false, List, [], ◌∷◌, ℕ, length, replicate}
 use Rattle.ir.specs.declared.counters.Counters.{Counters}
 use Rattle.rules.specs.State.{Rooms}
-use Rattle.rules.specs.Run.{Lengths, Accepted, Outcome, refused, clauseTable, atomTable, deferralTable}
+use Rattle.rules.specs.Run.{Lengths, Accepted, Outcome, refused, clause_table, atom_table, deferral_table}
 use Rattle.statistics.specs.declared.ClauseStats.{ClauseStats}
 use Rattle.clausify.specs.declared.Reply.{Reply}
 use Rattle.clausify.specs.declared.Reply.TheVariants as Replies
 use Rattle.clausify.specs.declared.Clausified.{Clausified}
 use Rattle.clausify.specs.declared.Clausified.TheVariants as Counts
 use Rattle.run.specs.Ran.{Left}
-use Rattle.clausify.specs.Entry.{replyOf}
+use Rattle.clausify.specs.Entry.{reply_of}
 
 -- an accepted run left its records in these words
 pub record LeftThere (c a : List ℕ) (k : Counters) (first decomposed : ℕ) : Type 0 where
@@ -26,22 +26,22 @@ pub record Zeros (c a d : List ℕ) : Type 0 where
 
 -- the reply and the bytes of three tables of lengths t, as an outcome has them
 pub record Answered (o : Outcome) (t : Lengths) (r : Reply) (c a d : List ℕ) : Type 0 where
-  pub reply : r ≡ replyOf o
-  pub clauses : c ≡ clauseTable t o
-  pub atoms : a ≡ atomTable t o
-  pub deferrals : d ≡ deferralTable t o
+  pub reply : r ≡ reply_of o
+  pub clauses : c ≡ clause_table t o
+  pub atoms : a ≡ atom_table t o
+  pub deferrals : d ≡ deferral_table t o
 
 -- a reply's number of clauses
-abbrev pub countOfReply : Reply → Clausified
-countOfReply (Replies.Accepted s freshIds visits) = Counts.Accepted s.total
-countOfReply (Replies.Refused n line) = Counts.Refused n line
+abbrev pub count_of_reply : Reply → Clausified
+count_of_reply (Replies.Accepted s fresh_ids visits) = Counts.Accepted s.total
+count_of_reply (Replies.Refused n line) = Counts.Refused n line
 
 -- a run beside one table more: 1 where that does not fit
-abbrev pub runIf : Bool → Outcome → Outcome
-runIf true o = o
-runIf false o = refused 1 0
+abbrev pub run_if : Bool → Outcome → Outcome
+run_if true o = o
+run_if false o = refused 1 0
 
 -- a reply's ten numbers
-abbrev pub tenOf : ClauseStats → ℕ → ℕ → List ℕ
-tenOf s freshIds visits =
-    s.total ∷ s.horn ∷ s.disjunctive ∷ s.bottom_headed ∷ s.with_exists_head ∷ s.deferred ∷ s.decomposed ∷ s.refused ∷ freshIds ∷ visits ∷ []
+abbrev pub ten_of : ClauseStats → ℕ → ℕ → List ℕ
+ten_of s fresh_ids visits =
+    s.total ∷ s.horn ∷ s.disjunctive ∷ s.bottom_headed ∷ s.with_exists_head ∷ s.deferred ∷ s.decomposed ∷ s.refused ∷ fresh_ids ∷ visits ∷ []

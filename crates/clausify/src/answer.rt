@@ -2,10 +2,10 @@
 ghost use Rattle.std.specs.Prelude.{◌≡◌, true, List, ℕ, length, replicate};
 ghost use Rattle.words.specs.Words.{words};
 ghost use Rattle.rules.specs.State.{Rooms};
-ghost use Rattle.rules.specs.Run.{Run, sizesOk, Accepted, accepted as acceptedRun};
+ghost use Rattle.rules.specs.Run.{Run, sizes_ok, Accepted, accepted as accepted_run};
 ghost use Rattle.tables.specs.Drawn.{Sized};
 ghost use Rattle.run.specs.Ran.{Left};
-ghost use Rattle.clausify.specs.Entry.{lent, replyOf};
+ghost use Rattle.clausify.specs.Entry.{lent, reply_of};
 ghost use Rattle.clausify.specs.Answer.{LeftThere, Zeros, Answered};
 
 use crate::Reply;
@@ -31,7 +31,7 @@ pub fn blank(clauses: &mut [u8], atoms: &mut [u8], deferrals: &mut [u8])
 // The reply of a run that left these tables.
 fn accepted(clauses: &[u8], atoms: &[u8], k: Counters, first: u32, decomposed: u32) -> Reply
     requires { LeftThere (words clauses.now) (words atoms.now) k first decomposed × Sized (length clauses.now) (length atoms.now) 0 }
-    ensures { (rooms : Rooms) (x : Accepted) (d : List ℕ) → Left rooms x k first decomposed (words clauses.now) (words atoms.now) d → result ≡ replyOf (acceptedRun x) }
+    ensures { (rooms : Rooms) (x : Accepted) (d : List ℕ) → Left rooms x k first decomposed (words clauses.now) (words atoms.now) d → result ≡ reply_of (accepted_run x) }
 {
     let stats = statistics::clause_stats(clauses, atoms, k.clauses, k.deferrals, decomposed);
     Reply::Accepted(stats, k.next_class - first, k.visits)
@@ -45,7 +45,7 @@ fn settled(
     deferrals: &mut [u8],
     scratch: &mut [u8],
 ) -> Reply
-    requires { (sizesOk (lent clauses.old atoms.old deferrals.old scratch.old) ≡ true) × Zeros clauses.old atoms.old deferrals.old }
+    requires { (sizes_ok (lent clauses.old atoms.old deferrals.old scratch.old) ≡ true) × Zeros clauses.old atoms.old deferrals.old }
     ensures { Answered (Run deck.now (lent clauses.old atoms.old deferrals.old scratch.old)) (lent clauses.old atoms.old deferrals.old scratch.old) result clauses.new atoms.new deferrals.new }
 {
     match run::run(deck, scratch, clauses, atoms, deferrals, VISITS) {
@@ -66,7 +66,7 @@ pub fn answer(
     deferrals: &mut [u8],
     scratch: &mut [u8],
 ) -> Reply
-    requires { fit ≡ sizesOk (lent clauses.old atoms.old deferrals.old scratch.old) }
+    requires { fit ≡ sizes_ok (lent clauses.old atoms.old deferrals.old scratch.old) }
     ensures { Answered (Run deck.now (lent clauses.old atoms.old deferrals.old scratch.old)) (lent clauses.old atoms.old deferrals.old scratch.old) result clauses.new atoms.new deferrals.new }
 {
     blank(clauses, atoms, deferrals);

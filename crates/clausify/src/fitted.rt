@@ -1,9 +1,9 @@
 // clausify_with_stats beside one table more, whose size fits or not.
 ghost use Rattle.std.specs.Prelude.{◌≡◌, length, replicate};
-ghost use Rattle.rules.specs.Run.{Run, scratchTable};
+ghost use Rattle.rules.specs.Run.{Run, scratch_table};
 ghost use Rattle.clausify.specs.declared.Reply.TheVariants.{Refused};
 ghost use Rattle.clausify.specs.Entry.{lent};
-ghost use Rattle.clausify.specs.Answer.{Answered, runIf};
+ghost use Rattle.clausify.specs.Answer.{Answered, run_if};
 
 use crate::{Reply, answer};
 
@@ -36,9 +36,9 @@ pub fn answer_if(
 ) -> Reply
     ensures fact { let t = lent clauses.old atoms.old deferrals.old scratch.old in
         let o = Run deck.now t in
-        Answered (runIf fit o) t result clauses.new atoms.new deferrals.new }
+        Answered (run_if fit o) t result clauses.new atoms.new deferrals.new }
     ensures scratch_after { let t = lent clauses.old atoms.old deferrals.old scratch.old in
-        scratch.new ≡ scratchTable t }
+        scratch.new ≡ scratch_table t }
 {
     if fit {
         crate::clausify_with_stats(deck, clauses, atoms, deferrals, scratch)

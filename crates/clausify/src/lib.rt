@@ -8,9 +8,9 @@ pub mod numbers;
 mod sizes;
 
 ghost use Rattle.std.specs.Prelude.{◌≡◌};
-ghost use Rattle.rules.specs.Run.{Run, clauseTable, atomTable, deferralTable, scratchTable};
-ghost use Rattle.clausify.specs.Entry.{lent, replyOf, countOf, Meant, MeantCount};
-ghost use Rattle.clausify.specs.Answer.{countOfReply};
+ghost use Rattle.rules.specs.Run.{Run, clause_table, atom_table, deferral_table, scratch_table};
+ghost use Rattle.clausify.specs.Entry.{lent, reply_of, count_of, Meant, MeantCount};
+ghost use Rattle.clausify.specs.Answer.{count_of_reply};
 
 use statistics::ClauseStats;
 
@@ -39,18 +39,18 @@ pub fn clausify_with_stats(
 ) -> Reply
     ensures reply { let t = lent clauses.old atoms.old deferrals.old scratch.old in
         let o = Run deck.now t in
-        result ≡ replyOf o }
+        result ≡ reply_of o }
     ensures clauses { let t = lent clauses.old atoms.old deferrals.old scratch.old in
         let o = Run deck.now t in
-        clauses.new ≡ clauseTable t o }
+        clauses.new ≡ clause_table t o }
     ensures atoms { let t = lent clauses.old atoms.old deferrals.old scratch.old in
         let o = Run deck.now t in
-        atoms.new ≡ atomTable t o }
+        atoms.new ≡ atom_table t o }
     ensures deferrals { let t = lent clauses.old atoms.old deferrals.old scratch.old in
         let o = Run deck.now t in
-        deferrals.new ≡ deferralTable t o }
+        deferrals.new ≡ deferral_table t o }
     ensures scratch { let t = lent clauses.old atoms.old deferrals.old scratch.old in
-        scratch.new ≡ scratchTable t }
+        scratch.new ≡ scratch_table t }
     ensures meaning { Meant deck.now clauses.new atoms.new result }
 {
     let fit = sizes::sizes_ok(clauses.len(), atoms.len(), deferrals.len(), scratch.len());
@@ -61,7 +61,7 @@ pub fn clausify_with_stats(
 
 // Of the reply only the number of clauses.
 fn counted(reply: Reply) -> Clausified
-    ensures { result ≡ countOfReply reply }
+    ensures { result ≡ count_of_reply reply }
 {
     match reply {
         Reply::Accepted(stats, _, _) => Clausified::Accepted(stats.total),
@@ -79,18 +79,18 @@ pub fn clausify(
 ) -> Clausified
     ensures reply { let t = lent clauses.old atoms.old deferrals.old scratch.old in
         let o = Run deck.now t in
-        result ≡ countOf o }
+        result ≡ count_of o }
     ensures clauses { let t = lent clauses.old atoms.old deferrals.old scratch.old in
         let o = Run deck.now t in
-        clauses.new ≡ clauseTable t o }
+        clauses.new ≡ clause_table t o }
     ensures atoms { let t = lent clauses.old atoms.old deferrals.old scratch.old in
         let o = Run deck.now t in
-        atoms.new ≡ atomTable t o }
+        atoms.new ≡ atom_table t o }
     ensures deferrals { let t = lent clauses.old atoms.old deferrals.old scratch.old in
         let o = Run deck.now t in
-        deferrals.new ≡ deferralTable t o }
+        deferrals.new ≡ deferral_table t o }
     ensures scratch { let t = lent clauses.old atoms.old deferrals.old scratch.old in
-        scratch.new ≡ scratchTable t }
+        scratch.new ≡ scratch_table t }
     ensures meaning { let t = lent clauses.old atoms.old deferrals.old scratch.old in
         MeantCount deck.now t clauses.new atoms.new result }
 {

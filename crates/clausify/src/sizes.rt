@@ -1,6 +1,6 @@
 // Refusal 1: the sizes of the lent tables, in bytes.
 ghost use Rattle.std.specs.Prelude.{◌≡◌, ◌&&◌, ◌%◌, ◌/◌, ◌<◌, eqb, leb};
-ghost use Rattle.rules.specs.Run.{sizesOk};
+ghost use Rattle.rules.specs.Run.{sizes_ok};
 
 use tables::read::{CLAUSE, DEFERRAL};
 
@@ -14,7 +14,7 @@ fn table_ok(bytes: usize, record_bytes: usize, most: usize) -> bool
 
 // Whole records of at most 65,536 clauses, 262,144 atoms and 65,536 deferrals; scratch of its stated size or more.
 pub fn sizes_ok(clauses: usize, atoms: usize, deferrals: usize, scratch: usize) -> bool
-    ensures { result ≡ sizesOk (record { clauses = clauses; atoms = atoms; deferrals = deferrals; scratch = scratch }) }
+    ensures { result ≡ sizes_ok (record { clauses = clauses; atoms = atoms; deferrals = deferrals; scratch = scratch }) }
 {
     table_ok(clauses, 4 * CLAUSE, 65536)
         && table_ok(atoms, 24, 262144)

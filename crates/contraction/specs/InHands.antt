@@ -2,29 +2,29 @@
 use Rattle.std.specs.Prelude.{◌≡◌, List, ◌++◌, ℕ, ◌+◌, ◌*◌, ◌<◌, ◌≤◌, length, get_or}
 use Rattle.ir.specs.Records.{six, Fits}
 use Rattle.ir.specs.declared.atom.Atom.{Atom}
-use Rattle.rules.specs.Deck.{mostRoles}
+use Rattle.rules.specs.Deck.{most_roles}
 use Rattle.rules.specs.Invariants.{Each}
 use Rattle.rules.specs.State.{Clause, clause}
 use Rattle.hands.specs.Hands.{InHand}
 use Rattle.tables.specs.Tabled.{At, Run}
 
 -- the first atom in hand, and the bytes of scratch up to the last one that a clause needs
-abbrev pub handAt : ℕ
-handAt = 13500
+abbrev pub hand_at : ℕ
+hand_at = 13500
 
-abbrev pub inHandBytes : ℕ
-inHandBytes = 338400
+abbrev pub in_hand_bytes : ℕ
+in_hand_bytes = 338400
 
 -- the clause x is in hand, its nb body atoms before its nh head atoms
 pub record ClauseInHand (w : List ℕ) (nb nh : ℕ) (x : Clause) : Type 0 where
   pub body : nb ≡ length x.body
   pub head : nh ≡ length x.head
-  pub hand : InHand w handAt (nb + nh) (x.body ++ x.head)
+  pub hand : InHand w hand_at (nb + nh) (x.body ++ x.head)
 
 -- an atom's record can be written, and its role is one that there may be (0 where it has none)
 pub record Plain (x : Atom) : Type 0 where
   pub fits : Fits x
-  pub role : get_or (six x) 1 0 < 2 * mostRoles
+  pub role : get_or (six x) 1 0 < 2 * most_roles
 
 -- ---- for some atom or clause
 pub record AtomThere (w : List ℕ) (i : ℕ) : Type 0 where

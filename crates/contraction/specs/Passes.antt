@@ -1,11 +1,11 @@
 -- What the later passes ask of the lent tables, and what they do to them.
 use Rattle.std.specs.Prelude.{◌≡◌, List, ℕ, ◌<◌, ◌≤◌, ◌^◌, get_or}
 use Prim.{Unit}
-use Rattle.ir.specs.Scratch.{rolesAt, alternativesAt}
+use Rattle.ir.specs.Scratch.{roles_at, alternatives_at}
 use Rattle.ir.specs.declared.counters.Counters.{Counters}
 use Rattle.ir.specs.declared.answer.Answer.{Answer}
 use Rattle.ir.specs.declared.answer.Answer.TheVariants.{Done, Refused}
-use Rattle.rules.specs.Deck.{mostRoles}
+use Rattle.rules.specs.Deck.{most_roles}
 use Rattle.rules.specs.State.{Clause, total, Env, Out, E}
 use Rattle.rules.specs.Invariants.{Each, Bounds, ClauseIn}
 use Rattle.tables.specs.Drawn.{tables, show, shown, after, Lent}
@@ -20,7 +20,7 @@ pub record StandingBelow (most : ℕ) (k : Counters) (c a : List ℕ) : Type 0 w
   pub tabled : Tabled c a k.clauses list
   pub atoms : k.atoms ≡ total list
   pub bounds : Bounds
-  pub roles : bounds.roles ≤ mostRoles
+  pub roles : bounds.roles ≤ most_roles
   pub fresh : ℕ
   pub classes : fresh < 2 ^ 31
   pub vars : ℕ
@@ -48,6 +48,6 @@ StandingAfter c a r = StandingBelowAfter (2 ^ 31) c a r
 pub record Passed (rule : Env → List ℕ → E (Unit {0})) (k : Counters) (x y : Four) (r : Answer) : Type 0 where
   pub equal : (env : Env) (set : List ℕ) (s : Out) → FlagsHeld x.scratch set → Lent env.rooms x.clauses x.atoms x.deferrals → tables k x.clauses x.atoms x.deferrals ≡ show k env.rooms s
       → after r y.clauses y.atoms y.deferrals ≡ shown (λ _. 0) k env.rooms (rule env set s)
-  pub maps : (j : ℕ) → rolesAt ≤ j → j < alternativesAt → get_or y.scratch j 0 ≡ get_or x.scratch j 0
+  pub maps : (j : ℕ) → roles_at ≤ j → j < alternatives_at → get_or y.scratch j 0 ≡ get_or x.scratch j 0
   pub good : GoodAnswer r
   pub kept : KeptAnswer k r

@@ -2,56 +2,56 @@
 use Rattle.std.specs.Prelude.{◌≡◌, List, ◌++◌, ℕ, ◌*◌, ◌-◌, ◌/◌, ◌<◌, ◌≤◌, ◌^◌, length, get_or, take, drop}
 use Rattle.std.proofs.Common.{arith, take-append-drop, length-take-le}
 use Rattle.words.specs.Words.{words}
-use Rattle.ir.specs.Records.{qualifierWord}
-use Rattle.ir.specs.Roles.{roleId, roleCode, code-below}
+use Rattle.ir.specs.Records.{qualifier_word}
+use Rattle.ir.specs.Roles.{role_id, role_code, code_below}
 use Rattle.ir.specs.declared.role.Role.{Role}
 use Rattle.ir.specs.declared.atom.Atom.{Atom}
 use Rattle.ir.specs.declared.atom.Atom.TheVariants.{Class, Exists, AtMost, AtLeast, Equal, Role as RoleAtom}
 use Rattle.ir.specs.declared.atom.Qualifier.{Qualifier}
 use Rattle.ir.specs.declared.atom.Qualifier.TheVariants.{Unqualified, Qualified}
-use Rattle.rules.specs.Deck.{mostRoles}
+use Rattle.rules.specs.Deck.{most_roles}
 use Rattle.rules.specs.State.{Clause}
 use Rattle.rules.specs.Run.{flat}
-use Rattle.rules.specs.DecodeLaws.{flat-long}
+use Rattle.rules.specs.DecodeLaws.{flat_long}
 use Rattle.rules.specs.Invariants.{Each, Bounds, QualifierIn, AtomIn, ClauseIn}
-use Rattle.rules.specs.EachLaws.{each-append, each-left, each-right, each-map, each-nth}
+use Rattle.rules.specs.EachLaws.{each_append, each_left, each_right, each_map, each_nth}
 use Rattle.tables.specs.Tabled.{Run}
-use Rattle.tables.specs.AtomLaws.{noAtom, run-nth, run-front, run-back}
+use Rattle.tables.specs.AtomLaws.{no_atom, run_nth, run_front, run_back}
 use Rattle.contraction.specs.InHands.{Plain, AtomThere, PlainRun}
 
 -- ---- atoms within the bounds
-module _ (B : Bounds) (fresh vars : ℕ) (roles : B.roles ≤ mostRoles) (classes : fresh < 2 ^ 31) where
-  code-small : (r : Role) → roleId r < B.roles → roleCode r < 2 * mostRoles
-  code-small r h = code-below r mostRoles (omega arith)
+module _ (B : Bounds) (fresh vars : ℕ) (roles : B.roles ≤ most_roles) (classes : fresh < 2 ^ 31) where
+  code_small : (r : Role) → role_id r < B.roles → role_code r < 2 * most_roles
+  code_small r h = code_below r most_roles (omega arith)
 
-  qualifier-below : (q : Qualifier) → QualifierIn fresh q → qualifierWord q < 2 ^ 32
-  qualifier-below Unqualified h = omega arith
-  qualifier-below (Qualified k) h = omega arith
+  qualifier_below : (q : Qualifier) → QualifierIn fresh q → qualifier_word q < 2 ^ 32
+  qualifier_below Unqualified h = omega arith
+  qualifier_below (Qualified k) h = omega arith
 
-  pub plain-in : (x : Atom) → AtomIn B fresh vars x → Plain x
-  plain-in (Class k v) h = record { fits = omega arith; role = omega arith }
-  plain-in (RoleAtom r u v) h = record { fits = omega (arith, h.0); role = code-small r h.0 }
-  plain-in (Exists r k v) h = record { fits = (omega (arith, h.0), omega (arith, h.1)); role = code-small r h.0 }
-  plain-in (AtMost r q n v) h = record { fits = (omega (arith, h.0), qualifier-below q h.1); role = code-small r h.0 }
-  plain-in (AtLeast r q n v) h = record { fits = (omega (arith, h.0), qualifier-below q h.1); role = code-small r h.0 }
-  plain-in (Equal u v) h = record { fits = tt; role = omega arith }
+  pub plain_in : (x : Atom) → AtomIn B fresh vars x → Plain x
+  plain_in (Class k v) h = record { fits = omega arith; role = omega arith }
+  plain_in (RoleAtom r u v) h = record { fits = omega (arith, h.0); role = code_small r h.0 }
+  plain_in (Exists r k v) h = record { fits = (omega (arith, h.0), omega (arith, h.1)); role = code_small r h.0 }
+  plain_in (AtMost r q n v) h = record { fits = (omega (arith, h.0), qualifier_below q h.1); role = code_small r h.0 }
+  plain_in (AtLeast r q n v) h = record { fits = (omega (arith, h.0), qualifier_below q h.1); role = code_small r h.0 }
+  plain_in (Equal u v) h = record { fits = tt; role = omega arith }
 
   module _ (x : Clause) (I : ClauseIn B fresh vars x) where
-    pub plain-body : Each Plain x.body
-    plain-body = each-map (AtomIn B fresh vars) Plain plain-in x.body I.bodyIn
+    pub plain_body : Each Plain x.body
+    plain_body = each_map (AtomIn B fresh vars) Plain plain_in x.body I.body_in
 
-    pub plain-head : Each Plain x.head
-    plain-head = each-map (AtomIn B fresh vars) Plain plain-in x.head I.headIn
+    pub plain_head : Each Plain x.head
+    plain_head = each_map (AtomIn B fresh vars) Plain plain_in x.head I.head_in
 
-    pub plain-clause : Each Plain (x.body ++ x.head)
-    plain-clause = each-append Plain x.body x.head plain-body plain-head
+    pub plain_clause : Each Plain (x.body ++ x.head)
+    plain_clause = each_append Plain x.body x.head plain_body plain_head
 
 -- ---- atoms of a part
 module _ (s : List ℕ) (P : PlainRun s) (i : ℕ) where
-  pub plain-nth : i < length s / 24 → AtomThere (words s) i
-  plain-nth h =
+  pub plain_nth : i < length s / 24 → AtomThere (words s) i
+  plain_nth h =
       let l : i < length P.list = omega (arith, P.run.long) in
-      record { atom = get_or P.list i noAtom; there = run-nth s P.list i P.run l; plain = each-nth Plain P.list i noAtom P.plain l }
+      record { atom = get_or P.list i no_atom; there = run_nth s P.list i P.run l; plain = each_nth Plain P.list i no_atom P.plain l }
 
   -- the first i, and those behind them
   module _ (n : ℕ) (e : n ≡ 24 * i) (h : n ≤ length s) where
@@ -62,13 +62,13 @@ module _ (s : List ℕ) (P : PlainRun s) (i : ℕ) where
     split = rw (take-append-drop i P.list) P.run
 
     long : n ≡ 4 * length (flat (take i P.list))
-    long = omega (arith, flat-long (take i P.list), length-take-le i P.list few)
+    long = omega (arith, flat_long (take i P.list), length-take-le i P.list few)
 
     each : Each Plain (take i P.list ++ drop i P.list)
     each = rw (take-append-drop i P.list) P.plain
 
-    pub plain-front : PlainRun (take n s)
-    plain-front = record { list = take i P.list; run = run-front s (take i P.list) (drop i P.list) split n long; plain = each-left Plain (take i P.list) (drop i P.list) each }
+    pub plain_front : PlainRun (take n s)
+    plain_front = record { list = take i P.list; run = run_front s (take i P.list) (drop i P.list) split n long; plain = each_left Plain (take i P.list) (drop i P.list) each }
 
-    pub plain-back : PlainRun (take (length s - n) (drop n s))
-    plain-back = record { list = drop i P.list; run = run-back s (take i P.list) (drop i P.list) split n long; plain = each-right Plain (take i P.list) (drop i P.list) each }
+    pub plain_back : PlainRun (take (length s - n) (drop n s))
+    plain_back = record { list = drop i P.list; run = run_back s (take i P.list) (drop i P.list) split n long; plain = each_right Plain (take i P.list) (drop i P.list) each }

@@ -6,46 +6,46 @@ use Rattle.ir.specs.declared.atom.Atom.{Atom}
 use Rattle.rules.specs.Base.{any}
 use Rattle.rules.specs.Run.{flat}
 use Rattle.rules.specs.State.{Clause}
-use Rattle.rules.specs.EachLaws.{each-right, each-nth}
-use Rattle.rules.specs.Reflexive.{containsAtom, isSelfLoop, isTrivial}
+use Rattle.rules.specs.EachLaws.{each_right, each_nth}
+use Rattle.rules.specs.Reflexive.{contains_atom, is_self_loop, is_trivial}
 use Rattle.tables.specs.TabledLaws.{At}
-use Rattle.tables.specs.AtomLaws.{noAtom, flat-front, flat-back, flat-nth}
-use Rattle.hands.specs.HandLaws.{hand-at}
-use Rattle.contraction.specs.InHands.{handAt, ClauseInHand, Plain, AtomThere, HandThere}
-use Rattle.contraction.specs.SameLaws.{any-found, any-on, any-either}
+use Rattle.tables.specs.AtomLaws.{no_atom, flat_front, flat_back, flat_nth}
+use Rattle.hands.specs.HandLaws.{hand_at_lem}
+use Rattle.contraction.specs.InHands.{hand_at, ClauseInHand, Plain, AtomThere, HandThere}
+use Rattle.contraction.specs.SameLaws.{any_found, any_on, any_either}
 
 -- ---- the two runs in hand
-module _ (w : List ℕ) (nb nh : ℕ) (x : Clause) (X : ClauseInHand w nb nh x) (fit : 6 * handAt ≤ length w) where
-  atoms-at : At w (6 * handAt) (flat (x.body ++ x.head))
-  atoms-at = hand-at handAt (nb + nh) w (x.body ++ x.head) X.hand fit
+module _ (w : List ℕ) (nb nh : ℕ) (x : Clause) (X : ClauseInHand w nb nh x) (fit : 6 * hand_at ≤ length w) where
+  atoms_at : At w (6 * hand_at) (flat (x.body ++ x.head))
+  atoms_at = hand_at_lem hand_at (nb + nh) w (x.body ++ x.head) X.hand fit
 
-  pub body-at : At w (6 * handAt) (flat x.body)
-  body-at = flat-front w handAt x.body x.head atoms-at
+  pub body_at_lem : At w (6 * hand_at) (flat x.body)
+  body_at_lem = flat_front w hand_at x.body x.head atoms_at
 
-  pub head-at : (j : ℕ) → j < nh → At w (6 * (handAt + nb + j)) (six (get_or x.head j noAtom))
-  head-at j h = flat-nth w (handAt + nb) x.head j (flat-back w handAt x.body x.head (handAt + nb) atoms-at (ap (λ (n : ℕ). handAt + n) X.body)) (omega (arith, h, X.head))
+  pub head_at_lem : (j : ℕ) → j < nh → At w (6 * (hand_at + nb + j)) (six (get_or x.head j no_atom))
+  head_at_lem j h = flat_nth w (hand_at + nb) x.head j (flat_back w hand_at x.body x.head (hand_at + nb) atoms_at (ap (λ (n : ℕ). hand_at + n) X.body)) (omega (arith, h, X.head))
 
-pub head-there : (w : List ℕ) (nb nh j : ℕ) → HandThere w nb nh → 6 * handAt ≤ length w → j < nh → AtomThere w (handAt + nb + j)
-head-there w nb nh j H fit h = record {
-  atom = get_or H.clause.head j noAtom;
-  there = head-at w nb nh H.clause H.there fit j h;
-  plain = each-nth Plain H.clause.head j noAtom (each-right Plain H.clause.body H.clause.head H.plain) (omega (arith, h, H.there.head));
+pub head_there : (w : List ℕ) (nb nh j : ℕ) → HandThere w nb nh → 6 * hand_at ≤ length w → j < nh → AtomThere w (hand_at + nb + j)
+head_there w nb nh j H fit h = record {
+  atom = get_or H.clause.head j no_atom;
+  there = head_at_lem w nb nh H.clause H.there fit j h;
+  plain = each_nth Plain H.clause.head j no_atom (each_right Plain H.clause.body H.clause.head H.plain) (omega (arith, h, H.there.head));
 }
 
 -- ---- a head atom that is in the body, or a self-loop
 module _ (set : List ℕ) (x : Clause) where
   abbrev pub always : Atom → Bool
-  always a = containsAtom x.body a || isSelfLoop set a
+  always a = contains_atom x.body a || is_self_loop set a
 
-  pub trivial-start : isTrivial set x ≡ any always (drop 0 x.head)
-  trivial-start = any-either (containsAtom x.body) (isSelfLoop set) x.head
+  pub trivial_start : is_trivial set x ≡ any always (drop 0 x.head)
+  trivial_start = any_either (contains_atom x.body) (is_self_loop set) x.head
 
   module _ (j : ℕ) (h : j < length x.head) where
-    pub trivial-body : containsAtom x.body (get_or x.head j noAtom) ≡ true → any always (drop j x.head) ≡ true
-    trivial-body e = any-found always x.head j noAtom h (rw e refl)
+    pub trivial_body : contains_atom x.body (get_or x.head j no_atom) ≡ true → any always (drop j x.head) ≡ true
+    trivial_body e = any_found always x.head j no_atom h (rw e refl)
 
-    pub trivial-loop : containsAtom x.body (get_or x.head j noAtom) ≡ false → isSelfLoop set (get_or x.head j noAtom) ≡ true → any always (drop j x.head) ≡ true
-    trivial-loop e f = any-found always x.head j noAtom h (rw (e, f) refl)
+    pub trivial_loop : contains_atom x.body (get_or x.head j no_atom) ≡ false → is_self_loop set (get_or x.head j no_atom) ≡ true → any always (drop j x.head) ≡ true
+    trivial_loop e f = any_found always x.head j no_atom h (rw (e, f) refl)
 
-    pub trivial-on : containsAtom x.body (get_or x.head j noAtom) ≡ false → isSelfLoop set (get_or x.head j noAtom) ≡ false → any always (drop j x.head) ≡ any always (drop (j + 1) x.head)
-    trivial-on e f = any-on always x.head j noAtom h (rw (e, f) refl)
+    pub trivial_on : contains_atom x.body (get_or x.head j no_atom) ≡ false → is_self_loop set (get_or x.head j no_atom) ≡ false → any always (drop j x.head) ≡ any always (drop (j + 1) x.head)
+    trivial_on e f = any_on always x.head j no_atom h (rw (e, f) refl)

@@ -1,18 +1,18 @@
 // Clauses as they stand in the lent tables, and a clause in hand.
 ghost use Rattle.std.specs.Prelude.{◌≡◌, true, List, ◌∷◌, ◌++◌, ℕ, ◌+◌, ◌*◌, ◌/◌, ◌<◌, ◌≤◌, length, drop};
 ghost use Rattle.words.specs.Words.{words};
-ghost use Rattle.ir.specs.Scratch.{alternativesAt};
+ghost use Rattle.ir.specs.Scratch.{alternatives_at};
 ghost use Rattle.ir.specs.declared.atom.Atom.{Atom};
 ghost use Rattle.rules.specs.Base.{contains};
-ghost use Rattle.rules.specs.Deck.{mostRoles};
+ghost use Rattle.rules.specs.Deck.{most_roles};
 ghost use Rattle.rules.specs.State.{Clause};
-ghost use Rattle.rules.specs.Run.{clauseWords};
-ghost use Rattle.rules.specs.Reflexive.{isReflexive, sameClause, containsClause};
+ghost use Rattle.rules.specs.Run.{clause_words};
+ghost use Rattle.rules.specs.Reflexive.{is_reflexive, same_clause, contains_clause};
 ghost use Rattle.reflexive.specs.Flags.{FlagsHeld};
 ghost use Rattle.tables.specs.Tabled.{Run, Tabled, TableThere, ClauseAt, ClauseThere};
-ghost use Rattle.contraction.specs.InHands.{inHandBytes, ClauseInHand, PlainRun, HandThere};
-ghost use Rattle.contraction.specs.SameLaws.{sameRuns};
-ghost use Rattle.contraction.specs.Sizes.{hasSize, BehindSize};
+ghost use Rattle.contraction.specs.InHands.{in_hand_bytes, ClauseInHand, PlainRun, HandThere};
+ghost use Rattle.contraction.specs.SameLaws.{same_runs};
+ghost use Rattle.contraction.specs.Sizes.{has_size, BehindSize};
 
 use reflexive::ids::FLAGS;
 use tables::read;
@@ -22,7 +22,7 @@ pub const HAND: usize = 13500;
 
 // Whether a role is reflexive, by its code.
 pub fn is_flagged(scratch: &[u8], code: u32) -> bool
-    requires { (code < 2 * mostRoles) × (4 * alternativesAt ≤ length scratch.now) }
+    requires { (code < 2 * most_roles) × (4 * alternatives_at ≤ length scratch.now) }
     ensures { (set : List ℕ) → FlagsHeld (words scratch.now) set → result ≡ contains set (code / 2) }
 {
     words::get_word(scratch, FLAGS + (code / 2) as usize) != 0
@@ -30,8 +30,8 @@ pub fn is_flagged(scratch: &[u8], code: u32) -> bool
 
 // Body atom i is a role atom over a reflexive role.
 pub fn is_reflexive(scratch: &[u8], body: &[u8], i: u32) -> bool
-    requires { PlainRun body.now × (24 * i < length body.now) × (4 * alternativesAt ≤ length scratch.now) }
-    ensures { (set : List ℕ) (before after : List Atom) (x : Atom) → FlagsHeld (words scratch.now) set → Run body.now (before ++ (x ∷ after)) → i ≡ length before → result ≡ isReflexive set x }
+    requires { PlainRun body.now × (24 * i < length body.now) × (4 * alternatives_at ≤ length scratch.now) }
+    ensures { (set : List ℕ) (before after : List Atom) (x : Atom) → FlagsHeld (words scratch.now) set → Run body.now (before ++ (x ∷ after)) → i ≡ length before → result ≡ is_reflexive set x }
 {
     let at = 6 * (i as usize);
     if words::get_word(body, at) != 2 {
@@ -43,7 +43,7 @@ pub fn is_reflexive(scratch: &[u8], body: &[u8], i: u32) -> bool
 // The record of s from word i on is that of t from word j on.
 pub fn same_record(s: &[u8], i: usize, t: &[u8], j: usize) -> bool
     requires { (4 * (i + 6) ≤ length s.now) × (4 * (j + 6) ≤ length t.now) }
-    ensures { result ≡ sameRuns (words s.now) i (words t.now) j 6 }
+    ensures { result ≡ same_runs (words s.now) i (words t.now) j 6 }
 {
     if words::get_word(s, i) != words::get_word(t, j) {
         return false;
@@ -66,7 +66,7 @@ pub fn same_record(s: &[u8], i: usize, t: &[u8], j: usize) -> bool
 // n records of s from word i on are those of t from word j on.
 fn same_records(s: &[u8], i: usize, t: &[u8], j: usize, n: usize) -> bool
     requires { (4 * (i + 6 * n) ≤ length s.now) × (4 * (j + 6 * n) ≤ length t.now) }
-    ensures { result ≡ sameRuns (words s.now) i (words t.now) j (6 * n) }
+    ensures { result ≡ same_runs (words s.now) i (words t.now) j (6 * n) }
 {
     let mut m: usize = 0;
     while m < n {
@@ -80,8 +80,8 @@ fn same_records(s: &[u8], i: usize, t: &[u8], j: usize, n: usize) -> bool
 
 // Clause i has nb body atoms and nh head atoms.
 fn has_size(clauses: &[u8], i: u32, nb: u32, nh: u32) -> bool
-    requires { 4 * (clauseWords * i + clauseWords) ≤ length clauses.now }
-    ensures { result ≡ hasSize (words clauses.now) nb nh i }
+    requires { 4 * (clause_words * i + clause_words) ≤ length clauses.now }
+    ensures { result ≡ has_size (words clauses.now) nb nh i }
 {
     if read::body_count(clauses, i) != nb {
         return false;
@@ -91,7 +91,7 @@ fn has_size(clauses: &[u8], i: u32, nb: u32, nh: u32) -> bool
 
 // The last of that size among the clauses from `from` up to `to`, and one more; `from` where there is none.
 fn behind_size(clauses: &[u8], nb: u32, nh: u32, from: u32, to: u32) -> u32
-    requires { (4 * (clauseWords * to) ≤ length clauses.now) × (from ≤ to) }
+    requires { (4 * (clause_words * to) ≤ length clauses.now) × (from ≤ to) }
     ensures { BehindSize (words clauses.now) nb nh from to result }
 {
     let mut c = to;
@@ -107,8 +107,8 @@ fn behind_size(clauses: &[u8], nb: u32, nh: u32, from: u32, to: u32) -> u32
 
 // The clause in hand, of nb and nh atoms, equals clause c of the tables, which has as many.
 fn is_clause(scratch: &[u8], clauses: &[u8], atoms: &[u8], nb: u32, nh: u32, c: u32) -> bool
-    requires { HandThere (words scratch.now) nb nh × ClauseThere (words clauses.now) (words atoms.now) c × (hasSize (words clauses.now) nb nh c ≡ true) × (inHandBytes ≤ length scratch.now) }
-    ensures { (x y : Clause) → ClauseInHand (words scratch.now) nb nh x → ClauseAt (words clauses.now) (words atoms.now) c y → result ≡ sameClause x y }
+    requires { HandThere (words scratch.now) nb nh × ClauseThere (words clauses.now) (words atoms.now) c × (has_size (words clauses.now) nb nh c ≡ true) × (in_hand_bytes ≤ length scratch.now) }
+    ensures { (x y : Clause) → ClauseInHand (words scratch.now) nb nh x → ClauseAt (words clauses.now) (words atoms.now) c y → result ≡ same_clause x y }
 {
     let run = read::atoms_of(clauses, atoms, c);
     same_records(scratch, 6 * HAND, run, 0, nb as usize + nh as usize)
@@ -124,8 +124,8 @@ pub fn is_among(
     from: u32,
     to: u32,
 ) -> bool
-    requires { HandThere (words scratch.now) nb nh × TableThere (words clauses.now) (words atoms.now) to × (from ≤ to) × (inHandBytes ≤ length scratch.now) }
-    ensures { (l : List Clause) (x : Clause) → Tabled (words clauses.now) (words atoms.now) to l → ClauseInHand (words scratch.now) nb nh x → result ≡ containsClause (drop from l) x }
+    requires { HandThere (words scratch.now) nb nh × TableThere (words clauses.now) (words atoms.now) to × (from ≤ to) × (in_hand_bytes ≤ length scratch.now) }
+    ensures { (l : List Clause) (x : Clause) → Tabled (words clauses.now) (words atoms.now) to l → ClauseInHand (words scratch.now) nb nh x → result ≡ contains_clause (drop from l) x }
 {
     let mut c = behind_size(clauses, nb, nh, from, to);
     while from < c {

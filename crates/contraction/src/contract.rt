@@ -2,18 +2,18 @@
 ghost use Rattle.std.specs.Prelude.{◌≡◌, List, ◌∷◌, ◌++◌, ℕ, ◌+◌, ◌*◌, ◌<◌, ◌≤◌, length, take};
 ghost use Rattle.std.proofs.lemmas.List.Edits.{sets};
 ghost use Rattle.words.specs.Words.{words};
-ghost use Rattle.ir.specs.Atoms.{substituteAtom, replaced};
+ghost use Rattle.ir.specs.Atoms.{substitute_atom, replaced};
 ghost use Rattle.ir.specs.Records.{six};
-ghost use Rattle.ir.specs.Scratch.{alternativesAt, handsAt};
+ghost use Rattle.ir.specs.Scratch.{alternatives_at, hands_at};
 ghost use Rattle.ir.specs.declared.role.Role.{Role};
 ghost use Rattle.ir.specs.declared.atom.Atom.{Atom};
 ghost use Rattle.ir.specs.declared.atom.Atom.TheVariants as Atoms;
 ghost use Rattle.rules.specs.Run.{flat};
 ghost use Rattle.rules.specs.State.{Clause};
-ghost use Rattle.rules.specs.Reflexive.{containsAtom, isSelfLoop, keptVar, droppedVar, contracted, isTrivial};
+ghost use Rattle.rules.specs.Reflexive.{contains_atom, is_self_loop, kept_var, dropped_var, contracted, is_trivial};
 ghost use Rattle.reflexive.specs.Flags.{FlagsHeld};
 ghost use Rattle.tables.specs.Tabled.{At, Run};
-ghost use Rattle.contraction.specs.InHands.{handAt, inHandBytes, ClauseInHand, AtomThere, PlainRun, HandThere};
+ghost use Rattle.contraction.specs.InHands.{hand_at, in_hand_bytes, ClauseInHand, AtomThere, PlainRun, HandThere};
 ghost use Rattle.contraction.specs.Contracting.{Substituted};
 
 use crate::clause;
@@ -24,7 +24,7 @@ use ir::{atom, record};
 // Atom i of the run with `keep` for the variable `drop`, as record `to` of scratch.
 fn put_one(scratch: &mut [u8], run: &[u8], i: usize, to: usize, drop: u32, keep: u32)
     requires { AtomThere (words run.now) i × (24 * to + 24 ≤ length scratch.old) }
-    ensures { (x : Atom) → At (words run.now) (6 * i) (six x) → words scratch.new ≡ sets (words scratch.old) (6 * to) (six (substituteAtom x (replaced drop keep))) }
+    ensures { (x : Atom) → At (words run.now) (6 * i) (six x) → words scratch.new ≡ sets (words scratch.old) (6 * to) (six (substitute_atom x (replaced drop keep))) }
 {
     let Read::Atom(a) = record::get_atom(run, i) else {
         return;
@@ -48,22 +48,22 @@ fn put_substituted(scratch: &mut [u8], run: &[u8], to: usize, drop: u32, keep: u
 
 // The variable that stays where R(src, tgt) is contracted, X if it is one of them, and the one that goes.
 fn kept_var(src: u32, tgt: u32) -> u32
-    ensures { result ≡ keptVar src tgt }
+    ensures { result ≡ kept_var src tgt }
 {
     if tgt == 0 { tgt } else { src }
 }
 
 fn dropped_var(src: u32, tgt: u32) -> u32
-    ensures { result ≡ droppedVar src tgt }
+    ensures { result ≡ dropped_var src tgt }
 {
     if tgt == 0 { src } else { tgt }
 }
 
 // The clause of this body and this head, without body atom i: X is kept, or else the role's source.
 pub fn put_contracted(scratch: &mut [u8], body: &[u8], head: &[u8], i: u32)
-    requires { PlainRun body.now × PlainRun head.now × (24 * i < length body.now) × (length body.now ≤ 24 * 256) × (length head.now ≤ 24 * 256) × (inHandBytes ≤ length scratch.old) }
+    requires { PlainRun body.now × PlainRun head.now × (24 * i < length body.now) × (length body.now ≤ 24 * 256) × (length head.now ≤ 24 * 256) × (in_hand_bytes ≤ length scratch.old) }
     ensures clause_in_hand { (before after heads : List Atom) (r : Role) (src tgt : ℕ) → Run body.now (before ++ (Atoms.Role r src tgt ∷ after)) → Run head.now heads → i ≡ length before → ClauseInHand (words scratch.new) (length before + length after) (length heads) (contracted before after heads src tgt) }
-    ensures scratch_unchanged { take handsAt (words scratch.new) ≡ take handsAt (words scratch.old) }
+    ensures scratch_unchanged { take hands_at (words scratch.new) ≡ take hands_at (words scratch.old) }
 {
     let at = i as usize;
     let last = body.len() / 24 - 1;
@@ -80,8 +80,8 @@ pub fn put_contracted(scratch: &mut [u8], body: &[u8], head: &[u8], i: u32)
 
 // Record i is one of the nb in hand.
 fn in_body(scratch: &[u8], nb: u32, i: usize) -> bool
-    requires { (24 * (handAt + nb) ≤ length scratch.now) × (24 * (i + 1) ≤ length scratch.now) }
-    ensures { (b : List Atom) (x : Atom) → nb ≡ length b → At (words scratch.now) (6 * handAt) (flat b) → At (words scratch.now) (6 * i) (six x) → result ≡ containsAtom b x }
+    requires { (24 * (hand_at + nb) ≤ length scratch.now) × (24 * (i + 1) ≤ length scratch.now) }
+    ensures { (b : List Atom) (x : Atom) → nb ≡ length b → At (words scratch.now) (6 * hand_at) (flat b) → At (words scratch.now) (6 * i) (six x) → result ≡ contains_atom b x }
 {
     let mut j: u32 = 0;
     while j < nb {
@@ -95,8 +95,8 @@ fn in_body(scratch: &[u8], nb: u32, i: usize) -> bool
 
 // Record i is R(v, v) over a reflexive role.
 fn is_self_loop(scratch: &[u8], i: usize) -> bool
-    requires { AtomThere (words scratch.now) i × (4 * alternativesAt ≤ length scratch.now) }
-    ensures { (set : List ℕ) (x : Atom) → FlagsHeld (words scratch.now) set → At (words scratch.now) (6 * i) (six x) → result ≡ isSelfLoop set x }
+    requires { AtomThere (words scratch.now) i × (4 * alternatives_at ≤ length scratch.now) }
+    ensures { (set : List ℕ) (x : Atom) → FlagsHeld (words scratch.now) set → At (words scratch.now) (6 * i) (six x) → result ≡ is_self_loop set x }
 {
     if words::get_word(scratch, 6 * i) != 2 {
         return false;
@@ -109,8 +109,8 @@ fn is_self_loop(scratch: &[u8], i: usize) -> bool
 
 // The clause in hand always holds: a head atom is in the body, or is a self-loop.
 pub fn is_trivial(scratch: &[u8], nb: u32, nh: u32) -> bool
-    requires { HandThere (words scratch.now) nb nh × (inHandBytes ≤ length scratch.now) }
-    ensures { (set : List ℕ) (x : Clause) → FlagsHeld (words scratch.now) set → ClauseInHand (words scratch.now) nb nh x → result ≡ isTrivial set x }
+    requires { HandThere (words scratch.now) nb nh × (in_hand_bytes ≤ length scratch.now) }
+    ensures { (set : List ℕ) (x : Clause) → FlagsHeld (words scratch.now) set → ClauseInHand (words scratch.now) nb nh x → result ≡ is_trivial set x }
 {
     let mut j: u32 = 0;
     while j < nh {

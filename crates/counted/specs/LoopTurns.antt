@@ -9,7 +9,7 @@ use Prim.Native.Nat.{ℕ, suc, ◌+◌, ◌*◌, ◌<◌, ◌≤◌, ◌^◌}
 use native.Mathlib.Omega.{arith}
 use Rattle.std.proofs.Math.ListN.{get_or, drop}
 use Rattle.std.proofs.Math.Seq.{drop-cons}
-use Rattle.ir.specs.Roles.{roleId}
+use Rattle.ir.specs.Roles.{role_id}
 use Rattle.ir.specs.declared.role.Role.{Role}
 use Rattle.ir.specs.declared.counters.Counters.{Counters}
 use Rattle.ir.specs.declared.answer.Answer.{Answer}
@@ -17,158 +17,158 @@ use Rattle.ir.specs.declared.answer.Answer.TheVariants.{Done, Refused}
 use Rattle.ir.specs.declared.atom.Atom.{Atom}
 use Rattle.ir.specs.declared.atom.Atom.TheVariants.{Class, Exists, AtMost, AtLeast, Equal, Role as RoleAtom}
 use Rattle.rules.specs.Base.{ok, then, contains}
-use Rattle.rules.specs.Added.{push-adds}
-use Rattle.rules.specs.Ends.{Ends, end, stop, ends-then, ends-map}
-use Rattle.rules.specs.State.{Clause, clause, Env, Out, longer, with, mostInHand}
-use Rattle.rules.specs.Reflexive.{containsClause, nextVarOf, addCountedSelfLoops}
-use Rattle.rules.specs.ReflexiveLaws.{loopClause}
+use Rattle.rules.specs.Added.{push_adds}
+use Rattle.rules.specs.Ends.{Ends, end, stop, ends_then, ends_map}
+use Rattle.rules.specs.State.{Clause, clause, Env, Out, longer, with, most_in_hand}
+use Rattle.rules.specs.Reflexive.{contains_clause, next_var_of, add_counted_self_loops}
+use Rattle.rules.specs.ReflexiveLaws.{loop_clause}
 use Rattle.tables.specs.Drawn.{shown}
-use Rattle.tables.specs.DrawnLaws.{clauses-count}
+use Rattle.tables.specs.DrawnLaws.{clauses_count}
 use Rattle.tables.specs.Good.{Good}
 use Rattle.hands.specs.Hands.{Four, four}
-use Rattle.tables.specs.Tabled.{headCount, noClause, Tabled}
+use Rattle.tables.specs.Tabled.{head_count, no_clause, Tabled}
 use Rattle.contraction.specs.Passes.{Passed, Standing, StandingBelow, Drawn}
-use Rattle.tables.specs.ClauseLaws.{clause-at, count-kept}
+use Rattle.tables.specs.ClauseLaws.{clause_at, count_kept}
 use Rattle.counted.specs.StandingLaws.{nth}
-use Rattle.counted.specs.SelfLoops.{pushNew, pushOver, pushOf, pushHead, pushAll, loopAt, loopsAt, Looping, LoopedAfter}
-use Rattle.counted.specs.LoopLaws.{pushed-loops}
-use Rattle.counted.specs.LoopingLaws.{looping-within, looping-start, looping-end}
-use Rattle.counted.specs.Turns.{Rule, Longer, longer-none, longer-then, longer-nth, TurnAt, turn-start, turn-next, turn-stop, turn-end}
+use Rattle.counted.specs.SelfLoops.{push_new, push_over, push_of, push_head, push_all, loop_at, loops_at, Looping, LoopedAfter}
+use Rattle.counted.specs.LoopLaws.{pushed_loops}
+use Rattle.counted.specs.LoopingLaws.{looping_within, looping_start, looping_end}
+use Rattle.counted.specs.Turns.{Rule, Longer, longer_none, longer_then, longer_nth, TurnAt, turn_start, turn_next, turn_stop, turn_end}
 
 -- what is left of the head atoms of clause i, and of the clauses
-abbrev pub headsLeft : ℕ → ℕ → ℕ → Out → Rule
-headsLeft from i j s env set t = pushHead env set from (nth s.clauses i) (drop j (nth s.clauses i).head) t
+abbrev pub heads_left : ℕ → ℕ → ℕ → Out → Rule
+heads_left from i j s env set t = push_head env set from (nth s.clauses i) (drop j (nth s.clauses i).head) t
 
-abbrev pub allLoops : ℕ → Rule
-allLoops from env set s = pushAll env set from s.clauses s
+abbrev pub all_loops : ℕ → Rule
+all_loops from env set s = push_all env set from s.clauses s
 
-abbrev pub clausesLeft : ℕ → ℕ → Out → Rule
-clausesLeft from j s env set t = pushAll env set from (drop j s.clauses) t
+abbrev pub clauses_left : ℕ → ℕ → Out → Rule
+clauses_left from j s env set t = push_all env set from (drop j s.clauses) t
 
 module _ (env : Env) (set : List ℕ) (from : ℕ) where
-  new-grows : (x : Clause) (s : Out) (b : Bool) → Ends (λ _ t. Longer s t) (pushNew env set from x s b)
-  new-grows x s true = end (longer-none s)
-  new-grows x s false = ends-map (push-adds env (λ _. Unit {0}) x.body x.head s tt) (λ _ t a. record { more = a.new; clauses = a.clauses })
+  new_grows : (x : Clause) (s : Out) (b : Bool) → Ends (λ _ t. Longer s t) (push_new env set from x s b)
+  new_grows x s true = end (longer_none s)
+  new_grows x s false = ends_map (push_adds env (λ _. Unit {0}) x.body x.head s tt) (λ _ t a. record { more = a.new; clauses = a.clauses })
 
-  over-grows : (c : Clause) (r : Role) (v : ℕ) (s : Out) (b : Bool) → Ends (λ _ t. Longer s t) (pushOver env set from c r v b s)
+  over_grows : (c : Clause) (r : Role) (v : ℕ) (s : Out) (b : Bool) → Ends (λ _ t. Longer s t) (push_over env set from c r v b s)
   unfolding with
-  over-grows c r v s false = end (longer-none s)
-  over-grows c r v s true = go (ltb (length c.body) mostInHand)
+  over_grows c r v s false = end (longer_none s)
+  over_grows c r v s true = go (ltb (length c.body) most_in_hand)
     where
-      go : (b : Bool) → Ends (λ _ t. Longer s t) (then (longer c.body (RoleAtom r v (nextVarOf c)) b s) (λ body u. pushNew env set from (clause body (RoleAtom r v v ∷ [])) u (containsClause (drop from u.clauses) (clause body (RoleAtom r v v ∷ [])))))
-      go true = new-grows (loopClause c r v) s (containsClause (drop from s.clauses) (loopClause c r v))
+      go : (b : Bool) → Ends (λ _ t. Longer s t) (then (longer c.body (RoleAtom r v (next_var_of c)) b s) (λ body u. push_new env set from (clause body (RoleAtom r v v ∷ [])) u (contains_clause (drop from u.clauses) (clause body (RoleAtom r v v ∷ [])))))
+      go true = new_grows (loop_clause c r v) s (contains_clause (drop from s.clauses) (loop_clause c r v))
       go false = stop 11
 
-  pub of-grows : (c : Clause) (x : Atom) (s : Out) → Ends (λ _ t. Longer s t) (pushOf env set from c x s)
-  of-grows c (Class _ _) s = end (longer-none s)
-  of-grows c (RoleAtom _ _ _) s = end (longer-none s)
-  of-grows c (Exists _ _ _) s = end (longer-none s)
-  of-grows c (AtMost r q n v) s = over-grows c r v s (contains set (roleId r))
-  of-grows c (AtLeast _ _ _ _) s = end (longer-none s)
-  of-grows c (Equal _ _) s = end (longer-none s)
+  pub of_grows : (c : Clause) (x : Atom) (s : Out) → Ends (λ _ t. Longer s t) (push_of env set from c x s)
+  of_grows c (Class _ _) s = end (longer_none s)
+  of_grows c (RoleAtom _ _ _) s = end (longer_none s)
+  of_grows c (Exists _ _ _) s = end (longer_none s)
+  of_grows c (AtMost r q n v) s = over_grows c r v s (contains set (role_id r))
+  of_grows c (AtLeast _ _ _ _) s = end (longer_none s)
+  of_grows c (Equal _ _) s = end (longer_none s)
 
-  pub head-grows : (c : Clause) (l : List Atom) (s : Out) → Ends (λ _ t. Longer s t) (pushHead env set from c l s)
-  unfolding pushHead
-  head-grows c [] s = end (longer-none s)
-  head-grows c (x ∷ l) s = ends-then (of-grows c x s) (λ _ t a. ends-map (head-grows c l t) (λ _ u b. longer-then a b))
+  pub head_grows : (c : Clause) (l : List Atom) (s : Out) → Ends (λ _ t. Longer s t) (push_head env set from c l s)
+  unfolding push_head
+  head_grows c [] s = end (longer_none s)
+  head_grows c (x ∷ l) s = ends_then (of_grows c x s) (λ _ t a. ends_map (head_grows c l t) (λ _ u b. longer_then a b))
 
   -- the next head atom
-  pub head-step : (i j : ℕ) (s t : Out) → i < length s.clauses → j < length (nth s.clauses i).head → Longer s t
-      → headsLeft from i j s env set t ≡ then (loopAt from i j env set t) (λ _. headsLeft from i (j + 1) s env set)
-  unfolding pushHead
-  head-step i j s t h lt a =
+  pub head_step : (i j : ℕ) (s t : Out) → i < length s.clauses → j < length (nth s.clauses i).head → Longer s t
+      → heads_left from i j s env set t ≡ then (loop_at from i j env set t) (λ _. heads_left from i (j + 1) s env set)
+  unfolding push_head
+  head_step i j s t h lt a =
       let x = nth s.clauses i in
       let p : j + 1 ≡ suc j = omega arith in
       let q : drop j x.head ≡ get_or x.head j (Equal 0 0) ∷ drop (suc j) x.head = drop-cons x.head j (Equal 0 0) lt in
-      rw (p, q, longer-nth s t i a h) refl
+      rw (p, q, longer_nth s t i a h) refl
 
-  pub head-end : (i j : ℕ) (s t : Out) → length (nth s.clauses i).head ≤ j → headsLeft from i j s env set t ≡ ok tt t
-  unfolding pushHead
-  head-end i j s t h = rw (drop_of_length-le (nth s.clauses i).head {i = j} h) refl
+  pub head_end : (i j : ℕ) (s t : Out) → length (nth s.clauses i).head ≤ j → heads_left from i j s env set t ≡ ok tt t
+  unfolding push_head
+  head_end i j s t h = rw (drop_of_length-le (nth s.clauses i).head {i = j} h) refl
 
   -- the next clause
-  pub clause-step : (j : ℕ) (s t : Out) → j < length s.clauses → Longer s t → clausesLeft from j s env set t ≡ then (loopsAt from j env set t) (λ _. clausesLeft from (j + 1) s env set)
-  unfolding pushAll
-  clause-step j s t h a =
+  pub clause_step : (j : ℕ) (s t : Out) → j < length s.clauses → Longer s t → clauses_left from j s env set t ≡ then (loops_at from j env set t) (λ _. clauses_left from (j + 1) s env set)
+  unfolding push_all
+  clause_step j s t h a =
       let p : j + 1 ≡ suc j = omega arith in
-      let q : drop j s.clauses ≡ nth s.clauses j ∷ drop (suc j) s.clauses = drop-cons s.clauses j noClause h in
-      rw (p, q, longer-nth s t j a h) refl
+      let q : drop j s.clauses ≡ nth s.clauses j ∷ drop (suc j) s.clauses = drop-cons s.clauses j no_clause h in
+      rw (p, q, longer_nth s t j a h) refl
 
-  pub clause-end : (j : ℕ) (s t : Out) → length s.clauses ≤ j → clausesLeft from j s env set t ≡ ok tt t
-  unfolding pushAll
-  clause-end j s t h = rw (drop_of_length-le s.clauses {i = j} h) refl
+  pub clause_end : (j : ℕ) (s t : Out) → length s.clauses ≤ j → clauses_left from j s env set t ≡ ok tt t
+  unfolding push_all
+  clause_end j s t h = rw (drop_of_length-le s.clauses {i = j} h) refl
 
 -- ---- the head atoms of clause i
 abbrev pub HeadsAt : (from i : ℕ) (k : Counters) (w₀ c₀ a₀ w c a : List ℕ) → Counters → ℕ → Type 0
-HeadsAt from i k w₀ c₀ a₀ w c a l j = TurnAt (loopsAt from i) (headsLeft from i) from k w₀ c₀ a₀ w c a l j
+HeadsAt from i k w₀ c₀ a₀ w c a l j = TurnAt (loops_at from i) (heads_left from i) from k w₀ c₀ a₀ w c a l j
 
-module _ (from i nh : ℕ) (k : Counters) (w₀ c₀ a₀ : List ℕ) (L : Looping k c₀ a₀ from) (li : i < from) (en : nh ≡ headCount c₀ i) where
-  pub heads-start : Good k → HeadsAt from i k w₀ c₀ a₀ w₀ c₀ a₀ k 0
-  heads-start g = turn-start (loopsAt from i) (headsLeft from i) from k w₀ c₀ a₀ L g (λ env set s. refl)
+module _ (from i nh : ℕ) (k : Counters) (w₀ c₀ a₀ : List ℕ) (L : Looping k c₀ a₀ from) (li : i < from) (en : nh ≡ head_count c₀ i) where
+  pub heads_start : Good k → HeadsAt from i k w₀ c₀ a₀ w₀ c₀ a₀ k 0
+  heads_start g = turn_start (loops_at from i) (heads_left from i) from k w₀ c₀ a₀ L g (λ env set s. refl)
 
   heads : (s : Out) → Tabled c₀ a₀ k.clauses s.clauses → nh ≡ length (nth s.clauses i).head
-  heads s T = en ∙ (clause-at c₀ a₀ k.clauses s.clauses T i (omega (arith, looping-within k c₀ a₀ from L))).head
+  heads s T = en ∙ (clause_at c₀ a₀ k.clauses s.clauses T i (omega (arith, looping_within k c₀ a₀ from L))).head
 
-  pub heads-end : (w c a : List ℕ) (l : Counters) (j : ℕ) → HeadsAt from i k w₀ c₀ a₀ w c a l j → nh ≤ j → (d : List ℕ) → Passed (loopsAt from i) k (four w₀ c₀ a₀ d) (four w c a d) (Done l 0)
-  heads-end w c a l j A h = turn-end (loopsAt from i) (headsLeft from i) from k w₀ c₀ a₀ w c a l j A (λ env set s t T. head-end env set from i j s t (omega (arith, heads s T)))
+  pub heads_end : (w c a : List ℕ) (l : Counters) (j : ℕ) → HeadsAt from i k w₀ c₀ a₀ w c a l j → nh ≤ j → (d : List ℕ) → Passed (loops_at from i) k (four w₀ c₀ a₀ d) (four w c a d) (Done l 0)
+  heads_end w c a l j A h = turn_end (loops_at from i) (heads_left from i) from k w₀ c₀ a₀ w c a l j A (λ env set s t T. head_end env set from i j s t (omega (arith, heads s T)))
 
   module _ (w c a : List ℕ) (l : Counters) (j : ℕ) (A : HeadsAt from i k w₀ c₀ a₀ w c a l j) (lt : j < nh) where
     -- clause i has its head atoms still
-    pub heads-there : j < headCount c i
-    heads-there = omega (arith, count-kept c₀ c from i A.looped.rows li)
+    pub heads_there : j < head_count c i
+    heads_there = omega (arith, count_kept c₀ c from i A.looped.rows li)
 
-    module _ (lc : length c ≡ length c₀) (la : length a ≡ length a₀) (w' c' a' : List ℕ) (r : Answer) (P : (d : List ℕ) → Passed (loopAt from i j) l (four w c a d) (four w' c' a' d) r) where
-      one-grows : (env : Env) (set : List ℕ) (t : Out) → Ends (λ _ u. Longer t u) (loopAt from i j env set t)
-      one-grows env set t = of-grows env set from (nth t.clauses i) (get_or (nth t.clauses i).head j (Equal 0 0)) t
+    module _ (lc : length c ≡ length c₀) (la : length a ≡ length a₀) (w' c' a' : List ℕ) (r : Answer) (P : (d : List ℕ) → Passed (loop_at from i j) l (four w c a d) (four w' c' a' d) r) where
+      one_grows : (env : Env) (set : List ℕ) (t : Out) → Ends (λ _ u. Longer t u) (loop_at from i j env set t)
+      one_grows env set t = of_grows env set from (nth t.clauses i) (get_or (nth t.clauses i).head j (Equal 0 0)) t
 
-      one-step : (env : Env) (set : List ℕ) (s t : Out) → Tabled c₀ a₀ k.clauses s.clauses → Longer s t → headsLeft from i j s env set t ≡ then (loopAt from i j env set t) (λ _. headsLeft from i (j + 1) s env set)
-      one-step env set s t T a = head-step env set from i j s t (omega (arith, T.count, looping-within k c₀ a₀ from L)) (omega (arith, heads s T)) a
+      one_step : (env : Env) (set : List ℕ) (s t : Out) → Tabled c₀ a₀ k.clauses s.clauses → Longer s t → heads_left from i j s env set t ≡ then (loop_at from i j env set t) (λ _. heads_left from i (j + 1) s env set)
+      one_step env set s t T a = head_step env set from i j s t (omega (arith, T.count, looping_within k c₀ a₀ from L)) (omega (arith, heads s T)) a
 
-      pub heads-next : LoopedAfter from c c' a' r → (m : Counters) (n : ℕ) → r ≡ Done m n → HeadsAt from i k w₀ c₀ a₀ w' c' a' m (j + 1)
-      heads-next = turn-next (loopsAt from i) (headsLeft from i) from k w₀ c₀ a₀ w c a l j A lc la (loopAt from i j) one-grows one-step w' c' a' r P
+      pub heads_next : LoopedAfter from c c' a' r → (m : Counters) (n : ℕ) → r ≡ Done m n → HeadsAt from i k w₀ c₀ a₀ w' c' a' m (j + 1)
+      heads_next = turn_next (loops_at from i) (heads_left from i) from k w₀ c₀ a₀ w c a l j A lc la (loop_at from i j) one_grows one_step w' c' a' r P
 
-      pub heads-stop : (x : ℕ) → r ≡ Refused x → (d : List ℕ) → Passed (loopsAt from i) k (four w₀ c₀ a₀ d) (four w' c' a' d) (Refused x)
-      heads-stop = turn-stop (loopsAt from i) (headsLeft from i) from k w₀ c₀ a₀ w c a l j A lc la (loopAt from i j) one-grows one-step w' c' a' r P
+      pub heads_stop : (x : ℕ) → r ≡ Refused x → (d : List ℕ) → Passed (loops_at from i) k (four w₀ c₀ a₀ d) (four w' c' a' d) (Refused x)
+      heads_stop = turn_stop (loops_at from i) (heads_left from i) from k w₀ c₀ a₀ w c a l j A lc la (loop_at from i j) one_grows one_step w' c' a' r P
 
 -- ---- the clauses
 abbrev pub ClausesAt : (k : Counters) (w₀ c₀ a₀ w c a : List ℕ) → Counters → ℕ → Type 0
-ClausesAt k w₀ c₀ a₀ w c a l j = TurnAt (allLoops k.clauses) (clausesLeft k.clauses) k.clauses k w₀ c₀ a₀ w c a l j
+ClausesAt k w₀ c₀ a₀ w c a l j = TurnAt (all_loops k.clauses) (clauses_left k.clauses) k.clauses k w₀ c₀ a₀ w c a l j
 
 -- what pushes them at once is the pass
-pass-is : (k : Counters) (x y : Four) (r : Answer) → Passed (allLoops k.clauses) k x y r → Passed (λ env set. addCountedSelfLoops env set) k x y r
-pass-is k x y r P = record {
+pass_is : (k : Counters) (x y : Four) (r : Answer) → Passed (all_loops k.clauses) k x y r → Passed (λ env set. add_counted_self_loops env set) k x y r
+pass_is k x y r P = record {
   equal = λ env set s F l e. P.equal env set s F l e
-      ∙ ap (shown (λ _. 0) k env.rooms) (sym (pushed-loops env set s k.clauses (clauses-count env k s x.clauses x.atoms x.deferrals e)));
+      ∙ ap (shown (λ _. 0) k env.rooms) (sym (pushed_loops env set s k.clauses (clauses_count env k s x.clauses x.atoms x.deferrals e)));
   maps = P.maps;
   good = P.good;
   kept = P.kept;
 }
 
 module _ (k : Counters) (w₀ c₀ a₀ d₀ : List ℕ) (S : Standing k c₀ a₀) (D : Drawn k c₀ a₀ d₀) where
-  pub clauses-start : Good k → ClausesAt k w₀ c₀ a₀ w₀ c₀ a₀ k 0
-  clauses-start g = turn-start (allLoops k.clauses) (clausesLeft k.clauses) k.clauses k w₀ c₀ a₀ (looping-start k c₀ a₀ d₀ S D) g (λ env set s. refl)
+  pub clauses_start : Good k → ClausesAt k w₀ c₀ a₀ w₀ c₀ a₀ k 0
+  clauses_start g = turn_start (all_loops k.clauses) (clauses_left k.clauses) k.clauses k w₀ c₀ a₀ (looping_start k c₀ a₀ d₀ S D) g (λ env set s. refl)
 
-  pub clauses-end : (w c a : List ℕ) (l : Counters) (j : ℕ) → ClausesAt k w₀ c₀ a₀ w c a l j → k.clauses ≤ j → (d : List ℕ) → Passed (λ env set. addCountedSelfLoops env set) k (four w₀ c₀ a₀ d) (four w c a d) (Done l 0)
-  clauses-end w c a l j A h d =
-      pass-is k (four w₀ c₀ a₀ d) (four w c a d) (Done l 0)
-      (turn-end (allLoops k.clauses) (clausesLeft k.clauses) k.clauses k w₀ c₀ a₀ w c a l j A (λ env set s t T. clause-end env set k.clauses j s t (omega (arith, T.count))) d)
+  pub clauses_end : (w c a : List ℕ) (l : Counters) (j : ℕ) → ClausesAt k w₀ c₀ a₀ w c a l j → k.clauses ≤ j → (d : List ℕ) → Passed (λ env set. add_counted_self_loops env set) k (four w₀ c₀ a₀ d) (four w c a d) (Done l 0)
+  clauses_end w c a l j A h d =
+      pass_is k (four w₀ c₀ a₀ d) (four w c a d) (Done l 0)
+      (turn_end (all_loops k.clauses) (clauses_left k.clauses) k.clauses k w₀ c₀ a₀ w c a l j A (λ env set s t T. clause_end env set k.clauses j s t (omega (arith, T.count))) d)
 
-  pub clauses-stand : (w c a : List ℕ) (l : Counters) (j : ℕ) → ClausesAt k w₀ c₀ a₀ w c a l j → StandingBelow (2 ^ 31 + 1) l c a
-  clauses-stand w c a l j A = looping-end l c a k.clauses A.looped.looping
+  pub clauses_stand : (w c a : List ℕ) (l : Counters) (j : ℕ) → ClausesAt k w₀ c₀ a₀ w c a l j → StandingBelow (2 ^ 31 + 1) l c a
+  clauses_stand w c a l j A = looping_end l c a k.clauses A.looped.looping
 
   module _ (w c a : List ℕ) (l : Counters) (j : ℕ) (A : ClausesAt k w₀ c₀ a₀ w c a l j) (lt : j < k.clauses)
-      (lc : length c ≡ length c₀) (la : length a ≡ length a₀) (w' c' a' : List ℕ) (r : Answer) (P : (d : List ℕ) → Passed (loopsAt k.clauses j) l (four w c a d) (four w' c' a' d) r) where
-    all-grows : (env : Env) (set : List ℕ) (t : Out) → Ends (λ _ u. Longer t u) (loopsAt k.clauses j env set t)
-    all-grows env set t = head-grows env set k.clauses (nth t.clauses j) (nth t.clauses j).head t
+      (lc : length c ≡ length c₀) (la : length a ≡ length a₀) (w' c' a' : List ℕ) (r : Answer) (P : (d : List ℕ) → Passed (loops_at k.clauses j) l (four w c a d) (four w' c' a' d) r) where
+    all_grows : (env : Env) (set : List ℕ) (t : Out) → Ends (λ _ u. Longer t u) (loops_at k.clauses j env set t)
+    all_grows env set t = head_grows env set k.clauses (nth t.clauses j) (nth t.clauses j).head t
 
-    all-step : (env : Env) (set : List ℕ) (s t : Out) → Tabled c₀ a₀ k.clauses s.clauses → Longer s t
-        → clausesLeft k.clauses j s env set t ≡ then (loopsAt k.clauses j env set t) (λ _. clausesLeft k.clauses (j + 1) s env set)
-    all-step env set s t T a = clause-step env set k.clauses j s t (omega (arith, T.count)) a
+    all_step : (env : Env) (set : List ℕ) (s t : Out) → Tabled c₀ a₀ k.clauses s.clauses → Longer s t
+        → clauses_left k.clauses j s env set t ≡ then (loops_at k.clauses j env set t) (λ _. clauses_left k.clauses (j + 1) s env set)
+    all_step env set s t T a = clause_step env set k.clauses j s t (omega (arith, T.count)) a
 
-    pub clauses-next : LoopedAfter k.clauses c c' a' r → (m : Counters) (n : ℕ) → r ≡ Done m n → ClausesAt k w₀ c₀ a₀ w' c' a' m (j + 1)
-    clauses-next = turn-next (allLoops k.clauses) (clausesLeft k.clauses) k.clauses k w₀ c₀ a₀ w c a l j A lc la (loopsAt k.clauses j) all-grows all-step w' c' a' r P
+    pub clauses_next : LoopedAfter k.clauses c c' a' r → (m : Counters) (n : ℕ) → r ≡ Done m n → ClausesAt k w₀ c₀ a₀ w' c' a' m (j + 1)
+    clauses_next = turn_next (all_loops k.clauses) (clauses_left k.clauses) k.clauses k w₀ c₀ a₀ w c a l j A lc la (loops_at k.clauses j) all_grows all_step w' c' a' r P
 
-    pub clauses-stop : (x : ℕ) → r ≡ Refused x → (d : List ℕ) → Passed (λ env set. addCountedSelfLoops env set) k (four w₀ c₀ a₀ d) (four w' c' a' d) (Refused x)
-    clauses-stop x e d =
-        pass-is k (four w₀ c₀ a₀ d) (four w' c' a' d) (Refused x)
-        (turn-stop (allLoops k.clauses) (clausesLeft k.clauses) k.clauses k w₀ c₀ a₀ w c a l j A lc la (loopsAt k.clauses j) all-grows all-step w' c' a' r P x e d)
+    pub clauses_stop : (x : ℕ) → r ≡ Refused x → (d : List ℕ) → Passed (λ env set. add_counted_self_loops env set) k (four w₀ c₀ a₀ d) (four w' c' a' d) (Refused x)
+    clauses_stop x e d =
+        pass_is k (four w₀ c₀ a₀ d) (four w' c' a' d) (Refused x)
+        (turn_stop (all_loops k.clauses) (clauses_left k.clauses) k.clauses k w₀ c₀ a₀ w c a l j A lc la (loops_at k.clauses j) all_grows all_step w' c' a' r P x e d)

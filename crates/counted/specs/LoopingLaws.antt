@@ -8,35 +8,35 @@ use Rattle.ir.specs.declared.answer.Answer.{Answer}
 use Rattle.ir.specs.declared.answer.Answer.TheVariants.{Done, Refused}
 use Rattle.rules.specs.Base.{Res}
 use Rattle.rules.specs.State.{Clause, Env, Out, total}
-use Rattle.rules.specs.Run.{clauseWords, clauseRecords}
-use Rattle.rules.specs.DecodeLaws.{clause-records-long}
+use Rattle.rules.specs.Run.{clause_words, clause_records}
+use Rattle.rules.specs.DecodeLaws.{clause_records_long}
 use Rattle.rules.specs.Added.{Added}
-use Rattle.rules.specs.BoundLaws.{clauses-grow}
+use Rattle.rules.specs.BoundLaws.{clauses_grow}
 use Rattle.rules.specs.Ends.{Ends, ends, stops}
-use Rattle.rules.specs.EachLaws.{each-append}
+use Rattle.rules.specs.EachLaws.{each_append}
 use Rattle.rules.specs.Invariants.{Each, ClauseIn}
 use Rattle.tables.specs.Drawn.{tables, show, shown, after}
-use Rattle.tables.specs.DrawnLaws.{atoms-count}
-use Rattle.leaves.specs.StepLaws.{lent-kept}
+use Rattle.tables.specs.DrawnLaws.{atoms_count}
+use Rattle.leaves.specs.StepLaws.{lent_kept}
 use Rattle.tables.specs.Tabled.{Tabled}
 use Rattle.contraction.specs.Passes.{StandingBelow, Standing, Drawn}
-use Rattle.tables.specs.ClauseLaws.{clauses-append, show-tabled, tabled-same}
-use Rattle.counted.specs.StandingLaws.{show-same}
+use Rattle.tables.specs.ClauseLaws.{clauses_append, show_tabled, tabled_same}
+use Rattle.counted.specs.StandingLaws.{show_same}
 use Rattle.counted.specs.SelfLoops.{Showing, Looping, Looped, LoopedAfter}
 
-showing-tabled : (k : Counters) (c a : List ℕ) (l : List Clause) → Showing k c a l → Tabled c a k.clauses l
-showing-tabled k c a l S = subst (λ (m : List Clause). Tabled c a k.clauses m) S.clauses (show-tabled S.from.env k c a S.deferrals S.from.state S.from.drawn)
+showing_tabled : (k : Counters) (c a : List ℕ) (l : List Clause) → Showing k c a l → Tabled c a k.clauses l
+showing_tabled k c a l S = subst (λ (m : List Clause). Tabled c a k.clauses m) S.clauses (show_tabled S.from.env k c a S.deferrals S.from.state S.from.drawn)
 
-pub looping-tabled : (k : Counters) (c a : List ℕ) (from : ℕ) (L : Looping k c a from) → Tabled c a k.clauses L.list
-looping-tabled k c a from L = showing-tabled k c a L.list L.showing
+pub looping_tabled : (k : Counters) (c a : List ℕ) (from : ℕ) (L : Looping k c a from) → Tabled c a k.clauses L.list
+looping_tabled k c a from L = showing_tabled k c a L.list L.showing
 
-pub looping-within : (k : Counters) (c a : List ℕ) (from : ℕ) → Looping k c a from → from ≤ k.clauses
-looping-within k c a from L = omega (arith, L.within, (looping-tabled k c a from L).count)
+pub looping_within : (k : Counters) (c a : List ℕ) (from : ℕ) → Looping k c a from → from ≤ k.clauses
+looping_within k c a from L = omega (arith, L.within, (looping_tabled k c a from L).count)
 
-pub looping-start : (k : Counters) (c a d : List ℕ) → Standing k c a → Drawn k c a d → Looping k c a k.clauses
-looping-start k c a d S D =
+pub looping_start : (k : Counters) (c a d : List ℕ) → Standing k c a → Drawn k c a d → Looping k c a k.clauses
+looping_start k c a d S D =
     let n = S.tabled.count in
-    let e : D.state.clauses ≡ S.list = tabled-same c a k.clauses D.state.clauses S.list (show-tabled D.env k c a d D.state D.drawn) S.tabled in
+    let e : D.state.clauses ≡ S.list = tabled_same c a k.clauses D.state.clauses S.list (show_tabled D.env k c a d D.state D.drawn) S.tabled in
     record {
       list = S.list;
       showing = record { deferrals = d; from = D; clauses = e };
@@ -51,13 +51,13 @@ looping-start k c a d S D =
       new = rw (drop_of_length-le S.list {i = k.clauses} (omega arith)) tt;
     }
 
-pub looping-end : (k : Counters) (c a : List ℕ) (from : ℕ) → Looping k c a from → StandingBelow (2 ^ 31 + 1) k c a
-looping-end k c a from L =
+pub looping_end : (k : Counters) (c a : List ℕ) (from : ℕ) → Looping k c a from → StandingBelow (2 ^ 31 + 1) k c a
+looping_end k c a from L =
     let Q = L.showing in
     record {
       list = L.list;
-      tabled = looping-tabled k c a from L;
-      atoms = atoms-count Q.from.env k Q.from.state c a Q.deferrals Q.from.drawn ∙ ap total Q.clauses;
+      tabled = looping_tabled k c a from L;
+      atoms = atoms_count Q.from.env k Q.from.state c a Q.deferrals Q.from.drawn ∙ ap total Q.clauses;
       bounds = L.bounds;
       roles = L.roles;
       fresh = L.fresh;
@@ -65,23 +65,23 @@ looping-end k c a from L =
       vars = L.vars + 1;
       few = omega (arith, L.few);
       inside = subst (Each (ClauseIn L.bounds L.fresh (L.vars + 1))) (take-append-drop from L.list)
-          (each-append (ClauseIn L.bounds L.fresh (L.vars + 1)) (take from L.list) (drop from L.list)
-          (clauses-grow L.bounds {fresh = L.fresh} {fresh' = L.fresh} {vars = L.vars} {vars' = L.vars + 1} (omega arith) (omega arith) (take from L.list) L.old) L.new);
+          (each_append (ClauseIn L.bounds L.fresh (L.vars + 1)) (take from L.list) (drop from L.list)
+          (clauses_grow L.bounds {fresh = L.fresh} {fresh' = L.fresh} {vars = L.vars} {vars' = L.vars + 1} (omega arith) (omega arith) (take from L.list) L.old) L.new);
     }
 
 -- the first rows, of a longer list
-rows-same : (c a c' a' : List ℕ) (n n' from : ℕ) (l m : List Clause) → Tabled c a n l → Tabled c' a' n' (l ++ m) → from ≤ length l → take (clauseWords * from) c' ≡ take (clauseWords * from) c
-rows-same c a c' a' n n' from l m T U h =
+rows_same : (c a c' a' : List ℕ) (n n' from : ℕ) (l m : List Clause) → Tabled c a n l → Tabled c' a' n' (l ++ m) → from ≤ length l → take (clause_words * from) c' ≡ take (clause_words * from) c
+rows_same c a c' a' n n' from l m T U h =
     let p = length-append l m in
-    let q : length (clauseRecords 0 l) ≡ clauseWords * length l = clause-records-long 0 l in
-    sym (take-take (clauseWords * from) (clauseWords * n') c' (omega (arith, U.count)))
-    ∙ ap (take (clauseWords * from)) (U.clauses ∙ clauses-append 0 l m)
-    ∙ take-append-le (clauseWords * from) (clauseRecords 0 l) (clauseRecords (0 + total l) m) (omega arith)
-    ∙ ap (take (clauseWords * from)) (sym T.clauses)
-    ∙ take-take (clauseWords * from) (clauseWords * n) c (omega (arith, T.count))
+    let q : length (clause_records 0 l) ≡ clause_words * length l = clause_records_long 0 l in
+    sym (take-take (clause_words * from) (clause_words * n') c' (omega (arith, U.count)))
+    ∙ ap (take (clause_words * from)) (U.clauses ∙ clauses_append 0 l m)
+    ∙ take-append-le (clause_words * from) (clause_records 0 l) (clause_records (0 + total l) m) (omega arith)
+    ∙ ap (take (clause_words * from)) (sym T.clauses)
+    ∙ take-take (clause_words * from) (clause_words * n) c (omega (arith, T.count))
 
-pub looped-same : (k : Counters) (c a : List ℕ) (from : ℕ) → Looping k c a from → Looped k c c a from
-looped-same k c a from L = record { looping = L; rows = refl }
+pub looped_same : (k : Counters) (c a : List ℕ) (from : ℕ) → Looping k c a from → Looped k c c a from
+looped_same k c a from L = record { looping = L; rows = refl }
 
 module _ (k : Counters) (c a : List ℕ) (from : ℕ) (L : Looping k c a from) (c' a' : List ℕ) (lc : length c' ≡ length c) (la : length a' ≡ length a) where
   abbrev s : Out
@@ -99,7 +99,7 @@ module _ (k : Counters) (c a : List ℕ) (from : ℕ) (L : Looping k c a from) (
       let p = length-append L.list A.new in
       let Q : Showing k' c' a' (L.list ++ A.new) = record {
         deferrals = d;
-        from = record { env = env; state = t; lent = lent-kept env.rooms c a d c' a' d lc la refl L.showing.from.lent; drawn = show-same k k' env.rooms t c' a' d e };
+        from = record { env = env; state = t; lent = lent_kept env.rooms c a d c' a' d lc la refl L.showing.from.lent; drawn = show_same k k' env.rooms t c' a' d e };
         clauses = z;
       } in
       record {
@@ -114,13 +114,13 @@ module _ (k : Counters) (c a : List ℕ) (from : ℕ) (L : Looping k c a from) (
           few = L.few;
           within = omega (arith, L.within);
           old = rw (take-append-le from L.list A.new L.within) L.old;
-          new = rw (drop-append-le from L.list A.new L.within) (each-append (ClauseIn L.bounds L.fresh (L.vars + 1)) (drop from L.list) A.new L.new A.newAll);
+          new = rw (drop-append-le from L.list A.new L.within) (each_append (ClauseIn L.bounds L.fresh (L.vars + 1)) (drop from L.list) A.new L.new A.new_all);
         };
-        rows = rows-same c a c' a' k.clauses k'.clauses from L.list A.new (looping-tabled k c a from L) (showing-tabled k' c' a' (L.list ++ A.new) Q) L.within;
+        rows = rows_same c a c' a' k.clauses k'.clauses from L.list A.new (looping_tabled k c a from L) (showing_tabled k' c' a' (L.list ++ A.new) Q) L.within;
       }
 
   -- a rule that appends clauses within the bounds
-  pub looped-next : (r : Answer) (X : Res Out (Unit {0})) → Ends (λ _ t. Added env (ClauseIn L.bounds L.fresh (L.vars + 1)) s t) X → after r c' a' d ≡ shown (λ _. 0) k env.rooms X → LoopedAfter from c c' a' r
-  looped-next (Refused n) X A e = tt
-  looped-next (Done k' n) X (ends {a = u} {s = t} A) e = appended k' t (cc) A
-  looped-next (Done k' n) X (stops {k = q} h) e = absurd (let z : ◌≡◌ {A = ℕ} 0 1 = cc in omega arith)
+  pub looped_next : (r : Answer) (X : Res Out (Unit {0})) → Ends (λ _ t. Added env (ClauseIn L.bounds L.fresh (L.vars + 1)) s t) X → after r c' a' d ≡ shown (λ _. 0) k env.rooms X → LoopedAfter from c c' a' r
+  looped_next (Refused n) X A e = tt
+  looped_next (Done k' n) X (ends {a = u} {s = t} A) e = appended k' t (cc) A
+  looped_next (Done k' n) X (stops {k = q} h) e = absurd (let z : ◌≡◌ {A = ℕ} 0 1 = cc in omega arith)

@@ -5,76 +5,76 @@ use Rattle.std.proofs.Math.Path.{ap}
 use mathlib.Core.List.{List, ◌∷◌, ◌++◌}
 use Rattle.words.specs.Words.{words}
 use Rattle.ir.specs.Pick.{pick}
-use Rattle.ir.specs.Atoms.{atomVars}
-use Rattle.ir.specs.Records.{six, wordsOf}
+use Rattle.ir.specs.Atoms.{atom_vars}
+use Rattle.ir.specs.Records.{six, words_of}
 use Rattle.ir.specs.declared.atom.Atom.{Atom}
 use Rattle.ir.specs.declared.atom.Atom.TheVariants.{Class, Exists, AtMost, AtLeast, Equal, Role as RoleAtom}
-use Rattle.rules.specs.Reflexive.{maxVar, atomsVars}
+use Rattle.rules.specs.Reflexive.{max_var, atoms_vars}
 use Rattle.tables.specs.Tabled.{At, Run}
-use Rattle.tables.specs.AtomLaws.{noAtom, source-is, target-is, run-nth}
+use Rattle.tables.specs.AtomLaws.{no_atom, source_is, target_is, run_nth}
 
 -- a part whose atoms' greatest variable is not the last number
 pub record VarsThere (s : List ℕ) : Type 0 where
   pub atoms : List Atom
   pub run : Run s atoms
-  pub small : maxVar 0 (atomsVars atoms) + 1 < 2 ^ 32
+  pub small : max_var 0 (atoms_vars atoms) + 1 < 2 ^ 32
 
 -- what the greatest of the atoms from i on is still to be compared with
 pub record VarsAt (s : List ℕ) (i greatest : ℕ) : Type 0 where
   pub within : i ≤ length s / 24
-  pub rest : (l : List Atom) → Run s l → maxVar 0 (atomsVars l) ≡ maxVar greatest (atomsVars (drop i l))
+  pub rest : (l : List Atom) → Run s l → max_var 0 (atoms_vars l) ≡ max_var greatest (atoms_vars (drop i l))
 
-abbrev pub upTo : ℕ → ℕ → ℕ
-upTo m v = pick (ltb m v) v m
+abbrev pub up_to : ℕ → ℕ → ℕ
+up_to m v = pick (ltb m v) v m
 
-up-zero : (m : ℕ) → upTo m 0 ≡ m
-up-zero m = rw (le-ltb m 0 (omega arith)) refl
+up_zero : (m : ℕ) → up_to m 0 ≡ m
+up_zero m = rw (le-ltb m 0 (omega arith)) refl
 
 -- the two words of a record give its variables, and 0
-step-vars : (x : Atom) (m : ℕ) (l : List ℕ) → maxVar m (atomVars x ++ l) ≡ maxVar (upTo (upTo m (wordsOf x).4) (wordsOf x).5) l
-unfolding maxVar
-step-vars (Class k v) m l = ap (λ (y : ℕ). maxVar y l) (sym (up-zero (upTo m v)))
-step-vars (RoleAtom r u v) m l = refl
-step-vars (Exists r k v) m l = ap (λ (y : ℕ). maxVar y l) (sym (up-zero (upTo m v)))
-step-vars (AtMost r q n v) m l = ap (λ (y : ℕ). maxVar y l) (sym (up-zero (upTo m v)))
-step-vars (AtLeast r q n v) m l = ap (λ (y : ℕ). maxVar y l) (sym (up-zero (upTo m v)))
-step-vars (Equal u v) m l = refl
+step_vars : (x : Atom) (m : ℕ) (l : List ℕ) → max_var m (atom_vars x ++ l) ≡ max_var (up_to (up_to m (words_of x).4) (words_of x).5) l
+unfolding max_var
+step_vars (Class k v) m l = ap (λ (y : ℕ). max_var y l) (sym (up_zero (up_to m v)))
+step_vars (RoleAtom r u v) m l = refl
+step_vars (Exists r k v) m l = ap (λ (y : ℕ). max_var y l) (sym (up_zero (up_to m v)))
+step_vars (AtMost r q n v) m l = ap (λ (y : ℕ). max_var y l) (sym (up_zero (up_to m v)))
+step_vars (AtLeast r q n v) m l = ap (λ (y : ℕ). max_var y l) (sym (up_zero (up_to m v)))
+step_vars (Equal u v) m l = refl
 
-next-atom : (x : Atom) (m : List Atom) (g g2 : ℕ) → g2 ≡ upTo (upTo g (wordsOf x).4) (wordsOf x).5 → maxVar g (atomsVars (x ∷ m)) ≡ maxVar g2 (atomsVars m)
-unfolding atomsVars
-next-atom x m g g2 e = step-vars x g (atomsVars m) ∙ ap (λ (y : ℕ). maxVar y (atomsVars m)) (sym e)
+next_atom : (x : Atom) (m : List Atom) (g g2 : ℕ) → g2 ≡ up_to (up_to g (words_of x).4) (words_of x).5 → max_var g (atoms_vars (x ∷ m)) ≡ max_var g2 (atoms_vars m)
+unfolding atoms_vars
+next_atom x m g g2 e = step_vars x g (atoms_vars m) ∙ ap (λ (y : ℕ). max_var y (atoms_vars m)) (sym e)
 
 -- the greater of two, as the code finds it
-pub up-more : (m v : ℕ) → m < v → upTo m v ≡ v
-up-more m v h = rw (lt-ltb m v h) refl
+pub up_more : (m v : ℕ) → m < v → up_to m v ≡ v
+up_more m v h = rw (lt-ltb m v h) refl
 
-pub up-same : (m v : ℕ) → v ≤ m → upTo m v ≡ m
-up-same m v h = rw (le-ltb m v h) refl
+pub up_same : (m v : ℕ) → v ≤ m → up_to m v ≡ m
+up_same m v h = rw (le-ltb m v h) refl
 
 module _ (s : List ℕ) where
-  pub vars-start : VarsAt s 0 0
-  vars-start = record { within = omega arith; rest = λ l R. refl }
+  pub vars_start : VarsAt s 0 0
+  vars_start = record { within = omega arith; rest = λ l R. refl }
 
-  pub vars-next : (i g u v g1 g2 : ℕ) → VarsAt s i g → i < length s / 24 → u ≡ get_or (words s) (6 * i + 4) 0 → v ≡ get_or (words s) (6 * i + 5) 0
-      → g1 ≡ upTo g u → g2 ≡ upTo g1 v → VarsAt s (i + 1) g2
-  vars-next i g u v g1 g2 A lt eu ev e1 e2 = record {
+  pub vars_next : (i g u v g1 g2 : ℕ) → VarsAt s i g → i < length s / 24 → u ≡ get_or (words s) (6 * i + 4) 0 → v ≡ get_or (words s) (6 * i + 5) 0
+      → g1 ≡ up_to g u → g2 ≡ up_to g1 v → VarsAt s (i + 1) g2
+  vars_next i g u v g1 g2 A lt eu ev e1 e2 = record {
     within = omega arith;
     rest = λ l R.
         let h : i < length l = omega (arith, R.long) in
-        let x : Atom = get_or l i noAtom in
-        let X : At (words s) (6 * i) (six x) = run-nth s l i R h in
+        let x : Atom = get_or l i no_atom in
+        let X : At (words s) (6 * i) (six x) = run_nth s l i R h in
         let p : i + 1 ≡ suc i = omega arith in
-        let q : drop i l ≡ x ∷ drop (suc i) l = drop-cons l i noAtom h in
-        let u4 : u ≡ (wordsOf x).4 = eu ∙ source-is (words s) i x X in
-        let v5 : v ≡ (wordsOf x).5 = ev ∙ target-is (words s) i x X in
-        let z : g2 ≡ upTo (upTo g (wordsOf x).4) (wordsOf x).5 = rw (e2, e1, u4, v5) refl in
-        A.rest l R ∙ ap (λ (t : List Atom). maxVar g (atomsVars t)) q ∙ next-atom x (drop (suc i) l) g g2 z ∙ ap (λ (y : ℕ). maxVar g2 (atomsVars (drop y l))) (sym p);
+        let q : drop i l ≡ x ∷ drop (suc i) l = drop-cons l i no_atom h in
+        let u4 : u ≡ (words_of x).4 = eu ∙ source_is (words s) i x X in
+        let v5 : v ≡ (words_of x).5 = ev ∙ target_is (words s) i x X in
+        let z : g2 ≡ up_to (up_to g (words_of x).4) (words_of x).5 = rw (e2, e1, u4, v5) refl in
+        A.rest l R ∙ ap (λ (t : List Atom). max_var g (atoms_vars t)) q ∙ next_atom x (drop (suc i) l) g g2 z ∙ ap (λ (y : ℕ). max_var g2 (atoms_vars (drop y l))) (sym p);
   }
 
-  pub vars-end : (i g : ℕ) → VarsAt s i g → length s / 24 ≤ i → (l : List Atom) → Run s l → maxVar 0 (atomsVars l) ≡ g
-  unfolding maxVar atomsVars
-  vars-end i g A h l R = A.rest l R ∙ ap (λ (z : List Atom). maxVar g (atomsVars z)) (drop_of_length-le l {i = i} (omega (arith, R.long)))
+  pub vars_end : (i g : ℕ) → VarsAt s i g → length s / 24 ≤ i → (l : List Atom) → Run s l → max_var 0 (atoms_vars l) ≡ g
+  unfolding max_var atoms_vars
+  vars_end i g A h l R = A.rest l R ∙ ap (λ (z : List Atom). max_var g (atoms_vars z)) (drop_of_length-le l {i = i} (omega (arith, R.long)))
 
   -- the sum does not pass the last number
-  pub vars-small : (i g : ℕ) → VarsAt s i g → length s / 24 ≤ i → VarsThere s → g + 1 < 2 ^ 32
-  vars-small i g A h T = let e = vars-end i g A h T.atoms T.run in omega (arith, T.small, e)
+  pub vars_small : (i g : ℕ) → VarsAt s i g → length s / 24 ≤ i → VarsThere s → g + 1 < 2 ^ 32
+  vars_small i g A h T = let e = vars_end i g A h T.atoms T.run in omega (arith, T.small, e)

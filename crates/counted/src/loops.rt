@@ -1,17 +1,17 @@
 // add_counted_self_loops: R(v, v) where an at-most atom over a reflexive R counts it.
 ghost use Rattle.std.specs.Prelude.{◌≡◌, List, [], ◌∷◌, ◌++◌, ℕ, ◌+◌, ◌*◌, ◌<◌, ◌≤◌, ◌^◌, length, take};
 ghost use Rattle.words.specs.Words.{words};
-ghost use Rattle.ir.specs.Roles.{roleOf};
+ghost use Rattle.ir.specs.Roles.{role_of};
 ghost use Rattle.ir.specs.declared.atom.Atom.{Atom};
 ghost use Rattle.ir.specs.declared.atom.Atom.TheVariants.{Role as RoleAtom};
-ghost use Rattle.rules.specs.Reflexive.{maxVar, atomsVars, addCountedSelfLoops};
+ghost use Rattle.rules.specs.Reflexive.{max_var, atoms_vars, add_counted_self_loops};
 ghost use Rattle.tables.specs.Drawn.{Sized};
 ghost use Rattle.tables.specs.Good.{Good};
 ghost use Rattle.hands.specs.Hands.{InHand, four};
-ghost use Rattle.tables.specs.Tabled.{headCount, Run, RunThere};
-ghost use Rattle.contraction.specs.InHands.{inHandBytes, handAt};
+ghost use Rattle.tables.specs.Tabled.{head_count, Run, RunThere};
+ghost use Rattle.contraction.specs.InHands.{in_hand_bytes, hand_at};
 ghost use Rattle.contraction.specs.Passes.{Standing, StandingBelowAfter, Drawn, Passed};
-ghost use Rattle.counted.specs.SelfLoops.{loopAt, loopsAt, Looping, LoopedAfter};
+ghost use Rattle.counted.specs.SelfLoops.{loop_at, loops_at, Looping, LoopedAfter};
 ghost use Rattle.counted.specs.VarLaws.{VarsThere};
 
 use contraction::clause;
@@ -26,7 +26,7 @@ use tables::read;
 // One more than the greatest variable of the run's atoms.
 fn next_var_of(run: &[u8]) -> u32
     requires { VarsThere run.now }
-    ensures { (l : List Atom) → Run run.now l → result ≡ maxVar 0 (atomsVars l) + 1 }
+    ensures { (l : List Atom) → Run run.now l → result ≡ max_var 0 (atoms_vars l) + 1 }
 {
     let count = run.len() / 24;
     let mut greatest: u32 = 0;
@@ -47,9 +47,9 @@ fn next_var_of(run: &[u8]) -> u32
 
 // The body, R(v, fresh) behind it, and R(v, v).
 fn put_loop(scratch: &mut [u8], body: &[u8], code: u32, v: u32, fresh: u32)
-    requires { RunThere body.now × (length body.now < 24 * 256) × (inHandBytes ≤ length scratch.old) }
-    ensures in_hand { (b : List Atom) → Run body.now b → InHand (words scratch.new) handAt (length b + 1 + 1) ((b ++ (RoleAtom (roleOf code) v fresh ∷ [])) ++ (RoleAtom (roleOf code) v v ∷ [])) }
-    ensures scratch_unchanged { take (6 * handAt) (words scratch.new) ≡ take (6 * handAt) (words scratch.old) }
+    requires { RunThere body.now × (length body.now < 24 * 256) × (in_hand_bytes ≤ length scratch.old) }
+    ensures in_hand { (b : List Atom) → Run body.now b → InHand (words scratch.new) hand_at (length b + 1 + 1) ((b ++ (RoleAtom (role_of code) v fresh ∷ [])) ++ (RoleAtom (role_of code) v v ∷ [])) }
+    ensures scratch_unchanged { take (6 * hand_at) (words scratch.new) ≡ take (6 * hand_at) (words scratch.old) }
 {
     let nb = body.len() / 24;
     words::copy_words(scratch, 6 * HAND, body);
@@ -68,10 +68,10 @@ fn loop_of(
     j: u32,
     from: u32,
 ) -> Answer
-    requires { Looping k (words clauses.old) (words atoms.old) from × (c < from) × (j < headCount (words clauses.old) c) × Good k × (inHandBytes ≤ length scratch.old) × Sized (length clauses.old) (length atoms.old) 0 }
+    requires { Looping k (words clauses.old) (words atoms.old) from × (c < from) × (j < head_count (words clauses.old) c) × Good k × (in_hand_bytes ≤ length scratch.old) × Sized (length clauses.old) (length atoms.old) 0 }
     ensures fact { let old = four (words scratch.old) (words clauses.old) (words atoms.old) in
         let new = four (words scratch.new) (words clauses.new) (words atoms.new) in
-        ((d : List ℕ) → Passed (loopAt from c j) k (old d) (new d) result) }
+        ((d : List ℕ) → Passed (loop_at from c j) k (old d) (new d) result) }
     ensures looped_after { LoopedAfter from (words clauses.old) (words clauses.new) (words atoms.new) result }
 {
     let head = read::head_of(clauses, atoms, c);
@@ -102,10 +102,10 @@ fn loops_of_head(
     c: u32,
     from: u32,
 ) -> Answer
-    requires { Looping k (words clauses.old) (words atoms.old) from × (c < from) × Good k × (inHandBytes ≤ length scratch.old) × Sized (length clauses.old) (length atoms.old) 0 }
+    requires { Looping k (words clauses.old) (words atoms.old) from × (c < from) × Good k × (in_hand_bytes ≤ length scratch.old) × Sized (length clauses.old) (length atoms.old) 0 }
     ensures fact { let old = four (words scratch.old) (words clauses.old) (words atoms.old) in
         let new = four (words scratch.new) (words clauses.new) (words atoms.new) in
-        ((d : List ℕ) → Passed (loopsAt from c) k (old d) (new d) result) }
+        ((d : List ℕ) → Passed (loops_at from c) k (old d) (new d) result) }
     ensures looped_after { LoopedAfter from (words clauses.old) (words clauses.new) (words atoms.new) result }
 {
     let nh = read::head_count(clauses, c);
@@ -134,7 +134,7 @@ pub fn add_counted_self_loops(
     requires { Standing k (words clauses.old) (words atoms.old) × ((d : List ℕ) × Drawn k (words clauses.old) (words atoms.old) d) × Good k × (338400 ≤ length scratch.old) × Sized (length clauses.old) (length atoms.old) 0 }
     ensures fact { let old = four (words scratch.old) (words clauses.old) (words atoms.old) in
         let new = four (words scratch.new) (words clauses.new) (words atoms.new) in
-        ((d : List ℕ) → Passed (λ env set. addCountedSelfLoops env set) k (old d) (new d) result) }
+        ((d : List ℕ) → Passed (λ env set. add_counted_self_loops env set) k (old d) (new d) result) }
     ensures standing_below_after { StandingBelowAfter (2 ^ 31 + 1) (words clauses.new) (words atoms.new) result }
 {
     let from = k.clauses;

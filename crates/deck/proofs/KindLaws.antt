@@ -12,99 +12,99 @@ use lib.ListN.{length, get_or, take, drop, length-drop}
 use lib.Seq.{get_or-take, get_or-drop}
 use mathlib.Core.Bool.{not}
 use Rattle.ir.specs.Pick.{pick}
-use Rattle.ir.specs.Roles.{roleOf, roleCode, code-role}
+use Rattle.ir.specs.Roles.{role_of, role_code, code_role}
 use Rattle.ir.specs.declared.role.Role.{Role}
 use Rattle.rules.specs.Base.{all}
-use Rattle.rules.specs.Concept.{Concept, conceptRow}
+use Rattle.rules.specs.Concept.{Concept, concept_row}
 use Rattle.rules.specs.Concept.{Top, Bot, Atomic, Nominal, SelfRestriction, Not, And, Or, Some, All, Min, Max}
-use Rattle.rules.specs.Deck.{mostListed, sections, fixedFields, sectionOf, fixedOf, listOf, conceptOf, fieldsOk, partsOf, memberOf, underAnd, underOr, listOk, membersOk, boundOk}
-use Rattle.rules.specs.DeckLaws.{all-each}
-use Rattle.rules.specs.Text.{mostNumber}
-use Rattle.rules.specs.TextLaws.{each-getD, by-test, and-true}
-use Rattle.deck.specs.Records.{firsts, firstPart, kindMember, under, IsList}
+use Rattle.rules.specs.Deck.{most_listed, sections, fixed_fields, section_of, fixed_of, list_of, concept_of, fields_ok, parts_of, member_of, under_and, under_or, list_ok, members_ok, bound_ok}
+use Rattle.rules.specs.DeckLaws.{all_each}
+use Rattle.rules.specs.Text.{most_number}
+use Rattle.rules.specs.TextLaws.{each_get_d, by_test, and_true}
+use Rattle.deck.specs.Records.{firsts, first_part, kind_member, under, IsList}
 
-pub fixed-most : (k : ℕ) → fixedOf k ≤ 4
-fixed-most k = each-getD (λ n. n ≤ 4) fixedFields k 0 (all-each (λ n. leb n 4) (λ n. n ≤ 4) (λ n. leb-true n 4) fixedFields refl) (omega arith)
+pub fixed_most : (k : ℕ) → fixed_of k ≤ 4
+fixed_most k = each_get_d (λ n. n ≤ 4) fixed_fields k 0 (all_each (λ n. leb n 4) (λ n. n ≤ 4) (λ n. leb-true n 4) fixed_fields refl) (omega arith)
 
 -- the list's length, by the line's
 module _ (r : List ℕ) (k : ℕ) where
-  pub list-room : length r ≤ 129 + fixedOf k → leb (length (listOf k r)) mostListed ≡ true
-  list-room h = let l = length-drop (1 + fixedOf k) r in le-leb (length (listOf k r)) mostListed (omega arith)
+  pub list_room : length r ≤ 129 + fixed_of k → leb (length (list_of k r)) most_listed ≡ true
+  list_room h = let l = length-drop (1 + fixed_of k) r in le-leb (length (list_of k r)) most_listed (omega arith)
 
-  pub list-full : 129 + fixedOf k < length r → leb (length (listOf k r)) mostListed ≡ false
-  list-full h = let l = length-drop (1 + fixedOf k) r in lt-leb (length (listOf k r)) mostListed (omega arith)
+  pub list_full : 129 + fixed_of k < length r → leb (length (list_of k r)) most_listed ≡ false
+  list_full h = let l = length-drop (1 + fixed_of k) r in lt-leb (length (list_of k r)) most_listed (omega arith)
 
-pub all-map : {A : Type 0} (q : A → Bool) (f : ℕ → A) (l : List ℕ) → all q (map f l) ≡ all (λ x. q (f x)) l
-all-map q f [] = refl
-all-map q f (x ∷ l) = rw (all-map q f l) refl
+pub all_map : {A : Type 0} (q : A → Bool) (f : ℕ → A) (l : List ℕ) → all q (map f l) ≡ all (λ x. q (f x)) l
+all_map q f [] = refl
+all_map q f (x ∷ l) = rw (all_map q f l) refl
 
-pub first-most : (k : ℕ) → firstPart k ≤ 5
-first-most k = each-getD (λ n. n ≤ 5) firsts k 0 (all-each (λ n. leb n 5) (λ n. n ≤ 5) (λ n. leb-true n 5) firsts refl) (omega arith)
+pub first_most : (k : ℕ) → first_part k ≤ 5
+first_most k = each_get_d (λ n. n ≤ 5) firsts k 0 (all_each (λ n. leb n 5) (λ n. n ≤ 5) (λ n. leb-true n 5) firsts refl) (omega arith)
 
 -- ---- the sections
-pub section-most : (k : ℕ) → sectionOf k ≤ 4
-section-most k = each-getD (λ n. n ≤ 4) sections k 0 (all-each (λ n. leb n 4) (λ n. n ≤ 4) (λ n. leb-true n 4) sections refl) (omega arith)
+pub section_most : (k : ℕ) → section_of k ≤ 4
+section_most k = each_get_d (λ n. n ≤ 4) sections k 0 (all_each (λ n. leb n 4) (λ n. n ≤ 4) (λ n. leb-true n 4) sections refl) (omega arith)
 
 -- a number that is no entry of a list
-none-is : (v : ℕ) (l : List ℕ) → all (λ n. not (eqb n v)) l ≡ true → (0 ≡ v → ⊥) → (i : ℕ) → get_or l i 0 ≡ v → ⊥
-none-is v l h z i = each-getD (λ n. n ≡ v → ⊥) l i 0 (all-each (λ n. not (eqb n v)) (λ n. n ≡ v → ⊥) (λ n b. eqb-false n v (not-true (eqb n v) b)) l h) z
+none_is : (v : ℕ) (l : List ℕ) → all (λ n. not (eqb n v)) l ≡ true → (0 ≡ v → ⊥) → (i : ℕ) → get_or l i 0 ≡ v → ⊥
+none_is v l h z i = each_get_d (λ n. n ≡ v → ⊥) l i 0 (all_each (λ n. not (eqb n v)) (λ n. n ≡ v → ⊥) (λ n b. eqb-false n v (not-true (eqb n v) b)) l h) z
 
-late : (m k v : ℕ) → all (λ n. not (eqb n v)) (drop m sections) ≡ true → (0 ≡ v → ⊥) → m ≤ k → sectionOf k ≡ v → ⊥
+late : (m k v : ℕ) → all (λ n. not (eqb n v)) (drop m sections) ≡ true → (0 ≡ v → ⊥) → m ≤ k → section_of k ≡ v → ⊥
 late m k v a z h e =
     let q : m + (k - m) ≡ k = omega arith in
-    none-is v (drop m sections) a z (k - m) (get_or-drop m sections (k - m) 0 ∙ ap sectionOf q ∙ e)
+    none_is v (drop m sections) a z (k - m) (get_or-drop m sections (k - m) 0 ∙ ap section_of q ∙ e)
 
-early : (m k v : ℕ) → all (λ n. not (eqb n v)) (take m sections) ≡ true → (0 ≡ v → ⊥) → k < m → sectionOf k ≡ v → ⊥
-early m k v a z h e = none-is v (take m sections) a z k (get_or-take m sections k 0 h ∙ e)
+early : (m k v : ℕ) → all (λ n. not (eqb n v)) (take m sections) ≡ true → (0 ≡ v → ⊥) → k < m → section_of k ≡ v → ⊥
+early m k v a z h e = none_is v (take m sections) a z k (get_or-take m sections k 0 h ∙ e)
 
 -- kinds in a row that have one section: n of them from m on
-same-at : (v : ℕ) (l : List ℕ) → all (λ n. eqb n v) l ≡ true → (i : ℕ) → i < length l → v ≡ get_or l i 0
-same-at v [] a i h = absurd (omega arith)
-same-at v (x ∷ l) a zero h = sym (eqb-true x v (and-true (eqb x v) (all (λ n. eqb n v) l) a).0)
-same-at v (x ∷ l) a (suc i) h = same-at v l (and-true (eqb x v) (all (λ n. eqb n v) l) a).1 i (omega arith)
+same_at : (v : ℕ) (l : List ℕ) → all (λ n. eqb n v) l ≡ true → (i : ℕ) → i < length l → v ≡ get_or l i 0
+same_at v [] a i h = absurd (omega arith)
+same_at v (x ∷ l) a zero h = sym (eqb-true x v (and_true (eqb x v) (all (λ n. eqb n v) l) a).0)
+same_at v (x ∷ l) a (suc i) h = same_at v l (and_true (eqb x v) (all (λ n. eqb n v) l) a).1 i (omega arith)
 
-pub stretch : (m n v k : ℕ) → all (λ i. eqb i v) (take n (drop m sections)) ≡ true → length (take n (drop m sections)) ≡ n → m ≤ k → k < m + n → v ≡ sectionOf k
+pub stretch : (m n v k : ℕ) → all (λ i. eqb i v) (take n (drop m sections)) ≡ true → length (take n (drop m sections)) ≡ n → m ≤ k → k < m + n → v ≡ section_of k
 stretch m n v k a e h l =
     let q : m + (k - m) ≡ k = omega arith in
     let i : k - m < n = omega arith in
-    same-at v (take n (drop m sections)) a (k - m) (rw e i) ∙ get_or-take n (drop m sections) (k - m) 0 i ∙ get_or-drop m sections (k - m) 0 ∙ ap sectionOf q
+    same_at v (take n (drop m sections)) a (k - m) (rw e i) ∙ get_or-take n (drop m sections) (k - m) 0 i ∙ get_or-drop m sections (k - m) 0 ∙ ap section_of q
 
 -- 13 and 15 to 20 are no kinds
-pub no-kind : (k : ℕ) → 13 ≤ k → (k ≡ 14 → ⊥) → k < 21 → 0 ≡ sectionOf k
-no-kind k h d l =
-    by-test (ltb k 14) (λ c. stretch 13 1 0 k refl refl h (omega (arith, ltb-true k 14 c)))
+pub no_kind : (k : ℕ) → 13 ≤ k → (k ≡ 14 → ⊥) → k < 21 → 0 ≡ section_of k
+no_kind k h d l =
+    by_test (ltb k 14) (λ c. stretch 13 1 0 k refl refl h (omega (arith, ltb-true k 14 c)))
     (λ c. stretch 15 6 0 k refl refl (omega (arith, ltb-false k 14 c, d)) (omega arith))
 
 -- key marks are of kind 14
-pub key-kind : (k : ℕ) → sectionOf k ≡ 2 → k ≡ 14
-key-kind k e =
-    by-test (ltb k 14) (λ c. absurd (early 14 k 2 refl (λ z. absurd (omega arith)) (ltb-true k 14 c) e))
-    (λ c. by-test (ltb k 15) (λ d. let a = ltb-false k 14 c in let b = ltb-true k 15 d in omega arith) (λ d. absurd (late 15 k 2 refl (λ z. absurd (omega arith)) (ltb-false k 15 d) e)))
+pub key_kind : (k : ℕ) → section_of k ≡ 2 → k ≡ 14
+key_kind k e =
+    by_test (ltb k 14) (λ c. absurd (early 14 k 2 refl (λ z. absurd (omega arith)) (ltb-true k 14 c) e))
+    (λ c. by_test (ltb k 15) (λ d. let a = ltb-false k 14 c in let b = ltb-true k 15 d in omega arith) (λ d. absurd (late 15 k 2 refl (λ z. absurd (omega arith)) (ltb-false k 15 d) e)))
 
 -- concepts are of kinds 1 to 12
-concept-range : (k : ℕ) → sectionOf k ≡ 3 → (1 ≤ k) × (k ≤ 12)
-concept-range zero e = absurd (omega arith)
-concept-range (suc k) e = by-test (ltb (suc k) 13) (λ c. let l = ltb-true (suc k) 13 c in (omega arith, omega arith)) (λ c. absurd (late 13 (suc k) 3 refl (λ z. absurd (omega arith)) (ltb-false (suc k) 13 c) e))
+concept_range : (k : ℕ) → section_of k ≡ 3 → (1 ≤ k) × (k ≤ 12)
+concept_range zero e = absurd (omega arith)
+concept_range (suc k) e = by_test (ltb (suc k) 13) (λ c. let l = ltb-true (suc k) 13 c in (omega arith, omega arith)) (λ c. absurd (late 13 (suc k) 3 refl (λ z. absurd (omega arith)) (ltb-false (suc k) 13 c) e))
 
 -- axioms are of kinds 21 to 36
-axiom-range : (k : ℕ) → sectionOf k ≡ 4 → (21 ≤ k) × (k ≤ 36)
-axiom-range k e =
-    by-test (ltb k 21) (λ c. absurd (early 21 k 4 refl (λ z. absurd (omega arith)) (ltb-true k 21 c) e))
-    (λ c. by-test (ltb k 37) (λ d. let a = ltb-false k 21 c in let b = ltb-true k 37 d in (a, omega arith)) (λ d. absurd (late 37 k 4 refl (λ z. absurd (omega arith)) (ltb-false k 37 d) e)))
+axiom_range : (k : ℕ) → section_of k ≡ 4 → (21 ≤ k) × (k ≤ 36)
+axiom_range k e =
+    by_test (ltb k 21) (λ c. absurd (early 21 k 4 refl (λ z. absurd (omega arith)) (ltb-true k 21 c) e))
+    (λ c. by_test (ltb k 37) (λ d. let a = ltb-false k 21 c in let b = ltb-true k 37 d in (a, omega arith)) (λ d. absurd (late 37 k 4 refl (λ z. absurd (omega arith)) (ltb-false k 37 d) e)))
 
 module _ (P : ℕ → Type 0) where
   from : (k m : ℕ) → m ≤ k → P m → (m + 1 ≤ k → P k) → P k
-  from k m l a go = by-test (eqb k m) (λ e. subst P (sym (eqb-true k m e)) a) (λ e. go (omega (arith, eqb-false k m e)))
+  from k m l a go = by_test (eqb k m) (λ e. subst P (sym (eqb-true k m e)) a) (λ e. go (omega (arith, eqb-false k m e)))
 
-  concept-kinds : P 1 → P 2 → P 3 → P 4 → P 5 → P 6 → P 7 → P 8 → P 9 → P 10 → P 11 → P 12 → (k : ℕ) → sectionOf k ≡ 3 → P k
-  concept-kinds a b c d e f g h i j l m k s =
-      let r = concept-range k s in
+  concept_kinds : P 1 → P 2 → P 3 → P 4 → P 5 → P 6 → P 7 → P 8 → P 9 → P 10 → P 11 → P 12 → (k : ℕ) → section_of k ≡ 3 → P k
+  concept_kinds a b c d e f g h i j l m k s =
+      let r = concept_range k s in
       from k 1 r.0 a (λ o. from k 2 o b (λ o. from k 3 o c (λ o. from k 4 o d (λ o. from k 5 o e (λ o. from k 6 o f
       (λ o. from k 7 o g (λ o. from k 8 o h (λ o. from k 9 o i (λ o. from k 10 o j (λ o. from k 11 o l (λ o. from k 12 o m (λ o. absurd (omega (arith, r.1))))))))))))))
 
-  pub axiom-kinds : P 21 → P 22 → P 23 → P 24 → P 25 → P 26 → P 27 → P 28 → P 29 → P 30 → P 31 → P 32 → P 33 → P 34 → P 35 → P 36 → (k : ℕ) → sectionOf k ≡ 4 → P k
-  axiom-kinds a b c d e f g h i j l m n p q t k s =
-      let r = axiom-range k s in
+  pub axiom_kinds : P 21 → P 22 → P 23 → P 24 → P 25 → P 26 → P 27 → P 28 → P 29 → P 30 → P 31 → P 32 → P 33 → P 34 → P 35 → P 36 → (k : ℕ) → section_of k ≡ 4 → P k
+  axiom_kinds a b c d e f g h i j l m n p q t k s =
+      let r = axiom_range k s in
       from k 21 r.0 a (λ o. from k 22 o b (λ o. from k 23 o c (λ o. from k 24 o d (λ o. from k 25 o e (λ o. from k 26 o f
       (λ o. from k 27 o g (λ o. from k 28 o h (λ o. from k 29 o i (λ o. from k 30 o j (λ o. from k 31 o l (λ o. from k 32 o m
       (λ o. from k 33 o n (λ o. from k 34 o p (λ o. from k 35 o q (λ o. from k 36 o t (λ o. absurd (omega (arith, r.1))))))))))))))))))
@@ -117,117 +117,117 @@ one (a ∷ b ∷ r) h = absurd (omega (arith, eqb-true (length (a ∷ b ∷ r)) 
 
 two : (r : List ℕ) → eqb (length r) 2 ≡ true → get_or r 0 0 ∷ get_or r 1 0 ∷ [] ≡ r
 two [] h = absurd (omega (arith, eqb-true 0 2 h))
-two (a ∷ r) h = ap (λ (l : List ℕ). a ∷ l) (one r (by-length r (eqb-true (length (a ∷ r)) 2 h)))
+two (a ∷ r) h = ap (λ (l : List ℕ). a ∷ l) (one r (by_length r (eqb-true (length (a ∷ r)) 2 h)))
   where
-    by-length : (r : List ℕ) → suc (length r) ≡ 2 → eqb (length r) 1 ≡ true
-    by-length r h = let e : length r ≡ 1 = omega arith in rw e refl
+    by_length : (r : List ℕ) → suc (length r) ≡ 2 → eqb (length r) 1 ≡ true
+    by_length r h = let e : length r ≡ 1 = omega arith in rw e refl
 
 three : (r : List ℕ) → eqb (length r) 3 ≡ true → get_or r 0 0 ∷ get_or r 1 0 ∷ get_or r 2 0 ∷ [] ≡ r
 three [] h = absurd (omega (arith, eqb-true 0 3 h))
-three (a ∷ r) h = ap (λ (l : List ℕ). a ∷ l) (two r (by-length r (eqb-true (length (a ∷ r)) 3 h)))
+three (a ∷ r) h = ap (λ (l : List ℕ). a ∷ l) (two r (by_length r (eqb-true (length (a ∷ r)) 3 h)))
   where
-    by-length : (r : List ℕ) → suc (length r) ≡ 3 → eqb (length r) 2 ≡ true
-    by-length r h = let e : length r ≡ 2 = omega arith in rw e refl
+    by_length : (r : List ℕ) → suc (length r) ≡ 3 → eqb (length r) 2 ≡ true
+    by_length r h = let e : length r ≡ 2 = omega arith in rw e refl
 
 four : (r : List ℕ) → eqb (length r) 4 ≡ true → get_or r 0 0 ∷ get_or r 1 0 ∷ get_or r 2 0 ∷ get_or r 3 0 ∷ [] ≡ r
 four [] h = absurd (omega (arith, eqb-true 0 4 h))
-four (a ∷ r) h = ap (λ (l : List ℕ). a ∷ l) (three r (by-length r (eqb-true (length (a ∷ r)) 4 h)))
+four (a ∷ r) h = ap (λ (l : List ℕ). a ∷ l) (three r (by_length r (eqb-true (length (a ∷ r)) 4 h)))
   where
-    by-length : (r : List ℕ) → suc (length r) ≡ 4 → eqb (length r) 3 ≡ true
-    by-length r h = let e : length r ≡ 3 = omega arith in rw e refl
+    by_length : (r : List ℕ) → suc (length r) ≡ 4 → eqb (length r) 3 ≡ true
+    by_length r h = let e : length r ≡ 3 = omega arith in rw e refl
 
 some : (r : List ℕ) → leb 1 (length r) ≡ true → get_or r 0 0 ∷ drop 1 r ≡ r
 some [] h = absurd (omega (arith, leb-true 1 0 h))
 some (a ∷ r) h = refl
 
 -- a line of a concept kind, with the right number of fields, is its concept's row
-pub concept-row : (r : List ℕ) (k : ℕ) → sectionOf k ≡ 3 → k ≡ get_or r 0 0 → fieldsOk k (length r) ≡ true → conceptRow (conceptOf k r) ≡ r
-unfolding conceptOf
-concept-row r =
-    concept-kinds (λ k. k ≡ get_or r 0 0 → fieldsOk k (length r) ≡ true → conceptRow (conceptOf k r) ≡ r)
+pub concept_row_lem : (r : List ℕ) (k : ℕ) → section_of k ≡ 3 → k ≡ get_or r 0 0 → fields_ok k (length r) ≡ true → concept_row (concept_of k r) ≡ r
+unfolding concept_of
+concept_row_lem r =
+    concept_kinds (λ k. k ≡ get_or r 0 0 → fields_ok k (length r) ≡ true → concept_row (concept_of k r) ≡ r)
     (λ e h. rw e (one r h))
     (λ e h. rw e (one r h))
     (λ e h. rw e (two r h))
     (λ e h. rw e (two r h))
-    (λ e h. rw (code-role (get_or r 1 0), e) (two r h))
+    (λ e h. rw (code_role (get_or r 1 0), e) (two r h))
     (λ e h. rw e (two r h))
     (λ e h. rw e (some r h))
     (λ e h. rw e (some r h))
-    (λ e h. rw (code-role (get_or r 1 0), e) (three r h))
-    (λ e h. rw (code-role (get_or r 1 0), e) (three r h))
-    (λ e h. rw (code-role (get_or r 2 0), e) (four r h))
-    (λ e h. rw (code-role (get_or r 2 0), e) (four r h))
+    (λ e h. rw (code_role (get_or r 1 0), e) (three r h))
+    (λ e h. rw (code_role (get_or r 1 0), e) (three r h))
+    (λ e h. rw (code_role (get_or r 2 0), e) (four r h))
+    (λ e h. rw (code_role (get_or r 2 0), e) (four r h))
 
 -- ---- what can be read off a concept's row
-pub parts-row : (e : Concept) → partsOf e ≡ drop (firstPart (get_or (conceptRow e) 0 0)) (conceptRow e)
-parts-row Top = refl
-parts-row Bot = refl
-parts-row (Atomic _) = refl
-parts-row (Nominal _) = refl
-parts-row (SelfRestriction _) = refl
-parts-row (Not _) = refl
-parts-row (And _) = refl
-parts-row (Or _) = refl
-parts-row (Some _ _) = refl
-parts-row (All _ _) = refl
-parts-row (Min _ _ _) = refl
-parts-row (Max _ _ _) = refl
+pub parts_row : (e : Concept) → parts_of e ≡ drop (first_part (get_or (concept_row e) 0 0)) (concept_row e)
+parts_row Top = refl
+parts_row Bot = refl
+parts_row (Atomic _) = refl
+parts_row (Nominal _) = refl
+parts_row (SelfRestriction _) = refl
+parts_row (Not _) = refl
+parts_row (And _) = refl
+parts_row (Or _) = refl
+parts_row (Some _ _) = refl
+parts_row (All _ _) = refl
+parts_row (Min _ _ _) = refl
+parts_row (Max _ _ _) = refl
 
-pub member-row : (e : Concept) → memberOf e ≡ kindMember (get_or (conceptRow e) 0 0)
-member-row Top = refl
-member-row Bot = refl
-member-row (Atomic _) = refl
-member-row (Nominal _) = refl
-member-row (SelfRestriction _) = refl
-member-row (Not _) = refl
-member-row (And _) = refl
-member-row (Or _) = refl
-member-row (Some _ _) = refl
-member-row (All _ _) = refl
-member-row (Min _ _ _) = refl
-member-row (Max _ _ _) = refl
+pub member_row : (e : Concept) → member_of e ≡ kind_member (get_or (concept_row e) 0 0)
+member_row Top = refl
+member_row Bot = refl
+member_row (Atomic _) = refl
+member_row (Nominal _) = refl
+member_row (SelfRestriction _) = refl
+member_row (Not _) = refl
+member_row (And _) = refl
+member_row (Or _) = refl
+member_row (Some _ _) = refl
+member_row (All _ _) = refl
+member_row (Min _ _ _) = refl
+member_row (Max _ _ _) = refl
 
-pub members-row : (p : List Concept) (e : Concept) → membersOk p e ≡ pick (eqb (get_or (conceptRow e) 0 0) 7) (listOk p underAnd (drop 1 (conceptRow e))) (pick (eqb (get_or (conceptRow e) 0 0) 8) (listOk p underOr (drop 1 (conceptRow e))) true)
-members-row p Top = refl
-members-row p Bot = refl
-members-row p (Atomic _) = refl
-members-row p (Nominal _) = refl
-members-row p (SelfRestriction _) = refl
-members-row p (Not _) = refl
-members-row p (And _) = refl
-members-row p (Or _) = refl
-members-row p (Some _ _) = refl
-members-row p (All _ _) = refl
-members-row p (Min _ _ _) = refl
-members-row p (Max _ _ _) = refl
+pub members_row : (p : List Concept) (e : Concept) → members_ok p e ≡ pick (eqb (get_or (concept_row e) 0 0) 7) (list_ok p under_and (drop 1 (concept_row e))) (pick (eqb (get_or (concept_row e) 0 0) 8) (list_ok p under_or (drop 1 (concept_row e))) true)
+members_row p Top = refl
+members_row p Bot = refl
+members_row p (Atomic _) = refl
+members_row p (Nominal _) = refl
+members_row p (SelfRestriction _) = refl
+members_row p (Not _) = refl
+members_row p (And _) = refl
+members_row p (Or _) = refl
+members_row p (Some _ _) = refl
+members_row p (All _ _) = refl
+members_row p (Min _ _ _) = refl
+members_row p (Max _ _ _) = refl
 
-pub bound-row : (e : Concept) → boundOk e ≡ pick (eqb (get_or (conceptRow e) 0 0) 12) (ltb (get_or (conceptRow e) 1 0) mostNumber) true
-bound-row Top = refl
-bound-row Bot = refl
-bound-row (Atomic _) = refl
-bound-row (Nominal _) = refl
-bound-row (SelfRestriction _) = refl
-bound-row (Not _) = refl
-bound-row (And _) = refl
-bound-row (Or _) = refl
-bound-row (Some _ _) = refl
-bound-row (All _ _) = refl
-bound-row (Min _ _ _) = refl
-bound-row (Max _ _ _) = refl
+pub bound_row : (e : Concept) → bound_ok e ≡ pick (eqb (get_or (concept_row e) 0 0) 12) (ltb (get_or (concept_row e) 1 0) most_number) true
+bound_row Top = refl
+bound_row Bot = refl
+bound_row (Atomic _) = refl
+bound_row (Nominal _) = refl
+bound_row (SelfRestriction _) = refl
+bound_row (Not _) = refl
+bound_row (And _) = refl
+bound_row (Or _) = refl
+bound_row (Some _ _) = refl
+bound_row (All _ _) = refl
+bound_row (Min _ _ _) = refl
+bound_row (Max _ _ _) = refl
 
 -- a list takes every member but Top, Bot and its own kind
-pub fit-law : (k m : ℕ) → IsList k → under k (kindMember m) ≡ pick (eqb m 1) false (pick (eqb m 2) false (pick (eqb m k) false true))
-fit-law k m = ⊎_elim (λ e. rw e and-list) (λ e. rw e or-list)
+pub fit_law : (k m : ℕ) → IsList k → under k (kind_member m) ≡ pick (eqb m 1) false (pick (eqb m 2) false (pick (eqb m k) false true))
+fit_law k m = ⊎_elim (λ e. rw e and_list_lem) (λ e. rw e or_list_lem)
   where
-    and-list : underAnd (kindMember m) ≡ pick (eqb m 1) false (pick (eqb m 2) false (pick (eqb m 7) false true))
-    and-list =
-        by-test (eqb m 1) (λ a. rw a refl) (λ a. by-test (eqb m 2) (λ b. rw (a, b) refl) (λ b. by-test (eqb m 7) (λ c. rw (a, b, c) refl)
-        (λ c. by-test (eqb m 8) (λ d. rw (a, b, c, d) refl) (λ d. rw (a, b, c, d) refl))))
+    and_list_lem : under_and (kind_member m) ≡ pick (eqb m 1) false (pick (eqb m 2) false (pick (eqb m 7) false true))
+    and_list_lem =
+        by_test (eqb m 1) (λ a. rw a refl) (λ a. by_test (eqb m 2) (λ b. rw (a, b) refl) (λ b. by_test (eqb m 7) (λ c. rw (a, b, c) refl)
+        (λ c. by_test (eqb m 8) (λ d. rw (a, b, c, d) refl) (λ d. rw (a, b, c, d) refl))))
 
-    or-list : underOr (kindMember m) ≡ pick (eqb m 1) false (pick (eqb m 2) false (pick (eqb m 8) false true))
-    or-list =
-        by-test (eqb m 1) (λ a. rw a refl) (λ a. by-test (eqb m 2) (λ b. rw (a, b) refl) (λ b. by-test (eqb m 7) (λ c. rw (a, b, c) (seven c))
-        (λ c. by-test (eqb m 8) (λ d. rw (a, b, c, d) refl) (λ d. rw (a, b, c, d) refl))))
+    or_list_lem : under_or (kind_member m) ≡ pick (eqb m 1) false (pick (eqb m 2) false (pick (eqb m 8) false true))
+    or_list_lem =
+        by_test (eqb m 1) (λ a. rw a refl) (λ a. by_test (eqb m 2) (λ b. rw (a, b) refl) (λ b. by_test (eqb m 7) (λ c. rw (a, b, c) (seven c))
+        (λ c. by_test (eqb m 8) (λ d. rw (a, b, c, d) refl) (λ d. rw (a, b, c, d) refl))))
       where
         seven : eqb m 7 ≡ true → true ≡ pick (eqb m 8) false true
         seven c = rw (eqb-true m 7 c) refl

@@ -4,12 +4,12 @@ use Rattle.std.specs.Prelude.{◌≡◌, List, [], ◌∷◌, ℕ, zero, suc, �
 use Rattle.ir.specs.Pick.{pick}
 
 -- the hash of a row, below 1024: a product modulo 2 ^ 32 for each number, and the highest ten bits
-unfoldable pub hashBy : ℕ → List ℕ → ℕ
-hashBy h [] = h
-hashBy h (x ∷ l) = hashBy (1640531527 * (h + x) % 4294967296) l
+unfoldable pub hash_by : ℕ → List ℕ → ℕ
+hash_by h [] = h
+hash_by h (x ∷ l) = hash_by (1640531527 * (h + x) % 4294967296) l
 
-abbrev pub hashOf : List ℕ → ℕ
-hashOf r = hashBy 0 r / 4194304
+abbrev pub hash_of : List ℕ → ℕ
+hash_of r = hash_by 0 r / 4194304
 
 -- one more than the last number below n whose hash is h, or 0
 unfoldable pub last : (ℕ → ℕ) → ℕ → ℕ → ℕ

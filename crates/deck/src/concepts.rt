@@ -3,12 +3,12 @@ ghost use Rattle.std.specs.Prelude.{◌≡◌, true, ◌+◌, ◌*◌, ◌≤◌
 ghost use Rattle.words.specs.Words.{words};
 ghost use Rattle.ir.specs.Pick.{pick};
 ghost use Rattle.rules.specs.Base.{all, any};
-ghost use Rattle.rules.specs.Concept.{sameConcept};
-ghost use Rattle.rules.specs.Deck.{conceptOf, memberOf, deepest, nestOk, listOk, membersOk, boundOk, conceptVerdict};
+ghost use Rattle.rules.specs.Concept.{same_concept};
+ghost use Rattle.rules.specs.Deck.{concept_of, member_of, deepest, nest_ok, list_ok, members_ok, bound_ok, concept_verdict};
 ghost use Rattle.rules.specs.Invariants.{Each};
 ghost use Rattle.rules.specs.Pool.{at};
-ghost use Rattle.text.specs.Rows.{rowAt};
-ghost use Rattle.deck.specs.Records.{rowIn, conceptsIn, depthsIn, knownIn, ConceptsHeld, ConceptLine, firstPart, kindMember, under, IsList};
+ghost use Rattle.text.specs.Rows.{row_at};
+ghost use Rattle.deck.specs.Records.{row_in, concepts_in, depths_in, known_in, ConceptsHeld, ConceptLine, first_part, kind_member, under, IsList};
 
 use crate::state::State;
 use crate::{kinds, row, table};
@@ -16,7 +16,7 @@ use crate::{kinds, row, table};
 // The kind of concept line i.
 fn kind_in(deck: &[u8], t: &[u8], i: usize, concepts: usize) -> usize
     requires { ConceptsHeld deck.now t.now concepts × (i < concepts) }
-    ensures { result ≡ get_or (rowIn deck.now (words t.now) i) 0 0 }
+    ensures { result ≡ get_or (row_in deck.now (words t.now) i) 0 0 }
 {
     text::entry(
         deck,
@@ -37,8 +37,8 @@ fn deeper(d: usize, e: usize) -> usize
 
 // The greatest depth of the concepts that are numbers `from` and on.
 pub fn deepest_of(deck: &[u8], t: &[u8], p: usize, n: usize, from: usize, concepts: usize) -> usize
-    requires { (p + 11 * n ≤ length deck.now) × ConceptsHeld deck.now t.now concepts × Each (λ c. c < concepts) (drop from (rowAt deck.now p n)) }
-    ensures value { result ≡ deepest (depthsIn (words t.now) concepts) 0 (drop from (rowAt deck.now p n)) }
+    requires { (p + 11 * n ≤ length deck.now) × ConceptsHeld deck.now t.now concepts × Each (λ c. c < concepts) (drop from (row_at deck.now p n)) }
+    ensures value { result ≡ deepest (depths_in (words t.now) concepts) 0 (drop from (row_at deck.now p n)) }
     ensures upper_bound { result ≤ 64 }
 {
     let mut d: usize = 0;
@@ -52,7 +52,7 @@ pub fn deepest_of(deck: &[u8], t: &[u8], p: usize, n: usize, from: usize, concep
 
 fn nested(deck: &[u8], t: &[u8], p: usize, n: usize, kind: usize, st: State) -> bool
     requires { ConceptLine deck.now p n kind × ConceptsHeld deck.now t.now st.concepts }
-    ensures { result ≡ nestOk (knownIn deck.now t.now st) (conceptOf kind (rowAt deck.now p n)) }
+    ensures { result ≡ nest_ok (known_in deck.now t.now st) (concept_of kind (row_at deck.now p n)) }
 {
     let from = kinds::first_part(kind);
     let concepts = st.concepts;
@@ -65,7 +65,7 @@ fn nested(deck: &[u8], t: &[u8], p: usize, n: usize, kind: usize, st: State) -> 
 // A list of kind `kind` takes a member of kind `member`: not Top, not Bot, not its own kind.
 fn fit(kind: usize, member: usize) -> bool
     requires { IsList kind }
-    ensures { result ≡ under kind (kindMember member) }
+    ensures { result ≡ under kind (kind_member member) }
 {
     if member == 1 {
         return false;
@@ -80,8 +80,8 @@ fn fit(kind: usize, member: usize) -> bool
 }
 
 fn all_fit(deck: &[u8], t: &[u8], p: usize, n: usize, kind: usize, concepts: usize) -> bool
-    requires { (p + 11 * n ≤ length deck.now) × ConceptsHeld deck.now t.now concepts × Each (λ c. c < concepts) (drop 1 (rowAt deck.now p n)) × IsList kind }
-    ensures { result ≡ all (λ c. under kind (memberOf (at (conceptsIn deck.now (words t.now) concepts) c))) (drop 1 (rowAt deck.now p n)) }
+    requires { (p + 11 * n ≤ length deck.now) × ConceptsHeld deck.now t.now concepts × Each (λ c. c < concepts) (drop 1 (row_at deck.now p n)) × IsList kind }
+    ensures { result ≡ all (λ c. under kind (member_of (at (concepts_in deck.now (words t.now) concepts) c))) (drop 1 (row_at deck.now p n)) }
 {
     let mut k: usize = 1;
     while k < n {
@@ -95,8 +95,8 @@ fn all_fit(deck: &[u8], t: &[u8], p: usize, n: usize, kind: usize, concepts: usi
 }
 
 fn members_fine(deck: &[u8], t: &[u8], p: usize, n: usize, kind: usize, concepts: usize) -> bool
-    requires { (p + 11 * n ≤ length deck.now) × ConceptsHeld deck.now t.now concepts × Each (λ c. c < concepts) (drop 1 (rowAt deck.now p n)) × IsList kind }
-    ensures { result ≡ listOk (conceptsIn deck.now (words t.now) concepts) (under kind) (drop 1 (rowAt deck.now p n)) }
+    requires { (p + 11 * n ≤ length deck.now) × ConceptsHeld deck.now t.now concepts × Each (λ c. c < concepts) (drop 1 (row_at deck.now p n)) × IsList kind }
+    ensures { result ≡ list_ok (concepts_in deck.now (words t.now) concepts) (under kind) (drop 1 (row_at deck.now p n)) }
 {
     if n < 3 {
         return false;
@@ -105,8 +105,8 @@ fn members_fine(deck: &[u8], t: &[u8], p: usize, n: usize, kind: usize, concepts
 }
 
 fn list_fine(deck: &[u8], t: &[u8], p: usize, n: usize, kind: usize, concepts: usize) -> bool
-    requires { ConceptLine deck.now p n kind × ConceptsHeld deck.now t.now concepts × Each (λ c. c < concepts) (drop (firstPart kind) (rowAt deck.now p n)) }
-    ensures { result ≡ membersOk (conceptsIn deck.now (words t.now) concepts) (conceptOf kind (rowAt deck.now p n)) }
+    requires { ConceptLine deck.now p n kind × ConceptsHeld deck.now t.now concepts × Each (λ c. c < concepts) (drop (first_part kind) (row_at deck.now p n)) }
+    ensures { result ≡ members_ok (concepts_in deck.now (words t.now) concepts) (concept_of kind (row_at deck.now p n)) }
 {
     if kind == 7 {
         return members_fine(deck, t, p, n, kind, concepts);
@@ -120,7 +120,7 @@ fn list_fine(deck: &[u8], t: &[u8], p: usize, n: usize, kind: usize, concepts: u
 // An earlier concept line is equal.
 fn repeats(deck: &[u8], t: &[u8], p: usize, n: usize, kind: usize, concepts: usize) -> bool
     requires { ConceptLine deck.now p n kind × ConceptsHeld deck.now t.now concepts }
-    ensures { result ≡ any (sameConcept (conceptOf kind (rowAt deck.now p n))) (conceptsIn deck.now (words t.now) concepts) }
+    ensures { result ≡ any (same_concept (concept_of kind (row_at deck.now p n))) (concepts_in deck.now (words t.now) concepts) }
 {
     let mut c = table::head(t, row::hash_row(deck, p, n));
     while c != 0 {
@@ -141,7 +141,7 @@ fn repeats(deck: &[u8], t: &[u8], p: usize, n: usize, kind: usize, concepts: usi
 
 fn bound_fine(deck: &[u8], p: usize, n: usize, kind: usize) -> bool
     requires { ConceptLine deck.now p n kind }
-    ensures { result ≡ boundOk (conceptOf kind (rowAt deck.now p n)) }
+    ensures { result ≡ bound_ok (concept_of kind (row_at deck.now p n)) }
 {
     if kind == 12 {
         return row::below(deck, p, n, 1, 4294967295);
@@ -151,7 +151,7 @@ fn bound_fine(deck: &[u8], p: usize, n: usize, kind: usize) -> bool
 
 pub fn concept(deck: &[u8], t: &[u8], p: usize, n: usize, kind: usize, st: State) -> usize
     requires { ConceptLine deck.now p n kind × ConceptsHeld deck.now t.now st.concepts }
-    ensures { result ≡ conceptVerdict (knownIn deck.now t.now st) (conceptOf kind (rowAt deck.now p n)) }
+    ensures { result ≡ concept_verdict (known_in deck.now t.now st) (concept_of kind (row_at deck.now p n)) }
 {
     let concepts = st.concepts;
     if !nested(deck, t, p, n, kind, st) {

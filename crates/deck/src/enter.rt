@@ -1,15 +1,15 @@
 // What a good line leaves: the header's numbers, a count, and a concept's or an axiom's record.
 ghost use Rattle.std.specs.Prelude.{◌≡◌, ◌+◌, ◌*◌, ◌≤◌, ◌<◌, length, get_or};
-ghost use Rattle.rules.specs.Deck.{sectionOf};
-ghost use Rattle.text.specs.Rows.{rowAt};
-ghost use Rattle.deck.specs.Records.{Entering, Entered, withHeader, withKey};
+ghost use Rattle.rules.specs.Deck.{section_of};
+ghost use Rattle.text.specs.Rows.{row_at};
+ghost use Rattle.deck.specs.Records.{Entering, Entered, with_header, with_key};
 
 use crate::state::State;
 use crate::{concepts, kinds, row, table};
 
 fn enter_header(deck: &[u8], p: usize, n: usize, mut st: State) -> State
     requires { p + 11 * n < length deck.now }
-    ensures { result ≡ withHeader st (rowAt deck.now p n) (p + 11 * n + 1) }
+    ensures { result ≡ with_header st (row_at deck.now p n) (p + 11 * n + 1) }
 {
     st.section = 1;
     st.classes = text::entry(deck, p, n, 1);
@@ -22,7 +22,7 @@ fn enter_header(deck: &[u8], p: usize, n: usize, mut st: State) -> State
 
 fn enter_key(mut st: State) -> State
     requires { st.keys ≤ 65536 }
-    ensures { result ≡ withKey st }
+    ensures { result ≡ with_key st }
 {
     st.section = 2;
     st.keys += 1;
@@ -30,7 +30,7 @@ fn enter_key(mut st: State) -> State
 }
 
 fn enter_concept(deck: &[u8], t: &mut [u8], p: usize, n: usize, kind: usize, mut st: State) -> State
-    requires { Entering deck.now t.old p n st × (kind ≡ get_or (rowAt deck.now p n) 0 0) × (sectionOf kind ≡ 3) }
+    requires { Entering deck.now t.old p n st × (kind ≡ get_or (row_at deck.now p n) 0 0) × (section_of kind ≡ 3) }
     ensures { Entered deck.now t.old t.new p n st result }
 {
     let i = st.concepts;
@@ -44,7 +44,7 @@ fn enter_concept(deck: &[u8], t: &mut [u8], p: usize, n: usize, kind: usize, mut
 }
 
 fn enter_axiom(deck: &[u8], t: &mut [u8], p: usize, n: usize, mut st: State) -> State
-    requires { Entering deck.now t.old p n st × (sectionOf (get_or (rowAt deck.now p n) 0 0) ≡ 4) }
+    requires { Entering deck.now t.old p n st × (section_of (get_or (row_at deck.now p n) 0 0) ≡ 4) }
     ensures { Entered deck.now t.old t.new p n st result }
 {
     let i = st.axioms;

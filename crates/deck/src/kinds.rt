@@ -1,7 +1,7 @@
 // What a line's kind says by itself: its section, its fields, and 3, the order of sections and the number of fields.
 ghost use Rattle.std.specs.Prelude.{◌≡◌, ◌&&◌};
-ghost use Rattle.rules.specs.Deck.{sectionOf, fixedOf, isListKind, inOrder, fieldsOk};
-ghost use Rattle.deck.specs.Records.{firstPart};
+ghost use Rattle.rules.specs.Deck.{section_of, fixed_of, is_list_kind, in_order, fields_ok};
+ghost use Rattle.deck.specs.Records.{first_part};
 
 // Of each kind, its numbers before a list. The tables are of bytes: each use makes its table anew.
 const FIXED: [u8; 37] = [
@@ -76,7 +76,7 @@ const FIRSTS: [u8; 13] = [5, 1, 1, 2, 2, 2, 1, 1, 1, 2, 2, 3, 3];
 
 // 0 is no kind.
 pub fn section_of(kind: usize) -> usize
-    ensures { result ≡ sectionOf kind }
+    ensures { result ≡ section_of kind }
 {
     if kind == 0 {
         return 1;
@@ -97,7 +97,7 @@ pub fn section_of(kind: usize) -> usize
 }
 
 pub fn fixed_of(kind: usize) -> usize
-    ensures { result ≡ fixedOf kind }
+    ensures { result ≡ fixed_of kind }
 {
     if kind < 37 {
         return FIXED[kind] as usize;
@@ -106,7 +106,7 @@ pub fn fixed_of(kind: usize) -> usize
 }
 
 fn is_list(kind: usize) -> bool
-    ensures { result ≡ isListKind kind }
+    ensures { result ≡ is_list_kind kind }
 {
     if kind < 37 {
         return LISTS[kind] == 1;
@@ -115,7 +115,7 @@ fn is_list(kind: usize) -> bool
 }
 
 pub fn first_part(kind: usize) -> usize
-    ensures { result ≡ firstPart kind }
+    ensures { result ≡ first_part kind }
 {
     if kind < 13 {
         return FIRSTS[kind] as usize;
@@ -124,7 +124,7 @@ pub fn first_part(kind: usize) -> usize
 }
 
 fn in_order(old: usize, new: usize) -> bool
-    ensures { result ≡ inOrder old new }
+    ensures { result ≡ in_order old new }
 {
     if new == 0 {
         return false;
@@ -139,7 +139,7 @@ fn in_order(old: usize, new: usize) -> bool
 }
 
 fn fields_fine(kind: usize, n: usize) -> bool
-    ensures { result ≡ fieldsOk kind n }
+    ensures { result ≡ fields_ok kind n }
 {
     let least = 1 + fixed_of(kind);
     if is_list(kind) {
@@ -149,7 +149,7 @@ fn fields_fine(kind: usize, n: usize) -> bool
 }
 
 pub fn shape(old: usize, kind: usize, n: usize) -> bool
-    ensures { result ≡ (inOrder old (sectionOf kind) && fieldsOk kind n) }
+    ensures { result ≡ (in_order old (section_of kind) && fields_ok kind n) }
 {
     if in_order(old, section_of(kind)) {
         return fields_fine(kind, n);

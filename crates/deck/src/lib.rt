@@ -13,9 +13,9 @@ pub mod table;
 
 ghost use Rattle.std.specs.Prelude.{◌≡◌, ◌+◌, ◌*◌, ◌≤◌, ◌<◌, length, get_or};
 ghost use Rattle.words.specs.Words.{words};
-ghost use Rattle.rules.specs.Deck.{verdict as verdictOf, readLines, readDeck};
-ghost use Rattle.text.specs.Rows.{rowAt};
-ghost use Rattle.deck.specs.Records.{tableBytes, keysIn, knownIn, toldOf, Held, Kept, Fresh};
+ghost use Rattle.rules.specs.Deck.{verdict as verdict_of, read_lines, read_deck};
+ghost use Rattle.text.specs.Rows.{row_at};
+ghost use Rattle.deck.specs.Records.{table_bytes, keys_in, known_in, told_of, Held, Kept, Fresh};
 
 use crate::state::State;
 
@@ -29,7 +29,7 @@ pub enum Answer {
 // The number of the first check from 3 on that the line of n fields at p fails; 0 where there is none.
 fn verdict(deck: &[u8], t: &[u8], p: usize, n: usize, st: State) -> usize
     requires { (p + 11 * n ≤ length deck.now) × Held deck.now t.now st p }
-    ensures { result ≡ verdictOf (knownIn deck.now t.now st) (get_or (rowAt deck.now p n) 0 0) (rowAt deck.now p n) }
+    ensures { result ≡ verdict_of (known_in deck.now t.now st) (get_or (row_at deck.now p n) 0 0) (row_at deck.now p n) }
 {
     let kind = text::entry(deck, p, n, 0);
     if !kinds::shape(st.section, kind, n) {
@@ -49,7 +49,7 @@ fn verdict(deck: &[u8], t: &[u8], p: usize, n: usize, st: State) -> usize
 
 fn read_lines(deck: &[u8], t: &mut [u8]) -> Answer
     requires { (length deck.now ≤ 65536) × Fresh t.old }
-    ensures result_after { toldOf deck.now t.new result ≡ readLines deck.now }
+    ensures result_after { told_of deck.now t.new result ≡ read_lines deck.now }
     ensures kept { Kept deck.now t.new result }
 {
     let len = deck.len();
@@ -87,8 +87,8 @@ fn read_lines(deck: &[u8], t: &mut [u8]) -> Answer
 
 // The deck, checked line by line. The table takes the records; where the deck is refused, it holds those of the lines before.
 pub fn read(deck: &[u8], t: &mut [u8]) -> Answer
-    requires { tableBytes ≤ length t.old }
-    ensures result_after { toldOf deck.now t.new result ≡ readDeck deck.now }
+    requires { table_bytes ≤ length t.old }
+    ensures result_after { told_of deck.now t.new result ≡ read_deck deck.now }
     ensures kept { Kept deck.now t.new result }
 {
     if 65536 < deck.len() {
@@ -101,7 +101,7 @@ pub fn read(deck: &[u8], t: &mut [u8]) -> Answer
 // The class of key mark i.
 pub fn key(deck: &[u8], st: State, i: usize) -> usize
     requires { (st.marks + 23 * st.keys ≤ length deck.now) × (i < st.keys) }
-    ensures { result ≡ get_or (keysIn deck.now st.marks st.keys) i 0 }
+    ensures { result ≡ get_or (keys_in deck.now st.marks st.keys) i 0 }
 {
     text::field(deck, st.marks + 23 * i, 2, 1)
 }

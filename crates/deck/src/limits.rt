@@ -1,7 +1,7 @@
 // 4: the header's numbers, the list's length, and room for one more concept or axiom.
 ghost use Rattle.std.specs.Prelude.{◌≡◌, ◌+◌, ◌*◌, ◌≤◌, length};
-ghost use Rattle.rules.specs.Deck.{Known, headerOf, headerOk, roomOk, limitsOk};
-ghost use Rattle.text.specs.Rows.{rowAt};
+ghost use Rattle.rules.specs.Deck.{Known, header_of, header_ok, room_ok, limits_ok};
+ghost use Rattle.text.specs.Rows.{row_at};
 ghost use Rattle.deck.specs.Records.{Counted};
 
 use crate::kinds;
@@ -9,7 +9,7 @@ use crate::state::State;
 
 fn header_fine(deck: &[u8], p: usize, n: usize) -> bool
     requires { p + 11 * n ≤ length deck.now }
-    ensures { result ≡ headerOk (headerOf (rowAt deck.now p n)) }
+    ensures { result ≡ header_ok (header_of (row_at deck.now p n)) }
 {
     if 4096 < text::entry(deck, p, n, 1) {
         return false;
@@ -25,7 +25,7 @@ fn header_fine(deck: &[u8], p: usize, n: usize) -> bool
 
 fn room(deck: &[u8], p: usize, n: usize, kind: usize, st: State) -> bool
     requires { p + 11 * n ≤ length deck.now }
-    ensures { (d : Known) → Counted st d → result ≡ roomOk d kind (rowAt deck.now p n) }
+    ensures { (d : Known) → Counted st d → result ≡ room_ok d kind (row_at deck.now p n) }
 {
     let s = kinds::section_of(kind);
     if s == 1 {
@@ -43,7 +43,7 @@ fn room(deck: &[u8], p: usize, n: usize, kind: usize, st: State) -> bool
 // The answer for all that is known beside the state's numbers.
 pub fn limits(deck: &[u8], p: usize, n: usize, kind: usize, st: State) -> bool
     requires { p + 11 * n ≤ length deck.now }
-    ensures { (d : Known) → Counted st d → result ≡ limitsOk d kind (rowAt deck.now p n) }
+    ensures { (d : Known) → Counted st d → result ≡ limits_ok d kind (row_at deck.now p n) }
 {
     if n <= 129 + kinds::fixed_of(kind) {
         return room(deck, p, n, kind, st);

@@ -1,15 +1,15 @@
 // 5: the classes, individuals and roles of a line, and an axiom's concepts, are declared.
 ghost use Rattle.std.specs.Prelude.{◌≡◌, ◌+◌, ◌*◌, ◌≤◌, length};
-ghost use Rattle.rules.specs.Deck.{conceptOf, axiomOf, Known, conceptNamesOk, axiomNamesOk, namesOk};
-ghost use Rattle.text.specs.Rows.{rowAt};
-ghost use Rattle.deck.specs.Records.{headerIn, Counted};
+ghost use Rattle.rules.specs.Deck.{concept_of, axiom_of, Known, concept_names_ok, axiom_names_ok, names_ok};
+ghost use Rattle.text.specs.Rows.{row_at};
+ghost use Rattle.deck.specs.Records.{header_in, Counted};
 
 use crate::state::State;
 use crate::{kinds, row};
 
 fn concept_names(deck: &[u8], p: usize, n: usize, kind: usize, st: State) -> bool
     requires { p + 11 * n ≤ length deck.now }
-    ensures { result ≡ conceptNamesOk (headerIn st) (conceptOf kind (rowAt deck.now p n)) }
+    ensures { result ≡ concept_names_ok (header_in st) (concept_of kind (row_at deck.now p n)) }
 {
     match kind {
         1 => true,
@@ -29,7 +29,7 @@ fn concept_names(deck: &[u8], p: usize, n: usize, kind: usize, st: State) -> boo
 
 fn axiom_names(deck: &[u8], p: usize, n: usize, kind: usize, st: State) -> bool
     requires { p + 11 * n ≤ length deck.now }
-    ensures { result ≡ axiomNamesOk (headerIn st) st.concepts (axiomOf kind (rowAt deck.now p n)) }
+    ensures { result ≡ axiom_names_ok (header_in st) st.concepts (axiom_of kind (row_at deck.now p n)) }
 {
     let concepts = st.concepts;
     let roles = st.roles;
@@ -56,7 +56,7 @@ fn axiom_names(deck: &[u8], p: usize, n: usize, kind: usize, st: State) -> bool
 // The answer for all that is known beside the state's numbers.
 pub fn names(deck: &[u8], p: usize, n: usize, kind: usize, st: State) -> bool
     requires { p + 11 * n ≤ length deck.now }
-    ensures { (d : Known) → Counted st d → result ≡ namesOk d kind (rowAt deck.now p n) }
+    ensures { (d : Known) → Counted st d → result ≡ names_ok d kind (row_at deck.now p n) }
 {
     let s = kinds::section_of(kind);
     if s == 2 {

@@ -1,29 +1,29 @@
 // Tests over the numbers of a line, read where they stand.
 ghost use Rattle.std.specs.Prelude.{◌≡◌, ◌&&◌, ◌+◌, ◌*◌, ◌≤◌, ◌<◌, ltb, length, get_or, drop};
-ghost use Rattle.ir.specs.Records.{sameWords};
-ghost use Rattle.ir.specs.Roles.{roleId, roleOf};
+ghost use Rattle.ir.specs.Records.{same_words};
+ghost use Rattle.ir.specs.Roles.{role_id, role_of};
 ghost use Rattle.rules.specs.Base.{all};
-ghost use Rattle.rules.specs.Deck.{roleAt, rising};
-ghost use Rattle.text.specs.Rows.{rowAt};
-ghost use Rattle.deck.specs.Index.{hashOf};
+ghost use Rattle.rules.specs.Deck.{role_at, rising};
+ghost use Rattle.text.specs.Rows.{row_at};
+ghost use Rattle.deck.specs.Index.{hash_of};
 
 pub fn below(deck: &[u8], p: usize, n: usize, k: usize, bound: usize) -> bool
     requires { p + 11 * n ≤ length deck.now }
-    ensures { result ≡ ltb (get_or (rowAt deck.now p n) k 0) bound }
+    ensures { result ≡ ltb (get_or (row_at deck.now p n) k 0) bound }
 {
     text::entry(deck, p, n, k) < bound
 }
 
 pub fn role_below(deck: &[u8], p: usize, n: usize, k: usize, roles: usize) -> bool
     requires { p + 11 * n ≤ length deck.now }
-    ensures { result ≡ ltb (roleId (roleAt (rowAt deck.now p n) k)) roles }
+    ensures { result ≡ ltb (role_id (role_at (row_at deck.now p n) k)) roles }
 {
     text::entry(deck, p, n, k) / 2 < roles
 }
 
 pub fn all_below(deck: &[u8], p: usize, n: usize, from: usize, bound: usize) -> bool
     requires { p + 11 * n ≤ length deck.now }
-    ensures { result ≡ all (λ c. ltb c bound) (drop from (rowAt deck.now p n)) }
+    ensures { result ≡ all (λ c. ltb c bound) (drop from (row_at deck.now p n)) }
 {
     let mut k = from;
     while k < n {
@@ -37,7 +37,7 @@ pub fn all_below(deck: &[u8], p: usize, n: usize, from: usize, bound: usize) -> 
 
 pub fn all_roles_below(deck: &[u8], p: usize, n: usize, from: usize, roles: usize) -> bool
     requires { p + 11 * n ≤ length deck.now }
-    ensures { result ≡ all (λ c. ltb (roleId (roleOf c)) roles) (drop from (rowAt deck.now p n)) }
+    ensures { result ≡ all (λ c. ltb (role_id (role_of c)) roles) (drop from (row_at deck.now p n)) }
 {
     let mut k = from;
     while k < n {
@@ -52,7 +52,7 @@ pub fn all_roles_below(deck: &[u8], p: usize, n: usize, from: usize, roles: usiz
 // The numbers from 1 on rise strictly.
 pub fn rises(deck: &[u8], p: usize, n: usize) -> bool
     requires { (p + 11 * n ≤ length deck.now) × (1 < n) }
-    ensures { result ≡ rising (drop 1 (rowAt deck.now p n)) }
+    ensures { result ≡ rising (drop 1 (row_at deck.now p n)) }
 {
     let mut x = text::field(deck, p, n, 1);
     let mut k: usize = 2;
@@ -70,7 +70,7 @@ pub fn rises(deck: &[u8], p: usize, n: usize) -> bool
 // The line of n fields at p and the line of m fields at q have the same numbers.
 pub fn same_row(deck: &[u8], p: usize, n: usize, q: usize, m: usize) -> bool
     requires { (p + 11 * n ≤ length deck.now) × (q + 11 * m ≤ length deck.now) }
-    ensures { result ≡ sameWords (rowAt deck.now p n) (rowAt deck.now q m) }
+    ensures { result ≡ same_words (row_at deck.now p n) (row_at deck.now q m) }
 {
     let mut k: usize = 0;
     while k < n {
@@ -87,7 +87,7 @@ pub fn same_row(deck: &[u8], p: usize, n: usize, q: usize, m: usize) -> bool
 
 pub fn hash_row(deck: &[u8], p: usize, n: usize) -> usize
     requires { p + 11 * n ≤ length deck.now }
-    ensures value { result ≡ hashOf (rowAt deck.now p n) }
+    ensures value { result ≡ hash_of (row_at deck.now p n) }
     ensures upper_bound { result < 1024 }
 {
     let mut h: usize = 0;

@@ -4,7 +4,7 @@
 ghost use Rattle.std.specs.Prelude.{◌≡◌, [], ◌∷◌, ◌+◌, ◌*◌, ◌≤◌, ◌<◌, length, get_or, set};
 ghost use Rattle.std.proofs.lemmas.List.Edits.{sets};
 ghost use Rattle.words.specs.Words.{words};
-ghost use Rattle.deck.specs.Records.{axiomsAt, headsAt, linksAt, tableBytes};
+ghost use Rattle.deck.specs.Records.{axioms_at, heads_at, links_at, table_bytes};
 
 const AXIOMS: usize = 3072;
 
@@ -41,31 +41,31 @@ pub fn concept_depth(t: &[u8], i: usize) -> usize
 }
 
 pub fn axiom_begin(t: &[u8], i: usize) -> usize
-    requires { (i < 1024) × (tableBytes ≤ length t.now) }
-    ensures { result ≡ get_or (words t.now) (axiomsAt + 2 * i) 0 }
+    requires { (i < 1024) × (table_bytes ≤ length t.now) }
+    ensures { result ≡ get_or (words t.now) (axioms_at + 2 * i) 0 }
 {
     word(t, AXIOMS + 2 * i)
 }
 
 pub fn axiom_fields(t: &[u8], i: usize) -> usize
-    requires { (i < 1024) × (tableBytes ≤ length t.now) }
-    ensures { result ≡ get_or (words t.now) (axiomsAt + 2 * i + 1) 0 }
+    requires { (i < 1024) × (table_bytes ≤ length t.now) }
+    ensures { result ≡ get_or (words t.now) (axioms_at + 2 * i + 1) 0 }
 {
     word(t, AXIOMS + 2 * i + 1)
 }
 
 // The last concept line with this hash.
 pub fn head(t: &[u8], hash: usize) -> usize
-    requires { (hash < 1024) × (tableBytes ≤ length t.now) }
-    ensures { result ≡ get_or (words t.now) (headsAt + hash) 0 }
+    requires { (hash < 1024) × (table_bytes ≤ length t.now) }
+    ensures { result ≡ get_or (words t.now) (heads_at + hash) 0 }
 {
     word(t, HEADS + hash)
 }
 
 // The one before concept line i with its hash.
 pub fn link(t: &[u8], i: usize) -> usize
-    requires { (i < 1024) × (tableBytes ≤ length t.now) }
-    ensures { result ≡ get_or (words t.now) (linksAt + i) 0 }
+    requires { (i < 1024) × (table_bytes ≤ length t.now) }
+    ensures { result ≡ get_or (words t.now) (links_at + i) 0 }
 {
     word(t, LINKS + i)
 }
@@ -80,8 +80,8 @@ pub fn put_concept(t: &mut [u8], i: usize, p: usize, n: usize, depth: usize)
 }
 
 pub fn put_axiom(t: &mut [u8], i: usize, p: usize, n: usize)
-    requires { (i < 1024) × (tableBytes ≤ length t.old) × (p ≤ 65536) × (n ≤ 65536) }
-    ensures { words t.new ≡ sets (words t.old) (axiomsAt + 2 * i) (p ∷ n ∷ []) }
+    requires { (i < 1024) × (table_bytes ≤ length t.old) × (p ≤ 65536) × (n ≤ 65536) }
+    ensures { words t.new ≡ sets (words t.old) (axioms_at + 2 * i) (p ∷ n ∷ []) }
 {
     words::put_word(t, AXIOMS + 2 * i, p as u32);
     words::put_word(t, AXIOMS + 2 * i + 1, n as u32);
@@ -89,8 +89,8 @@ pub fn put_axiom(t: &mut [u8], i: usize, p: usize, n: usize)
 
 // Concept line i joins the index.
 pub fn remember(t: &mut [u8], i: usize, hash: usize)
-    requires { (i < 1024) × (hash < 1024) × (tableBytes ≤ length t.old) }
-    ensures { words t.new ≡ set (set (words t.old) (linksAt + i) (get_or (words t.old) (headsAt + hash) 0)) (headsAt + hash) (i + 1) }
+    requires { (i < 1024) × (hash < 1024) × (table_bytes ≤ length t.old) }
+    ensures { words t.new ≡ set (set (words t.old) (links_at + i) (get_or (words t.old) (heads_at + hash) 0)) (heads_at + hash) (i + 1) }
 {
     let before = words::get_word(t, HEADS + hash);
     words::put_word(t, LINKS + i, before);

@@ -3,14 +3,14 @@ use Rattle.std.specs.Prelude.{◌≡◌, Bool, true, false, List, ℕ, ◌<◌, 
 use Rattle.std.proofs.Math.Option.{Option, none, some}
 use Rattle.ir.specs.declared.atom.Atom.{Atom}
 use Rattle.rules.specs.Base.{Res, ok, refused, return}
-use Rattle.rules.specs.Deck.{mostRoles}
+use Rattle.rules.specs.Deck.{most_roles}
 use Rattle.rules.specs.State.{Clause}
-use Rattle.rules.specs.Branches.{W, staysWhole, nameBranches, headVars}
+use Rattle.rules.specs.Branches.{W, stays_whole, name_branches, head_vars}
 use Rattle.rules.specs.Branches as Rules
 use Rattle.rules.specs.Invariants.{Bounds, ClauseIn}
 use Rattle.tables.specs.Tabled.{Run}
-use Rattle.branches.specs.Layout.{mostNamed, bodyAt, keepAt, renumberedAt}
-use Rattle.branches.specs.Memo.{namedWords, NamedHeld}
+use Rattle.branches.specs.Layout.{most_named, body_at, keep_at, renumbered_at}
+use Rattle.branches.specs.Memo.{named_words, NamedHeld}
 use Rattle.naming.specs.Names.{To}
 use Rattle.branches.specs.declared.memo.Naming.{Naming}
 use Rattle.naming.specs.declared.name.Reduced.{Reduced}
@@ -19,20 +19,20 @@ use Rattle.naming.specs.declared.name.Reduced.TheVariants as Reduceds
 -- ---- the rule
 abbrev pub reduction : Clause → Bool → W (Option (List Atom))
 reduction c true = return none
-reduction c false = nameBranches c.body 0 (headVars c.head)
+reduction c false = name_branches c.body 0 (head_vars c.head)
 
 -- the new body of a clause, or none
 abbrev pub reduced : Clause → W (Option (List Atom))
-reduced c = reduction c (staysWhole c.body)
+reduced c = reduction c (stays_whole c.body)
 
 -- ---- a clause in two parts, the bytes of its body and of its head: some clause, whose atoms name roles that there may be and
 -- classes below 2^21
 pub record PartsThere (body head : List ℕ) : Type 0 where
   pub clause : Clause
-  pub bodyIs : Run body clause.body
-  pub headIs : Run head clause.head
+  pub body_is : Run body clause.body
+  pub head_is : Run head clause.head
   pub bounds : Bounds
-  pub roles : bounds.roles ≤ mostRoles
+  pub roles : bounds.roles ≤ most_roles
   pub fresh : ℕ
   pub classes : fresh ≤ 2097152
   pub vars : ℕ
@@ -40,14 +40,14 @@ pub record PartsThere (body head : List ℕ) : Type 0 where
 
 -- ---- the code's answer beside the rule's; the new body stands from record BODY on
 abbrev pub OneBy : List ℕ → Naming → Clause → Res Rules.Naming (Option (List Atom)) → Reduced → Type 0
-OneBy w s x (ok (some b) z) (Reduceds.To m n) = To w bodyAt (length x.body) b z s m n
+OneBy w s x (ok (some b) z) (Reduceds.To m n) = To w body_at (length x.body) b z s m n
 OneBy w s x (ok (some b) z) Reduceds.None = ⊥
 OneBy w s x (ok none z) (Reduceds.To m n) = ⊥
 OneBy w s x (ok none z) Reduceds.None = NamedHeld w s z
-OneBy w s x (ok o z) (Reduceds.Refused e) = (e ≡ 12) × (mostNamed < length (namedWords z.named))
+OneBy w s x (ok o z) (Reduceds.Refused e) = (e ≡ 12) × (most_named < length (named_words z.named))
 OneBy w s x (refused k) r = ⊥
 
 -- only the variables to keep were written
 pub record OnlyKeep (w w' : List ℕ) : Type 0 where
-  pub before : (j : ℕ) → j < keepAt → get_or w' j 0 ≡ get_or w j 0
-  pub behind : (j : ℕ) → renumberedAt ≤ j → get_or w' j 0 ≡ get_or w j 0
+  pub before : (j : ℕ) → j < keep_at → get_or w' j 0 ≡ get_or w j 0
+  pub behind : (j : ℕ) → renumbered_at ≤ j → get_or w' j 0 ≡ get_or w j 0

@@ -1,7 +1,7 @@
 -- What decompose_wide_bodies asks of the lent tables.
 use Rattle.std.specs.Prelude.{◌≡◌, List, ℕ, ◌≤◌}
 use Rattle.ir.specs.declared.counters.Counters.{Counters}
-use Rattle.rules.specs.Deck.{mostRoles}
+use Rattle.rules.specs.Deck.{most_roles}
 use Rattle.rules.specs.State.{Env, Out}
 use Rattle.rules.specs.Invariants.{Each, Bounds, ClauseIn}
 use Rattle.tables.specs.Drawn.{tables, show, Lent}
@@ -15,7 +15,7 @@ pub record Decomposing (k : Counters) (c a : List ℕ) : Type 0 where
   pub lent : Lent env.rooms c a deferrals
   pub drawn : tables k c a deferrals ≡ show k env.rooms state
   pub bounds : Bounds
-  pub roles : bounds.roles ≤ mostRoles
+  pub roles : bounds.roles ≤ most_roles
   pub vars : ℕ
-  pub inside : Each (ClauseIn bounds state.nextFresh vars) state.clauses
-  pub classes : state.nextFresh ≤ 1100000
+  pub inside : Each (ClauseIn bounds state.next_fresh vars) state.clauses
+  pub classes : state.next_fresh ≤ 1100000

@@ -3,33 +3,33 @@ use Rattle.std.proofs.Common.{ap, arith, length-append, take_all}
 use Rattle.std.specs.Prelude.{List, [], ◌∷◌, map, ℕ, ◌*◌, ◌≤◌, length}
 use Rattle.ir.specs.declared.counters.Counters.{Counters}
 use Rattle.rules.specs.State.{Clause, total}
-use Rattle.rules.specs.Run.{clauseWords}
+use Rattle.rules.specs.Run.{clause_words}
 use Rattle.rules.specs.Branches.{Branch}
-use Rattle.branches.specs.Memo.{packed, namedWords}
+use Rattle.branches.specs.Memo.{packed, named_words}
 use Rattle.branches.specs.declared.memo.Naming.{Naming}
 use Rattle.decomposition.specs.Turning.{EndThere}
-use Rattle.decomposition.specs.StartLaws.{clauses-many, atoms-many, clauses-fit, atoms-fit}
+use Rattle.decomposition.specs.StartLaws.{clauses_many, atoms_many, clauses_fit, atoms_fit}
 
 -- each branch has a word of its own
-named-few : (l : List Branch) → length l ≤ length (namedWords l)
-unfolding namedWords
-named-few [] = omega arith
-named-few (b ∷ l) = omega (arith, named-few l, length-append (map packed b.body) (namedWords l))
+named_few : (l : List Branch) → length l ≤ length (named_words l)
+unfolding named_words
+named_few [] = omega arith
+named_few (b ∷ l) = omega (arith, named_few l, length-append (map packed b.body) (named_words l))
 
 module _ (k : Counters) (w c' a' : List ℕ) (s : Naming) (to n : ℕ) (E : EndThere k w c' a' s to n) where
-  pub end-named : s.named ≤ 262144
-  end-named = omega (arith, named-few E.passed.state.named, E.passed.held.many, E.passed.held.used, E.passed.held.few)
+  pub end_named : s.named ≤ 262144
+  end_named = omega (arith, named_few E.passed.state.named, E.passed.held.many, E.passed.held.used, E.passed.held.few)
 
-  pub end-used : s.used ≤ 262144
-  end-used = E.passed.held.few
+  pub end_used : s.used ≤ 262144
+  end_used = E.passed.held.few
 
-  pub end-clauses : clauseWords * k.clauses ≤ length c'
-  end-clauses = omega (arith, clauses-fit k E.c E.a E.before, E.passed.half.sameClauses, E.before.lent.clauses)
+  pub end_clauses : clause_words * k.clauses ≤ length c'
+  end_clauses = omega (arith, clauses_fit k E.c E.a E.before, E.passed.half.same_clauses, E.before.lent.clauses)
 
-  pub end-atoms : 6 * k.atoms ≤ length a'
-  end-atoms = omega (arith, atoms-fit k E.c E.a E.before, E.passed.half.sameAtoms, E.before.lent.atoms)
+  pub end_atoms : 6 * k.atoms ≤ length a'
+  end_atoms = omega (arith, atoms_fit k E.c E.a E.before, E.passed.half.same_atoms, E.before.lent.atoms)
 
-  pub end-to : to ≤ k.atoms
-  end-to =
+  pub end_to : to ≤ k.atoms
+  end_to =
       let l : List Clause = E.before.state.clauses in
-      omega (arith, E.passed.half.low, ap total (take_all k.clauses l (omega (arith, clauses-many k E.c E.a E.before))), atoms-many k E.c E.a E.before)
+      omega (arith, E.passed.half.low, ap total (take_all k.clauses l (omega (arith, clauses_many k E.c E.a E.before))), atoms_many k E.c E.a E.before)

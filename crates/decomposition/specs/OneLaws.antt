@@ -7,10 +7,10 @@ use Rattle.std.proofs.lemmas.Bool.{lt-leb, not-false}
 use Rattle.ir.specs.declared.atom.Atom.{Atom}
 use Rattle.rules.specs.Base.{Res, ok, refused}
 use Rattle.rules.specs.State.{Clause}
-use Rattle.rules.specs.Branches.{maxBodyVars, bodyVarCount, bodyVarCountFrom, staysWhole, headVars, nameBranches}
+use Rattle.rules.specs.Branches.{max_body_vars, body_var_count, body_var_count_from, stays_whole, head_vars, name_branches}
 use Rattle.rules.specs.Branches as Rules
-use Rattle.branches.specs.Layout.{bodyAt}
-use Rattle.branches.specs.WideLaws.{count-root}
+use Rattle.branches.specs.Layout.{body_at}
+use Rattle.branches.specs.WideLaws.{count_root}
 use Rattle.branches.specs.Memo.{NamedHeld}
 use Rattle.naming.specs.Names.{ReducedBy}
 use Rattle.branches.specs.declared.memo.Naming.{Naming}
@@ -20,27 +20,27 @@ use Rattle.decomposition.specs.Bodies.{reduction, reduced, OneBy}
 use Rattle.decomposition.specs.PlainLaws.{other}
 
 -- ---- whether it stays whole
-stays-narrow : (l : List Atom) → ltb maxBodyVars (bodyVarCountFrom l 0) ≡ false → staysWhole l ≡ true
-stays-narrow l e = ap (λ (b : Bool). b || other l) (le-leb (bodyVarCount l) 8 (omega (arith, ltb-false 8 (bodyVarCountFrom l 0) e, count-root l)))
+stays_narrow : (l : List Atom) → ltb max_body_vars (body_var_count_from l 0) ≡ false → stays_whole l ≡ true
+stays_narrow l e = ap (λ (b : Bool). b || other l) (le-leb (body_var_count l) 8 (omega (arith, ltb-false 8 (body_var_count_from l 0) e, count_root l)))
 
-stays-other : (l : List Atom) → other l ≡ true → staysWhole l ≡ true
-stays-other l e = ap (λ (b : Bool). leb (bodyVarCount l) 8 || b) e ∙ or-true (leb (bodyVarCount l) 8)
+stays_other : (l : List Atom) → other l ≡ true → stays_whole l ≡ true
+stays_other l e = ap (λ (b : Bool). leb (body_var_count l) 8 || b) e ∙ or-true (leb (body_var_count l) 8)
 
-stays-not : (l : List Atom) → ltb maxBodyVars (bodyVarCountFrom l 0) ≡ true → other l ≡ false → staysWhole l ≡ false
-stays-not l e f = ap₂ (λ (a b : Bool). a || b) (lt-leb (bodyVarCount l) 8 (omega (arith, ltb-true 8 (bodyVarCountFrom l 0) e, count-root l))) f
+stays_not : (l : List Atom) → ltb max_body_vars (body_var_count_from l 0) ≡ true → other l ≡ false → stays_whole l ≡ false
+stays_not l e f = ap₂ (λ (a b : Bool). a || b) (lt-leb (body_var_count l) 8 (omega (arith, ltb-true 8 (body_var_count_from l 0) e, count_root l))) f
 
 -- ---- the answer
 module _ (w : List ℕ) (s : Naming) (x : Clause) (z : Rules.Naming) where
-  whole : staysWhole x.body ≡ true → NamedHeld w s z → OneBy w s x (reduced x z) Reduceds.None
+  whole : stays_whole x.body ≡ true → NamedHeld w s z → OneBy w s x (reduced x z) Reduceds.None
   whole e H = subst (λ (b : Bool). OneBy w s x (reduction x b z) Reduceds.None) (sym e) H
 
-  pub one-narrow : false ≡ ltb maxBodyVars (bodyVarCountFrom x.body 0) → NamedHeld w s z → OneBy w s x (reduced x z) Reduceds.None
-  one-narrow e H = whole (stays-narrow x.body (sym e)) H
+  pub one_narrow : false ≡ ltb max_body_vars (body_var_count_from x.body 0) → NamedHeld w s z → OneBy w s x (reduced x z) Reduceds.None
+  one_narrow e H = whole (stays_narrow x.body (sym e)) H
 
-  pub one-other : false ≡ not (other x.body) → NamedHeld w s z → OneBy w s x (reduced x z) Reduceds.None
-  one-other e H = whole (stays-other x.body (not-false (other x.body) (sym e))) H
+  pub one_other : false ≡ not (other x.body) → NamedHeld w s z → OneBy w s x (reduced x z) Reduceds.None
+  one_other e H = whole (stays_other x.body (not-false (other x.body) (sym e))) H
 
-  answer : (l : List Atom) (kept : List ℕ) (o : Res Rules.Naming (Option (List Atom))) (r : Reduced) → ReducedBy w bodyAt (length x.body) l kept s o r → OneBy w s x o r
+  answer : (l : List Atom) (kept : List ℕ) (o : Res Rules.Naming (Option (List Atom))) (r : Reduced) → ReducedBy w body_at (length x.body) l kept s o r → OneBy w s x o r
   answer l kept (ok (some b) y) (Reduceds.To m n) t = t
   answer l kept (ok (some b) y) Reduceds.None t = t
   answer l kept (ok (some b) y) (Reduceds.Refused k) t = t
@@ -49,8 +49,8 @@ module _ (w : List ℕ) (s : Naming) (x : Clause) (z : Rules.Naming) where
   answer l kept (ok none y) (Reduceds.Refused k) t = t
   answer l kept (refused k) r t = t
 
-  pub one-named : (nb : ℕ) (r : Reduced) → nb ≡ length x.body → true ≡ ltb maxBodyVars (bodyVarCountFrom x.body 0) → other x.body ≡ false
-      → ReducedBy w bodyAt nb x.body (headVars x.head) s (nameBranches x.body 0 (headVars x.head) z) r → OneBy w s x (reduced x z) r
-  one-named nb r q e f t =
-      let u : ReducedBy w bodyAt (length x.body) x.body (headVars x.head) s (nameBranches x.body 0 (headVars x.head) z) r = rw q at t in
-      subst (λ (b : Bool). OneBy w s x (reduction x b z) r) (sym (stays-not x.body (sym e) f)) (answer x.body (headVars x.head) (nameBranches x.body 0 (headVars x.head) z) r u)
+  pub one_named : (nb : ℕ) (r : Reduced) → nb ≡ length x.body → true ≡ ltb max_body_vars (body_var_count_from x.body 0) → other x.body ≡ false
+      → ReducedBy w body_at nb x.body (head_vars x.head) s (name_branches x.body 0 (head_vars x.head) z) r → OneBy w s x (reduced x z) r
+  one_named nb r q e f t =
+      let u : ReducedBy w body_at (length x.body) x.body (head_vars x.head) s (name_branches x.body 0 (head_vars x.head) z) r = rw q at t in
+      subst (λ (b : Bool). OneBy w s x (reduction x b z) r) (sym (stays_not x.body (sym e) f)) (answer x.body (head_vars x.head) (name_branches x.body 0 (head_vars x.head) z) r u)

@@ -2,9 +2,9 @@
 use Rattle.std.specs.Prelude.{◌≡◌, List, map, ℕ, ◌*◌, ◌≤◌, length, take, drop}
 use Rattle.std.proofs.lemmas.List.Edits.{sets}
 use Rattle.rules.specs.State.{Clause, total}
-use Rattle.rules.specs.Branches.{Branch, branchClause}
+use Rattle.rules.specs.Branches.{Branch, branch_clause}
 use Rattle.rules.specs.Branches as Rules
-use Rattle.rules.specs.Run.{clauseWords, clauseRecords, atomRecords}
+use Rattle.rules.specs.Run.{clause_words, clause_records, atom_records}
 
 -- n words from `from` on, at `to`
 abbrev pub moved : List ℕ → ℕ → ℕ → ℕ → List ℕ
@@ -16,16 +16,16 @@ pub record Half (l : List Clause) (c a c' a' : List ℕ) (i to : ℕ) (done : Li
   pub among : i ≤ length l
   pub sum : to ≡ total done
   pub low : to ≤ total (take i l)
-  pub clauses : take (clauseWords * i) c' ≡ clauseRecords 0 done
-  pub clausesRest : drop (clauseWords * i) c' ≡ drop (clauseWords * i) c
-  pub atoms : take (6 * to) a' ≡ atomRecords done
-  pub atomsRest : drop (6 * total (take i l)) a' ≡ drop (6 * total (take i l)) a
-  pub sameClauses : length c' ≡ length c
-  pub sameAtoms : length a' ≡ length a
+  pub clauses : take (clause_words * i) c' ≡ clause_records 0 done
+  pub clauses_rest : drop (clause_words * i) c' ≡ drop (clause_words * i) c
+  pub atoms : take (6 * to) a' ≡ atom_records done
+  pub atoms_rest : drop (6 * total (take i l)) a' ≡ drop (6 * total (take i l)) a
+  pub same_clauses : length c' ≡ length c
+  pub same_atoms : length a' ≡ length a
 
 -- the branches as clauses, from clause i and atom `to` on
-abbrev pub branchesAt : ℕ → ℕ → List Branch → List ℕ → List ℕ
-branchesAt i to l c = sets c (clauseWords * i) (clauseRecords to (map branchClause l))
+abbrev pub branches_at : ℕ → ℕ → List Branch → List ℕ → List ℕ
+branches_at i to l c = sets c (clause_words * i) (clause_records to (map branch_clause l))
 
-abbrev pub branchAtomsAt : ℕ → List Branch → List ℕ → List ℕ
-branchAtomsAt to l a = sets a (6 * to) (atomRecords (map branchClause l))
+abbrev pub branch_atoms_at : ℕ → List Branch → List ℕ → List ℕ
+branch_atoms_at to l a = sets a (6 * to) (atom_records (map branch_clause l))

@@ -2,34 +2,34 @@
 use Rattle.std.specs.Prelude.{Bool, true, false, not, ◌≡◌, refl, List, ℕ, ◌+◌, ◌*◌, ◌/◌, ◌≤◌, ◌<◌, length, get_or, drop}
 use Rattle.std.proofs.Common.{sym, ap, ◌∙◌, arith, drop_of_length-le}
 use Rattle.words.specs.Words.{words}
-use Rattle.ir.specs.Records.{wordsOf}
+use Rattle.ir.specs.Records.{words_of}
 use Rattle.ir.specs.declared.atom.Atom.{Atom}
 use Rattle.ir.specs.declared.atom.Atom.TheVariants.{Class, Exists, AtMost, AtLeast, Equal, Role as RoleAtom}
 use Rattle.rules.specs.Base.{any}
-use Rattle.rules.specs.Branches.{isTreeAtom}
+use Rattle.rules.specs.Branches.{is_tree_atom}
 use Rattle.tables.specs.Tabled.{Run}
-use Rattle.branches.specs.AtomsLaws.{run-atom}
+use Rattle.branches.specs.AtomsLaws.{run_atom}
 
 -- ---- by the kind
-is-tree : (a : Atom) → (wordsOf a).0 ≤ 2 → isTreeAtom a ≡ true
-is-tree (Class k v) e = refl
-is-tree (RoleAtom r u v) e = refl
-is-tree (Exists r k v) e = absurd (omega arith)
-is-tree (AtMost r q n v) e = absurd (omega arith)
-is-tree (AtLeast r q n v) e = absurd (omega arith)
-is-tree (Equal u v) e = absurd (omega arith)
+is_tree : (a : Atom) → (words_of a).0 ≤ 2 → is_tree_atom a ≡ true
+is_tree (Class k v) e = refl
+is_tree (RoleAtom r u v) e = refl
+is_tree (Exists r k v) e = absurd (omega arith)
+is_tree (AtMost r q n v) e = absurd (omega arith)
+is_tree (AtLeast r q n v) e = absurd (omega arith)
+is_tree (Equal u v) e = absurd (omega arith)
 
-no-tree : (a : Atom) → 2 < (wordsOf a).0 → isTreeAtom a ≡ false
-no-tree (Class k v) e = absurd (omega arith)
-no-tree (RoleAtom r u v) e = absurd (omega arith)
-no-tree (Exists r k v) e = refl
-no-tree (AtMost r q n v) e = refl
-no-tree (AtLeast r q n v) e = refl
-no-tree (Equal u v) e = refl
+no_tree : (a : Atom) → 2 < (words_of a).0 → is_tree_atom a ≡ false
+no_tree (Class k v) e = absurd (omega arith)
+no_tree (RoleAtom r u v) e = absurd (omega arith)
+no_tree (Exists r k v) e = refl
+no_tree (AtMost r q n v) e = refl
+no_tree (AtLeast r q n v) e = refl
+no_tree (Equal u v) e = refl
 
 -- one of them is another atom
 abbrev pub other : List Atom → Bool
-other l = any (λ a. not (isTreeAtom a)) l
+other l = any (λ a. not (is_tree_atom a)) l
 
 -- before atom i of the `count` in the bytes s
 pub record Plain (s : List ℕ) (count i : ℕ) : Type 0 where
@@ -37,30 +37,30 @@ pub record Plain (s : List ℕ) (count i : ℕ) : Type 0 where
   pub here : i ≤ count
   pub left : (l : List Atom) → Run s l → other l ≡ other (drop i l)
 
-pub plain-start : (s : List ℕ) (count : ℕ) → count ≡ length s / 24 → Plain s count 0
-plain-start s count e = record { all = e; here = omega arith; left = λ l R. refl }
+pub plain_start : (s : List ℕ) (count : ℕ) → count ≡ length s / 24 → Plain s count 0
+plain_start s count e = record { all = e; here = omega arith; left = λ l R. refl }
 
 module _ (s : List ℕ) (count i : ℕ) (P : Plain s count i) where
   -- its kind is x
   module _ (h : i < count) (x : ℕ) (e : x ≡ get_or (words s) (6 * i) 0) where
-    pub plain-found : 2 < x → (l : List Atom) → Run s l → false ≡ not (other l)
-    plain-found k l R =
-        let a = run-atom s count i P.all l R h in
-        let f : other (drop i l) ≡ true = rw (a.split, no-tree a.atom (omega (arith, a.words.kind))) refl in
+    pub plain_found : 2 < x → (l : List Atom) → Run s l → false ≡ not (other l)
+    plain_found k l R =
+        let a = run_atom s count i P.all l R h in
+        let f : other (drop i l) ≡ true = rw (a.split, no_tree a.atom (omega (arith, a.words.kind))) refl in
         sym (ap not (P.left l R ∙ f))
 
-    pub plain-on : x ≤ 2 → Plain s count (i + 1)
-    plain-on k = record {
+    pub plain_on : x ≤ 2 → Plain s count (i + 1)
+    plain_on k = record {
       all = P.all;
       here = omega arith;
       left = λ l R.
-          let a = run-atom s count i P.all l R h in
-          let f : other (drop i l) ≡ other (drop (i + 1) l) = rw (a.split, is-tree a.atom (omega (arith, a.words.kind))) refl in
+          let a = run_atom s count i P.all l R h in
+          let f : other (drop i l) ≡ other (drop (i + 1) l) = rw (a.split, is_tree a.atom (omega (arith, a.words.kind))) refl in
           P.left l R ∙ f;
     }
 
-  pub plain-end : count ≤ i → (l : List Atom) → Run s l → true ≡ not (other l)
-  plain-end h l R =
+  pub plain_end : count ≤ i → (l : List Atom) → Run s l → true ≡ not (other l)
+  plain_end h l R =
       let z : length l ≤ i = omega (arith, R.long, P.all) in
       let f : other (drop i l) ≡ false = rw (drop_of_length-le l z) refl in
       sym (ap not (P.left l R ∙ f))

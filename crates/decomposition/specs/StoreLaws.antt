@@ -6,28 +6,28 @@ use Rattle.rules.specs.State.{Clause, total}
 
 -- ---- a run of stores
 -- what stands up to its end
-pub take-store : (w m : List ℕ) (p q : ℕ) → q ≡ p + length m → q ≤ length w → take q (sets w p m) ≡ take p w ++ m
-take-store w m p q e h =
+pub take_store : (w m : List ℕ) (p q : ℕ) → q ≡ p + length m → q ≤ length w → take q (sets w p m) ≡ take p w ++ m
+take_store w m p q e h =
     let n : length (take p w ++ m) ≡ q = omega (arith, length-append (take p w) m, length-take-le p w (omega arith)) in
     ap (take q) (sets-eq m w p (omega arith))
     ∙ take_at (take p w ++ m) (drop (p + length m) w) q n
 
 -- and behind it
-pub drop-store : (m w : List ℕ) (p q : ℕ) → p + length m ≤ q → drop q (sets w p m) ≡ drop q w
-drop-store [] w p q h = refl
-drop-store (x ∷ m) w p q h = drop-store m (set w p x) (suc p) q (omega arith) ∙ drop-set-lt q w p x (omega arith)
+pub drop_store : (m w : List ℕ) (p q : ℕ) → p + length m ≤ q → drop q (sets w p m) ≡ drop q w
+drop_store [] w p q h = refl
+drop_store (x ∷ m) w p q h = drop_store m (set w p x) (suc p) q (omega arith) ∙ drop-set-lt q w p x (omega arith)
 
 -- ---- one clause more of a list
-pub next-clause : (l : List Clause) (i : ℕ) (x : Clause) (m : List Clause) → drop i l ≡ x ∷ m
+pub next_clause : (l : List Clause) (i : ℕ) (x : Clause) (m : List Clause) → drop i l ≡ x ∷ m
     → (suc i ≤ length l) × (total (take (i + 1) l) ≡ total (take i l) + length (x.body ++ x.head)) × (drop (i + 1) l ≡ m)
 unfolding total
-next-clause [] zero x m e = absurd (let z : ◌≡◌ {A = ℕ} 0 1 = cc in omega arith)
-next-clause [] (suc i) x m e = absurd (let z : ◌≡◌ {A = ℕ} 0 1 = cc in omega arith)
-next-clause (y ∷ l) zero x m e =
+next_clause [] zero x m e = absurd (let z : ◌≡◌ {A = ℕ} 0 1 = cc in omega arith)
+next_clause [] (suc i) x m e = absurd (let z : ◌≡◌ {A = ℕ} 0 1 = cc in omega arith)
+next_clause (y ∷ l) zero x m e =
     let f : y ≡ x = cc in
     let g : l ≡ m = cc in
     (omega arith, omega (arith, ap (λ (z : Clause). length (z.body ++ z.head)) f), g)
-next-clause (y ∷ l) (suc i) x m e =
+next_clause (y ∷ l) (suc i) x m e =
     let n : suc i + 1 ≡ suc (i + 1) = omega arith in
-    let h = next-clause l i x m e in
+    let h = next_clause l i x m e in
     rw n (omega (arith, h.0), omega (arith, h.1), h.2)

@@ -1,13 +1,13 @@
 -- The pass over the clauses of a list: what stands in the tables before it, and after its first i clauses.
 use Rattle.std.specs.Prelude.{◌≡◌, List, [], ℕ, suc, ◌+◌, ◌<◌, ◌≤◌, length, drop}
 use Rattle.ir.specs.declared.counters.Counters.{Counters}
-use Rattle.rules.specs.Deck.{mostRoles}
+use Rattle.rules.specs.Deck.{most_roles}
 use Rattle.rules.specs.State.{Clause}
-use Rattle.rules.specs.Branches.{Rewritten, decomposeFrom}
+use Rattle.rules.specs.Branches.{Rewritten, decompose_from}
 use Rattle.rules.specs.Branches as Rules
 use Rattle.rules.specs.Invariants.{Each, Bounds, ClauseIn}
 use Rattle.tables.specs.Tabled.{Tabled}
-use Rattle.branches.specs.Layout.{mostNamed}
+use Rattle.branches.specs.Layout.{most_named}
 use Rattle.branches.specs.Memo.{NamedHeld}
 use Rattle.naming.specs.GoesLaws.{Goes}
 use Rattle.branches.specs.declared.memo.Naming.{Naming}
@@ -17,17 +17,17 @@ use Rattle.decomposition.specs.declared.turn.Turned.{Turned}
 use Rattle.decomposition.specs.declared.turn.Turned.TheVariants as Turneds
 
 -- no clause yet, and no branch
-abbrev pub noClause : Rewritten
-noClause = record { clauses = []; count = 0 }
+abbrev pub no_clause : Rewritten
+no_clause = record { clauses = []; count = 0 }
 
-abbrev pub noName : ℕ → Rules.Naming
-noName fresh = record { nextFresh = fresh; named = [] }
+abbrev pub no_name : ℕ → Rules.Naming
+no_name fresh = record { next_fresh = fresh; named = [] }
 
 -- the clauses l in the tables' words c and a; their atoms name roles that there may be, and classes below `fresh`
 pub record Listed (l : List Clause) (fresh : ℕ) (c a : List ℕ) : Type 0 where
   pub tabled : Tabled c a (length l) l
   pub bounds : Bounds
-  pub roles : bounds.roles ≤ mostRoles
+  pub roles : bounds.roles ≤ most_roles
   pub vars : ℕ
   pub inside : Each (ClauseIn bounds fresh vars) l
   pub classes : fresh ≤ 1100000
@@ -36,7 +36,7 @@ pub record Listed (l : List Clause) (fresh : ℕ) (c a : List ℕ) : Type 0 wher
 pub record Passed (l : List Clause) (fresh : ℕ) (c a w c' a' : List ℕ) (s : Naming) (i to n : ℕ) : Type 0 where
   pub done : Rewritten
   pub state : Rules.Naming
-  pub same : decomposeFrom noClause l (noName fresh) ≡ decomposeFrom done (drop i l) state
+  pub same : decompose_from no_clause l (no_name fresh) ≡ decompose_from done (drop i l) state
   pub counted : done.count ≡ n
   pub fewer : n ≤ i
   pub first : s.first ≡ fresh
@@ -56,11 +56,11 @@ pub record TurnThere (w c' a' : List ℕ) (s : Naming) (i to n : ℕ) : Type 0 w
 -- the code's answer for clause i: a refusal where the rule names more than there is room for
 abbrev pub TurnedBy : List Clause → ℕ → (c a w c' a' : List ℕ) → ℕ → Turned → Type 0
 TurnedBy l fresh c a w c' a' i (Turneds.On s to n) = Passed l fresh c a w c' a' s (i + 1) to n
-TurnedBy l fresh c a w c' a' i (Turneds.Refused e) = (e ≡ 12) × Goes (suc mostNamed) (decomposeFrom noClause l (noName fresh))
+TurnedBy l fresh c a w c' a' i (Turneds.Refused e) = (e ≡ 12) × Goes (suc most_named) (decompose_from no_clause l (no_name fresh))
 
 -- the same of a drawn state's clauses; after all of them
 abbrev pub DrawnPassed : (k : Counters) (c a : List ℕ) → Decomposing k c a → (w c' a' : List ℕ) → Naming → (i to n : ℕ) → Type 0
-DrawnPassed k c a D w c' a' s i to n = Passed D.state.clauses D.state.nextFresh c a w c' a' s i to n
+DrawnPassed k c a D w c' a' s i to n = Passed D.state.clauses D.state.next_fresh c a w c' a' s i to n
 
 abbrev pub AllPassed : (k : Counters) (c a : List ℕ) → Decomposing k c a → (w c' a' : List ℕ) → Naming → (to n : ℕ) → Type 0
 AllPassed k c a D w c' a' s to n = DrawnPassed k c a D w c' a' s k.clauses to n

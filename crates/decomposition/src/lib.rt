@@ -7,9 +7,9 @@ mod turn;
 
 ghost use Rattle.std.specs.Prelude.{◌≡◌, ◌*◌, ◌≤◌, length};
 ghost use Rattle.words.specs.Words.{words};
-ghost use Rattle.rules.specs.Branches.{decomposeWideBodies};
+ghost use Rattle.rules.specs.Branches.{decompose_wide_bodies};
 ghost use Rattle.tables.specs.Drawn.{shown, after, Sized};
-ghost use Rattle.branches.specs.Layout.{workWords};
+ghost use Rattle.branches.specs.Layout.{work_words};
 ghost use Rattle.decomposition.specs.Decomposing.{Decomposing};
 
 use crate::turn::Turned;
@@ -26,8 +26,8 @@ pub fn decompose_wide_bodies(
     atoms: &mut [u8],
     k: Counters,
 ) -> Answer
-    requires { Decomposing k (words clauses.old) (words atoms.old) × (4 * workWords ≤ length scratch.old) × Sized (length clauses.old) (length atoms.old) 0 }
-    ensures { (D : Decomposing k (words clauses.old) (words atoms.old)) → after result (words clauses.new) (words atoms.new) D.deferrals ≡ shown (λ n. n) k D.env.rooms (decomposeWideBodies D.env D.state) }
+    requires { Decomposing k (words clauses.old) (words atoms.old) × (4 * work_words ≤ length scratch.old) × Sized (length clauses.old) (length atoms.old) 0 }
+    ensures { (D : Decomposing k (words clauses.old) (words atoms.old)) → after result (words clauses.new) (words atoms.new) D.deferrals ≡ shown (λ n. n) k D.env.rooms (decompose_wide_bodies D.env D.state) }
 {
     filter::clear(scratch);
     let mut s = Naming {

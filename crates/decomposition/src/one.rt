@@ -4,10 +4,10 @@ ghost use Rattle.words.specs.Words.{words};
 ghost use Rattle.ir.specs.declared.atom.Atom.{Atom};
 ghost use Rattle.rules.specs.Base.{any};
 ghost use Rattle.rules.specs.State.{Clause};
-ghost use Rattle.rules.specs.Branches.{isTreeAtom, addVar, headVars};
+ghost use Rattle.rules.specs.Branches.{is_tree_atom, add_var, head_vars};
 ghost use Rattle.rules.specs.Branches as Rules;
 ghost use Rattle.tables.specs.Tabled.{Run};
-ghost use Rattle.branches.specs.Layout.{workWords};
+ghost use Rattle.branches.specs.Layout.{work_words};
 ghost use Rattle.branches.specs.Memo.{NamedHeld, NamedThere};
 ghost use Rattle.branches.specs.Edges.{KeepIs};
 ghost use Rattle.decomposition.specs.Bodies.{reduced, PartsThere, OneBy, OnlyKeep};
@@ -21,7 +21,7 @@ use tables::read;
 
 // All atoms of a body are class and role atoms.
 fn is_plain(body: &[u8]) -> bool
-    ensures { (l : List Atom) → Run body.now l → result ≡ not (any (λ a. not (isTreeAtom a)) l) }
+    ensures { (l : List Atom) → Run body.now l → result ≡ not (any (λ a. not (is_tree_atom a)) l) }
 {
     let count = read::atom_room(body);
     let mut i: usize = 0;
@@ -36,8 +36,8 @@ fn is_plain(body: &[u8]) -> bool
 
 // v among the n variables to keep, but for X; how many they are then.
 fn keep_var(scratch: &mut [u8], n: u32, v: u32) -> u32
-    requires { (n < 512) × (4 * workWords ≤ length scratch.old) }
-    ensures by_index { (kept : List ℕ) → KeepIs (words scratch.old) n kept → KeepIs (words scratch.new) result (addVar kept v) }
+    requires { (n < 512) × (4 * work_words ≤ length scratch.old) }
+    ensures by_index { (kept : List ℕ) → KeepIs (words scratch.old) n kept → KeepIs (words scratch.new) result (add_var kept v) }
     ensures upper_bound { (result ≤ n + 1) × OnlyKeep (words scratch.old) (words scratch.new) }
 {
     if v == 0 {
@@ -56,8 +56,8 @@ fn keep_var(scratch: &mut [u8], n: u32, v: u32) -> u32
 
 // head_vars: the variables of a head, but X.
 fn head_vars(scratch: &mut [u8], head: &[u8]) -> u32
-    requires { (length head.now ≤ 24 * 256) × (4 * workWords ≤ length scratch.old) }
-    ensures keep_is { (l : List Atom) → Run head.now l → KeepIs (words scratch.new) result (headVars l) }
+    requires { (length head.now ≤ 24 * 256) × (4 * work_words ≤ length scratch.old) }
+    ensures keep_is { (l : List Atom) → Run head.now l → KeepIs (words scratch.new) result (head_vars l) }
     ensures upper_bound { (result ≤ 512) × OnlyKeep (words scratch.old) (words scratch.new) }
 {
     let count = read::atom_room(head);
@@ -73,7 +73,7 @@ fn head_vars(scratch: &mut [u8], head: &[u8]) -> u32
 
 // The clause of this body and this head: its new body, from record BODY on, if something in it is named.
 pub fn decompose_one(scratch: &mut [u8], body: &[u8], head: &[u8], s: Naming) -> Reduced
-    requires { PartsThere body.now head.now × NamedThere (words scratch.old) s × (s.first ≤ 1100000) × (4 * workWords ≤ length scratch.old) }
+    requires { PartsThere body.now head.now × NamedThere (words scratch.old) s × (s.first ≤ 1100000) × (4 * work_words ≤ length scratch.old) }
     ensures { (x : Clause) (z : Rules.Naming) → Run body.now x.body → Run head.now x.head → NamedHeld (words scratch.old) s z → OneBy (words scratch.new) s x (reduced x z) result }
 {
     if !vars::is_wide(body, 0) {

@@ -5,15 +5,15 @@ ghost use Rattle.std.proofs.lemmas.List.Edits.{sets};
 ghost use Rattle.words.specs.Words.{words};
 ghost use Rattle.ir.specs.declared.atom.Atom.{Atom};
 ghost use Rattle.ir.specs.declared.atom.Atom.TheVariants.{Class};
-ghost use Rattle.rules.specs.Run.{clauseWords, atomWords, mostAtoms, flat};
+ghost use Rattle.rules.specs.Run.{clause_words, atom_words, most_atoms, flat};
 ghost use Rattle.rules.specs.Branches as Rules;
 ghost use Rattle.rules.specs.Invariants.{Each};
 ghost use Rattle.tables.specs.Drawn.{Sized};
-ghost use Rattle.tables.specs.Tabled.{firstPut, bodyPut};
+ghost use Rattle.tables.specs.Tabled.{first_put, body_put};
 ghost use Rattle.tables.specs.Tabled.{At};
-ghost use Rattle.branches.specs.Layout.{bodyAt, workWords};
+ghost use Rattle.branches.specs.Layout.{body_at, work_words};
 ghost use Rattle.branches.specs.Memo.{packed, Packable, NamedHeld, NamedThere};
-ghost use Rattle.decomposition.specs.Placing.{moved, branchesAt, branchAtomsAt};
+ghost use Rattle.decomposition.specs.Placing.{moved, branches_at, branch_atoms_at};
 
 use branches::layout::{BODY, NAMED};
 use branches::memo::Naming;
@@ -24,8 +24,8 @@ use tables::write;
 
 // Clause c, whose `count` atoms stand from atom `first` on, stands from atom `to` on.
 pub fn put_whole(clauses: &mut [u8], atoms: &mut [u8], c: u32, first: usize, count: u32, to: u32)
-    requires { (4 * (clauseWords * c + clauseWords) ≤ length clauses.old) × (24 * (first + count) ≤ length atoms.old) × (to ≤ first) }
-    ensures clauses_after { words clauses.new ≡ firstPut (words clauses.old) c to }
+    requires { (4 * (clause_words * c + clause_words) ≤ length clauses.old) × (24 * (first + count) ≤ length atoms.old) × (to ≤ first) }
+    ensures clauses_after { words clauses.new ≡ first_put (words clauses.old) c to }
     ensures atoms_after { words atoms.new ≡ moved (words atoms.old) (6 * first) (6 * to) (6 * count) }
 {
     words::move_words(atoms, 6 * first, 6 * (to as usize), 6 * (count as usize));
@@ -43,9 +43,9 @@ pub fn put_rewritten(
     nh: u32,
     to: u32,
 )
-    requires { (n ≤ 256) × (4 * workWords ≤ length scratch.now) × (4 * (clauseWords * c + clauseWords) ≤ length clauses.old) × (24 * (head + nh) ≤ length atoms.old) × (length atoms.old ≤ 4 * atomWords * mostAtoms) × (to + n ≤ head) }
-    ensures clauses_after { words clauses.new ≡ bodyPut (firstPut (words clauses.old) c to) c n }
-    ensures atoms_after { words atoms.new ≡ moved (sets (words atoms.old) (6 * to) (take (6 * n) (drop (6 * bodyAt) (words scratch.now)))) (6 * head) (6 * (to + n)) (6 * nh) }
+    requires { (n ≤ 256) × (4 * work_words ≤ length scratch.now) × (4 * (clause_words * c + clause_words) ≤ length clauses.old) × (24 * (head + nh) ≤ length atoms.old) × (length atoms.old ≤ 4 * atom_words * most_atoms) × (to + n ≤ head) }
+    ensures clauses_after { words clauses.new ≡ body_put (first_put (words clauses.old) c to) c n }
+    ensures atoms_after { words atoms.new ≡ moved (sets (words atoms.old) (6 * to) (take (6 * n) (drop (6 * body_at) (words scratch.now)))) (6 * head) (6 * (to + n)) (6 * nh) }
 {
     let from = 24 * BODY;
     let end = 24 * (BODY + n as usize);
@@ -70,9 +70,9 @@ fn put_branch(scratch: &[u8], atoms: &mut [u8], p: usize, n: u32, at: usize, nam
 
 // The branches as clauses, from clause c and atom `to` on.
 pub fn put_named(scratch: &[u8], clauses: &mut [u8], atoms: &mut [u8], s: Naming, c: u32, to: u32)
-    requires { NamedThere (words scratch.now) s × (s.first ≤ 1100000) × (4 * workWords ≤ length scratch.now) × (4 * (clauseWords * (c + s.named)) ≤ length clauses.old) × (24 * (to + s.used) ≤ length atoms.old) × Sized (length clauses.old) (length atoms.old) 0 }
-    ensures clauses_after { (z : Rules.Naming) → NamedHeld (words scratch.now) s z → words clauses.new ≡ branchesAt c to z.named (words clauses.old) }
-    ensures atoms_after { (z : Rules.Naming) → NamedHeld (words scratch.now) s z → words atoms.new ≡ branchAtomsAt to z.named (words atoms.old) }
+    requires { NamedThere (words scratch.now) s × (s.first ≤ 1100000) × (4 * work_words ≤ length scratch.now) × (4 * (clause_words * (c + s.named)) ≤ length clauses.old) × (24 * (to + s.used) ≤ length atoms.old) × Sized (length clauses.old) (length atoms.old) 0 }
+    ensures clauses_after { (z : Rules.Naming) → NamedHeld (words scratch.now) s z → words clauses.new ≡ branches_at c to z.named (words clauses.old) }
+    ensures atoms_after { (z : Rules.Naming) → NamedHeld (words scratch.now) s z → words atoms.new ≡ branch_atoms_at to z.named (words atoms.old) }
 {
     let mut p: usize = NAMED;
     let mut a = to;

@@ -2,9 +2,9 @@
 ghost use Rattle.std.specs.Prelude.{◌≡◌, List, ℕ, ◌*◌, ◌-◌, ◌<◌, ◌≤◌, length};
 ghost use Rattle.words.specs.Words.{words};
 ghost use Rattle.rules.specs.State.{Clause};
-ghost use Rattle.rules.specs.Branches.{decomposeWideBodies};
+ghost use Rattle.rules.specs.Branches.{decompose_wide_bodies};
 ghost use Rattle.tables.specs.Drawn.{shown, after, Sized};
-ghost use Rattle.branches.specs.Layout.{workWords};
+ghost use Rattle.branches.specs.Layout.{work_words};
 ghost use Rattle.decomposition.specs.Decomposing.{Decomposing};
 ghost use Rattle.decomposition.specs.Turning.{Listed, Passed, TurnThere, TurnedBy, AllPassed, EndThere};
 
@@ -32,7 +32,7 @@ pub fn turn(
     to: u32,
     rewritten: u32,
 ) -> Turned
-    requires { TurnThere (words scratch.old) (words clauses.old) (words atoms.old) s c to rewritten × (4 * workWords ≤ length scratch.old) × Sized (length clauses.old) (length atoms.old) 0 }
+    requires { TurnThere (words scratch.old) (words clauses.old) (words atoms.old) s c to rewritten × (4 * work_words ≤ length scratch.old) × Sized (length clauses.old) (length atoms.old) 0 }
     ensures { (l : List Clause) (fresh : ℕ) (c₀ a₀ : List ℕ) → Listed l fresh c₀ a₀ → c < length l → Passed l fresh c₀ a₀ (words scratch.old) (words clauses.old) (words atoms.old) s c to rewritten → TurnedBy l fresh c₀ a₀ (words scratch.new) (words clauses.new) (words atoms.new) c result }
 {
     let first = read::first_atom(clauses, c) as usize;
@@ -79,8 +79,8 @@ pub fn finish(
     to: u32,
     rewritten: u32,
 ) -> Answer
-    requires { EndThere k (words scratch.now) (words clauses.old) (words atoms.old) s to rewritten × (4 * workWords ≤ length scratch.now) × Sized (length clauses.old) (length atoms.old) 0 }
-    ensures { (c₀ a₀ : List ℕ) (D : Decomposing k c₀ a₀) → AllPassed k c₀ a₀ D (words scratch.now) (words clauses.old) (words atoms.old) s to rewritten → after result (words clauses.new) (words atoms.new) D.deferrals ≡ shown (λ n. n) k D.env.rooms (decomposeWideBodies D.env D.state) }
+    requires { EndThere k (words scratch.now) (words clauses.old) (words atoms.old) s to rewritten × (4 * work_words ≤ length scratch.now) × Sized (length clauses.old) (length atoms.old) 0 }
+    ensures { (c₀ a₀ : List ℕ) (D : Decomposing k c₀ a₀) → AllPassed k c₀ a₀ D (words scratch.now) (words clauses.old) (words atoms.old) s to rewritten → after result (words clauses.new) (words atoms.new) D.deferrals ≡ shown (λ n. n) k D.env.rooms (decompose_wide_bodies D.env D.state) }
 {
     let last = k.clauses + s.named;
     let end = to + s.used;

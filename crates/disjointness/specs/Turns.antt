@@ -4,7 +4,7 @@ use Prim.{Unit}
 use Rattle.ir.specs.declared.counters.Counters.{Counters}
 use Rattle.ir.specs.declared.answer.Answer.{Answer}
 use Rattle.ir.specs.declared.atom.Atom.{Atom}
-use Rattle.rules.specs.Base.{forEach}
+use Rattle.rules.specs.Base.{for_each}
 use Rattle.rules.specs.State.{Env, Rooms, Out, E}
 use Rattle.rules.specs.Antecedents.{Alternatives}
 use Rattle.tables.specs.Drawn.{tables, show, shown, after}
@@ -27,7 +27,7 @@ Turn P = (env : Env) → P env → List Atom → E (Unit {0})
 -- a call did the turn of each alternative; below top scratch is as it was
 pub record Turned (top : ℕ) (P : Env → Type 0) (turn : Turn P) (k : Counters) (c y count : ℕ) (x x' : Four) (r : Answer) : Type 0 where
   pub equal : (env : Env) (p : P env) (q : Has env x.scratch k c y count) (s : Out) → EnvHeld env k x → tables k x.clauses x.atoms x.deferrals ≡ show k env.rooms s
-      → after r x'.clauses x'.atoms x'.deferrals ≡ shown (λ _. 0) k env.rooms (forEach (turn env p) q.alternatives s)
+      → after r x'.clauses x'.atoms x'.deferrals ≡ shown (λ _. 0) k env.rooms (for_each (turn env p) q.alternatives s)
   pub frame : take (6 * top) x'.scratch ≡ take (6 * top) x.scratch
   pub good : GoodAnswer r
   pub kept : KeptAnswer k r
@@ -36,7 +36,7 @@ pub record Turned (top : ℕ) (P : Env → Type 0) (turn : Turn P) (k : Counters
 pub record TurnsSo (turn : List Atom → E (Unit {0})) (k : Counters) (rooms : Rooms) (m : Counters) (c a d : List ℕ) (l : Alternatives) (s : Out) (i : ℕ) : Type 0 where
   pub state : Out
   pub drawn : tables m c a d ≡ show k rooms state
-  pub rest : forEach turn l s ≡ forEach turn (drop i l) state
+  pub rest : for_each turn l s ≡ for_each turn (drop i l) state
 
 pub record TurnsAt (top : ℕ) (P : Env → Type 0) (turn : Turn P) (k : Counters) (c y count : ℕ) (w₀ c₀ a₀ w ci ai : List ℕ) (m : Counters) (i : ℕ) : Type 0 where
   pub within : i ≤ count

@@ -2,12 +2,12 @@
 ghost use Rattle.std.specs.Prelude.{◌≡◌, [], ℕ, ◌+◌, ◌<◌, ◌≤◌, ◌^◌, length};
 ghost use Rattle.words.specs.Words.{words};
 ghost use Rattle.rules.specs.Axioms.{cover};
-ghost use Rattle.pool.specs.Layout.{run, poolOf};
+ghost use Rattle.pool.specs.Layout.{run, pool_of};
 ghost use Rattle.tables.specs.Drawn.{Sized};
 ghost use Rattle.tables.specs.Good.{Good};
 ghost use Rattle.hands.specs.Hands.{four, Did};
 ghost use Rattle.leaves.specs.Reading.{Reading};
-ghost use Rattle.axioms.specs.RoleAxioms.{handAt, inHandBytes};
+ghost use Rattle.axioms.specs.RoleAxioms.{hand_at, in_hand_bytes};
 ghost use Rattle.disjointness.specs.Covers.{Members, HeadsDid};
 
 use axioms::bodies::HAND;
@@ -29,7 +29,7 @@ pub enum Heads {
 
 // The heads of the `count` members from word `at` on, behind the first atom in hand.
 fn put_heads(scratch: &mut [u8], k: Counters, at: usize, count: u32) -> Heads
-    requires { Reading scratch.old k × Members (words scratch.old) k at count × (inHandBytes ≤ length scratch.old) }
+    requires { Reading scratch.old k × Members (words scratch.old) k at count × (in_hand_bytes ≤ length scratch.old) }
     ensures { HeadsDid k at count (words scratch.old) (words scratch.new) result }
 {
     let mut i: u32 = 0;
@@ -62,10 +62,10 @@ pub fn cover(
     at: usize,
     count: u32,
 ) -> Answer
-    requires { Reading scratch.old k × Members (words scratch.old) k at count × (inHandBytes ≤ length scratch.old) × (class + 1 < 2 ^ 32) × Sized (length clauses.old) (length atoms.old) (length deferrals.old) × Good k }
+    requires { Reading scratch.old k × Members (words scratch.old) k at count × (in_hand_bytes ≤ length scratch.old) × (class + 1 < 2 ^ 32) × Sized (length clauses.old) (length atoms.old) (length deferrals.old) × Good k }
     ensures { let old = four (words scratch.old) (words clauses.old) (words atoms.old) (words deferrals.old) in
         let new = four (words scratch.new) (words clauses.new) (words atoms.new) (words deferrals.new) in
-        Did (λ _. 0) 0 (λ env f b s. cover env (poolOf old.scratch k.concepts) class (run old.scratch at count) [] s) k handAt 0 old new result }
+        Did (λ _. 0) 0 (λ env f b s. cover env (pool_of old.scratch k.concepts) class (run old.scratch at count) [] s) k hand_at 0 old new result }
 {
     record::put_atom(scratch, HAND, Atom::Class(class, 0));
     match put_heads(scratch, k, at, count) {

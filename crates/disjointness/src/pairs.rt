@@ -1,14 +1,14 @@
 // A disjoint pair: a clause without a head for each pair of alternatives.
 ghost use Rattle.std.specs.Prelude.{List, ℕ, ◌+◌, ◌<◌, ◌≤◌, length};
 ghost use Rattle.words.specs.Words.{words};
-ghost use Rattle.pool.specs.Layout.{poolOf};
+ghost use Rattle.pool.specs.Layout.{pool_of};
 ghost use Rattle.tables.specs.Drawn.{Sized};
 ghost use Rattle.tables.specs.Good.{Good};
 ghost use Rattle.hands.specs.Hands.{four, Did};
-ghost use Rattle.axioms.specs.RoleAxioms.{handAt, inHandBytes};
+ghost use Rattle.axioms.specs.RoleAxioms.{hand_at, in_hand_bytes};
 ghost use Rattle.axioms.specs.Bodies.{Encoding, Sourced};
-ghost use Rattle.disjointness.specs.Pairs.{unencoded, pairRule};
-ghost use Rattle.disjointness.specs.PairTurns.{PushedWith, PushedPairs, GaveUp, First, pairFrom};
+ghost use Rattle.disjointness.specs.Pairs.{unencoded, pair_rule};
+ghost use Rattle.disjointness.specs.PairTurns.{PushedWith, PushedPairs, GaveUp, First, pair_from};
 
 use axioms::bodies::HAND;
 use ir::answer::{Answer, Encoded};
@@ -26,7 +26,7 @@ fn push_with(
     count: u32,
     y: u32,
 ) -> Answer
-    requires { Encoding scratch.old k × (b < k.concepts) × (inHandBytes ≤ length scratch.old) × (handAt ≤ top) × (top ≤ handAt + 256) × Sized (length clauses.old) (length atoms.old) 0 × Good k × Sourced (words scratch.old) k b y count }
+    requires { Encoding scratch.old k × (b < k.concepts) × (in_hand_bytes ≤ length scratch.old) × (hand_at ≤ top) × (top ≤ hand_at + 256) × Sized (length clauses.old) (length atoms.old) 0 × Good k × Sourced (words scratch.old) k b y count }
     ensures { let old = four (words scratch.old) (words clauses.old) (words atoms.old) in
         let new = four (words scratch.new) (words clauses.new) (words atoms.new) in
         ((d : List ℕ) → PushedWith k top b count y (old d) (new d) result) }
@@ -64,7 +64,7 @@ fn push_pairs(
     others: u32,
     y: u32,
 ) -> Answer
-    requires { Encoding scratch.old k × (a < k.concepts) × (b < k.concepts) × (inHandBytes ≤ length scratch.old) × Sized (length clauses.old) (length atoms.old) 0 × Good k × Sourced (words scratch.old) k a 1 count × Sourced (words scratch.old) k b y others }
+    requires { Encoding scratch.old k × (a < k.concepts) × (b < k.concepts) × (in_hand_bytes ≤ length scratch.old) × Sized (length clauses.old) (length atoms.old) 0 × Good k × Sourced (words scratch.old) k a 1 count × Sourced (words scratch.old) k b y others }
     ensures { let old = four (words scratch.old) (words clauses.old) (words atoms.old) in
         let new = four (words scratch.new) (words clauses.new) (words atoms.new) in
         ((d : List ℕ) → PushedPairs k a count b others y (old d) (new d) result) }
@@ -108,10 +108,10 @@ fn second_of(
     b: u32,
     deferred: bool,
 ) -> Answer
-    requires { First scratch.old a b first × (inHandBytes ≤ length scratch.old) × Sized (length clauses.old) (length atoms.old) (length deferrals.old) }
+    requires { First scratch.old a b first × (in_hand_bytes ≤ length scratch.old) × Sized (length clauses.old) (length atoms.old) (length deferrals.old) }
     ensures { let old = four (words scratch.old) (words clauses.old) (words atoms.old) (words deferrals.old) in
         let new = four (words scratch.new) (words clauses.new) (words atoms.new) (words deferrals.new) in
-        ((F : First scratch.old a b first) → Did (λ _. 0) 0 (λ env f h s. pairFrom env (unencoded env deferred) a b (poolOf old.scratch F.counters.concepts) s) F.counters handAt 0 old new result) }
+        ((F : First scratch.old a b first) → Did (λ _. 0) 0 (λ env f h s. pair_from env (unencoded env deferred) a b (pool_of old.scratch F.counters.concepts) s) F.counters hand_at 0 old new result) }
 {
     match first {
         Encoded::Found(l, count, _) => {
@@ -143,10 +143,10 @@ pub fn disjoint_pair(
     b: u32,
     deferred: bool,
 ) -> Answer
-    requires { Encoding scratch.old k × (a < k.concepts) × (b < k.concepts) × (inHandBytes ≤ length scratch.old) × Sized (length clauses.old) (length atoms.old) (length deferrals.old) × Good k }
+    requires { Encoding scratch.old k × (a < k.concepts) × (b < k.concepts) × (in_hand_bytes ≤ length scratch.old) × Sized (length clauses.old) (length atoms.old) (length deferrals.old) × Good k }
     ensures { let old = four (words scratch.old) (words clauses.old) (words atoms.old) (words deferrals.old) in
         let new = four (words scratch.new) (words clauses.new) (words atoms.new) (words deferrals.new) in
-        Did (λ _. 0) 0 (λ env f h s. pairRule env (unencoded env deferred) a b (poolOf old.scratch k.concepts) s) k handAt 0 old new result }
+        Did (λ _. 0) 0 (λ env f h s. pair_rule env (unencoded env deferred) a b (pool_of old.scratch k.concepts) s) k hand_at 0 old new result }
 {
     let l = k.restart_vars();
     let first = antecedents::encode_antecedent(scratch, l, a);

@@ -2,14 +2,14 @@
 ghost use Rattle.std.specs.Prelude.{◌≡◌, Bool, ℕ, ◌+◌, ◌<◌, ◌≤◌, length};
 ghost use Rattle.words.specs.Words.{words};
 ghost use Rattle.rules.specs.Invariants.{Each};
-ghost use Rattle.rules.specs.Pool.{mostConcepts, mostMembers};
-ghost use Rattle.rules.specs.Run.{scratchBytes};
+ghost use Rattle.rules.specs.Pool.{most_concepts, most_members};
+ghost use Rattle.rules.specs.Run.{scratch_bytes};
 ghost use Rattle.meaning.specs.Joints.{joins, unit as unit_of, over};
-ghost use Rattle.pool.specs.Joints.{jointOf};
-ghost use Rattle.pool.specs.Layout.{membersAt, run};
-ghost use Rattle.states.specs.Masks.{maskOf};
-ghost use Rattle.sets.specs.Kept.{setAt};
-ghost use Rattle.sets.specs.Places.{conceptsAt};
+ghost use Rattle.pool.specs.Joints.{joint_of};
+ghost use Rattle.pool.specs.Layout.{members_at, run};
+ghost use Rattle.states.specs.Masks.{mask_of};
+ghost use Rattle.sets.specs.Kept.{set_at};
+ghost use Rattle.sets.specs.Places.{concepts_at};
 
 use pool::joint::Joint;
 use pool::record;
@@ -17,7 +17,7 @@ use pool::record;
 // Of no concepts.
 fn unit(j: Joint, n: u32) -> u64
     requires { n ≤ 64 }
-    ensures { result ≡ maskOf n (λ _. unit_of (jointOf j)) }
+    ensures { result ≡ mask_of n (λ _. unit_of (joint_of j)) }
 {
     match j {
         Joint::And => sets::whole(n as u64),
@@ -26,7 +26,7 @@ fn unit(j: Joint, n: u32) -> u64
 }
 
 fn joined(j: Joint, a: u64, b: u64) -> u64
-    ensures { (n : ℕ) (f g : ℕ → Bool) → a ≡ maskOf n f → b ≡ maskOf n g → result ≡ maskOf n (λ x. joins (jointOf j) (f x) (g x)) }
+    ensures { (n : ℕ) (f g : ℕ → Bool) → a ≡ mask_of n f → b ≡ mask_of n g → result ≡ mask_of n (λ x. joins (joint_of j) (f x) (g x)) }
 {
     match j {
         Joint::And => sets::both(a, b),
@@ -36,8 +36,8 @@ fn joined(j: Joint, a: u64, b: u64) -> u64
 
 // Of the list members from start on.
 pub fn joint_set(scratch: &[u8], j: Joint, start: u32, count: u32, n: u32) -> u64
-    requires { (start + count ≤ mostMembers) × (n ≤ 64) × (scratchBytes ≤ length scratch.now) × Each (λ c. c < mostConcepts) (run (words scratch.now) (membersAt + start) count) }
-    ensures { (m : ℕ → ℕ → Bool) → Each (λ c. setAt (words scratch.now) (conceptsAt + c) ≡ maskOf n (m c)) (run (words scratch.now) (membersAt + start) count) → result ≡ maskOf n (λ x. over (jointOf j) (λ c. m c x) (run (words scratch.now) (membersAt + start) count)) }
+    requires { (start + count ≤ most_members) × (n ≤ 64) × (scratch_bytes ≤ length scratch.now) × Each (λ c. c < most_concepts) (run (words scratch.now) (members_at + start) count) }
+    ensures { (m : ℕ → ℕ → Bool) → Each (λ c. set_at (words scratch.now) (concepts_at + c) ≡ mask_of n (m c)) (run (words scratch.now) (members_at + start) count) → result ≡ mask_of n (λ x. over (joint_of j) (λ c. m c x) (run (words scratch.now) (members_at + start) count)) }
 {
     let mut m = unit(j, n);
     let mut i: u32 = 0;

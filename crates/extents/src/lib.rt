@@ -7,14 +7,14 @@ pub mod restriction;
 ghost use Rattle.std.specs.Prelude.{◌≡◌, Bool, not, List, ℕ, ◌+◌, ◌<◌, ◌≤◌, length};
 ghost use Rattle.words.specs.Words.{words};
 ghost use Rattle.rules.specs.Deck.{Known};
-ghost use Rattle.rules.specs.Pool.{mostConcepts};
-ghost use Rattle.rules.specs.Run.{scratchBytes};
+ghost use Rattle.rules.specs.Pool.{most_concepts};
+ghost use Rattle.rules.specs.Run.{scratch_bytes};
 ghost use Rattle.rules.specs.Semantics.{Interpretation};
 ghost use Rattle.pool.specs.Layout.{field};
-ghost use Rattle.states.specs.Masks.{maskOf};
-ghost use Rattle.states.specs.Test.{storeBytes};
-ghost use Rattle.sets.specs.Kept.{setAt};
-ghost use Rattle.sets.specs.Places.{deckWords, conceptsAt};
+ghost use Rattle.states.specs.Masks.{mask_of};
+ghost use Rattle.states.specs.Test.{store_bytes};
+ghost use Rattle.sets.specs.Kept.{set_at};
+ghost use Rattle.sets.specs.Places.{deck_words, concepts_at};
 ghost use Rattle.sets.specs.Laid.{KeptTo, KeptIn};
 ghost use Rattle.extents.specs.Ready.{Ready, Fits, ConceptSets, ReadyThere};
 ghost use Rattle.extents.specs.Sets.{IsSet, ConceptThere};
@@ -37,8 +37,8 @@ pub struct Trial {
 
 // The set of concept c, once it is there.
 pub fn set_of(scratch: &[u8], c: u32) -> u64
-    requires { (c < mostConcepts) × (scratchBytes ≤ length scratch.now) }
-    ensures { result ≡ setAt (words scratch.now) (conceptsAt + c) }
+    requires { (c < most_concepts) × (scratch_bytes ≤ length scratch.now) }
+    ensures { result ≡ set_at (words scratch.now) (concepts_at + c) }
 {
     let at = CONCEPTS + c as usize;
     kept::get_set(scratch, at)
@@ -46,8 +46,8 @@ pub fn set_of(scratch: &[u8], c: u32) -> u64
 
 // The set of individual i, by its class.
 fn individual_set(store: &[u8], base: u32, i: u32) -> u64
-    requires { (base + i < 8192) × (storeBytes ≤ length store.now) }
-    ensures { result ≡ setAt (words store.now) (base + i) }
+    requires { (base + i < 8192) × (store_bytes ≤ length store.now) }
+    ensures { result ≡ set_at (words store.now) (base + i) }
 {
     let c = base + i;
     kept::get_set(store, c as usize)
@@ -55,8 +55,8 @@ fn individual_set(store: &[u8], base: u32, i: u32) -> u64
 
 // What concept c lacks.
 fn complement(scratch: &[u8], c: u32, n: u32) -> u64
-    requires { (c < mostConcepts) × (n ≤ 64) × (scratchBytes ≤ length scratch.now) }
-    ensures { (g : ℕ → Bool) → setAt (words scratch.now) (conceptsAt + c) ≡ maskOf n g → result ≡ maskOf n (λ x. not (g x)) }
+    requires { (c < most_concepts) × (n ≤ 64) × (scratch_bytes ≤ length scratch.now) }
+    ensures { (g : ℕ → Bool) → set_at (words scratch.now) (concepts_at + c) ≡ mask_of n g → result ≡ mask_of n (λ x. not (g x)) }
 {
     let set = set_of(scratch, c);
     let all = sets::whole(n as u64);
@@ -127,7 +127,7 @@ fn concept_set(store: &[u8], scratch: &[u8], c: u32, t: Trial) -> u64
 pub fn concept_sets(store: &[u8], scratch: &mut [u8], t: Trial)
     requires { ReadyThere store.now scratch.old t }
     ensures concept_sets { (d : Known) (I : Interpretation) → Ready d I (words store.now) (words scratch.old) → Fits d I t → ConceptSets d I (length d.concepts) (words scratch.new) }
-    ensures kept_to { KeptTo deckWords (words scratch.old) (words scratch.new) }
+    ensures kept_to { KeptTo deck_words (words scratch.old) (words scratch.new) }
     ensures kept_in { KeptIn 86016 393216 (words scratch.old) (words scratch.new) }
 {
     let n = t.concepts;

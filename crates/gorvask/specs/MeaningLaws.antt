@@ -4,47 +4,47 @@ use Rattle.std.proofs.Common.{sym, ap, subst, ◌∙◌, arith, eqb-true}
 use Prim.{tt}
 use Rattle.words.specs.Words.{words}
 use Rattle.rules.specs.Run.{Lengths, Outcome, accepted, refused, Run}
-use Rattle.rules.specs.RunLaws.{run-never-zero}
+use Rattle.rules.specs.RunLaws.{run_never_zero}
 use Rattle.clausify.specs.declared.Reply.{Reply}
-use Rattle.clausify.specs.Entry.{replyOf, Meaning}
-use Rattle.clausify.specs.Answer.{Answered, runIf, tenOf}
-use Rattle.clausify.specs.MeaningLaws.{run-meaning}
-use Rattle.gorvask.specs.Entry.{codeOf, numbersBytes, runWithNumbers, numbersTable, MeantNumbers}
-use Rattle.gorvask.specs.Replies.{codeOfReply, numbersOf, NumbersFit, TenWords}
+use Rattle.clausify.specs.Entry.{reply_of, Meaning}
+use Rattle.clausify.specs.Answer.{Answered, run_if, ten_of}
+use Rattle.clausify.specs.MeaningLaws.{run_meaning}
+use Rattle.gorvask.specs.Entry.{code_of, numbers_bytes, run_with_numbers, numbers_table, MeantNumbers}
+use Rattle.gorvask.specs.Replies.{code_of_reply, numbers_of, NumbersFit, TenWords}
 
 -- ---- an outcome's reply
-pub code-of : (o : Outcome) → codeOfReply (replyOf o) ≡ codeOf o
-code-of (accepted x) = refl
-code-of (refused n line) = refl
+pub code_of_lem : (o : Outcome) → code_of_reply (reply_of o) ≡ code_of o
+code_of_lem (accepted x) = refl
+code_of_lem (refused n line) = refl
 
-pub numbers-of : (n : ℕ) (o : Outcome) → numbersOf n (replyOf o) ≡ numbersTable n o
-numbers-of n (accepted x) = refl
-numbers-of n (refused k line) = refl
+pub numbers_of_lem : (n : ℕ) (o : Outcome) → numbers_of n (reply_of o) ≡ numbers_table n o
+numbers_of_lem n (accepted x) = refl
+numbers_of_lem n (refused k line) = refl
 
-fit-if : (n : ℕ) (b : Bool) (o : Outcome) → eqb n numbersBytes ≡ b → NumbersFit n (replyOf (runIf b o))
-fit-if n false o e = tt
-fit-if n true (accepted x) e = eqb-true n numbersBytes e
-fit-if n true (refused k line) e = tt
+fit_if : (n : ℕ) (b : Bool) (o : Outcome) → eqb n numbers_bytes ≡ b → NumbersFit n (reply_of (run_if b o))
+fit_if n false o e = tt
+fit_if n true (accepted x) e = eqb-true n numbers_bytes e
+fit_if n true (refused k line) e = tt
 
-pub numbers-fit : (n : ℕ) (deck : List ℕ) (t : Lengths) (r : Reply) → r ≡ replyOf (runWithNumbers n deck t) → NumbersFit n r
-numbers-fit n deck t r e = subst (NumbersFit n) (sym e) (fit-if n (eqb n numbersBytes) (Run deck t) refl)
+pub numbers_fit : (n : ℕ) (deck : List ℕ) (t : Lengths) (r : Reply) → r ≡ reply_of (run_with_numbers n deck t) → NumbersFit n r
+numbers_fit n deck t r e = subst (NumbersFit n) (sym e) (fit_if n (eqb n numbers_bytes) (Run deck t) refl)
 
 -- ---- demand 3
 module _ (deck : List ℕ) (t : Lengths) (c a d : List ℕ) (r : Reply) (numbers : List ℕ) (T : TenWords (words numbers) r) where
   abbrev Numbered : ℕ → Type 0
   Numbered s = s ≡ 0 → Meaning deck c a (get_or (words numbers) 0 0) (get_or (words numbers) 8 0) (get_or (words numbers) 5 0)
 
-  numbered-as : (o : Outcome) → Run deck t ≡ o → Answered o t r c a d → Numbered (codeOf o)
-  numbered-as (accepted x) q A z =
-      let e : words numbers ≡ tenOf _ _ _ = subst (TenWords (words numbers)) A.reply T in
-      rw e (run-meaning deck t x c a q A.clauses A.atoms)
-  numbered-as (refused n line) q A z =
+  numbered_as : (o : Outcome) → Run deck t ≡ o → Answered o t r c a d → Numbered (code_of o)
+  numbered_as (accepted x) q A z =
+      let e : words numbers ≡ ten_of _ _ _ = subst (TenWords (words numbers)) A.reply T in
+      rw e (run_meaning deck t x c a q A.clauses A.atoms)
+  numbered_as (refused n line) q A z =
       let k : n ≡ 0 = omega arith in
-      absurd (run-never-zero deck t line (q ∙ ap (λ (m : ℕ). refused m line) k))
+      absurd (run_never_zero deck t line (q ∙ ap (λ (m : ℕ). refused m line) k))
 
-  numbered-if : (b : Bool) → Answered (runIf b (Run deck t)) t r c a d → Numbered (codeOf (runIf b (Run deck t)))
-  numbered-if true A = numbered-as (Run deck t) refl A
-  numbered-if false A = λ z. absurd (omega arith)
+  numbered_if : (b : Bool) → Answered (run_if b (Run deck t)) t r c a d → Numbered (code_of (run_if b (Run deck t)))
+  numbered_if true A = numbered_as (Run deck t) refl A
+  numbered_if false A = λ z. absurd (omega arith)
 
-  pub meant-numbers : (n s : ℕ) → s ≡ codeOf (runWithNumbers n deck t) → Answered (runWithNumbers n deck t) t r c a d → MeantNumbers deck c a numbers s
-  meant-numbers n s e A = subst Numbered (sym e) (numbered-if (eqb n numbersBytes) A)
+  pub meant_numbers : (n s : ℕ) → s ≡ code_of (run_with_numbers n deck t) → Answered (run_with_numbers n deck t) t r c a d → MeantNumbers deck c a numbers s
+  meant_numbers n s e A = subst Numbered (sym e) (numbered_if (eqb n numbers_bytes) A)

@@ -1,14 +1,14 @@
 // A reply for a caller in C: one number, and a table of ten words.
 ghost use Rattle.std.specs.Prelude.{◌≡◌, length};
 ghost use Rattle.words.specs.Words.{words};
-ghost use Rattle.gorvask.specs.Replies.{numbersOf, NumbersFit, TenWords, codeOfReply};
+ghost use Rattle.gorvask.specs.Replies.{numbers_of, NumbersFit, TenWords, code_of_reply};
 
 use clausify::{Reply, numbers};
 
 // The ten numbers, or zeros on a refusal.
 pub fn put_numbers(numbers: &mut [u8], reply: Reply)
     requires { NumbersFit (length numbers.old) reply }
-    ensures numbers_after { numbers.new ≡ numbersOf (length numbers.old) reply }
+    ensures numbers_after { numbers.new ≡ numbers_of (length numbers.old) reply }
     ensures ten_words { TenWords (words numbers.new) reply }
 {
     match reply {
@@ -19,7 +19,7 @@ pub fn put_numbers(numbers: &mut [u8], reply: Reply)
 
 // A refusal's number × 2^32 + line; 0 where accepted.
 pub fn code(reply: Reply) -> u64
-    ensures { result ≡ codeOfReply reply }
+    ensures { result ≡ code_of_reply reply }
 {
     match reply {
         Reply::Accepted(_, _, _) => 0,

@@ -1,17 +1,17 @@
 // try_axioms and try_clauses for callers in C and Rust.
 ghost use Rattle.std.specs.Prelude.{◌≡◌};
-ghost use Rattle.rules.specs.Run.{scratchTable};
-ghost use Rattle.states.specs.Test.{testState, testedCode, testedClauses, testedAtoms, testedDeferrals, storeTable};
+ghost use Rattle.rules.specs.Run.{scratch_table};
+ghost use Rattle.states.specs.Test.{test_state, tested_code, tested_clauses, tested_atoms, tested_deferrals, store_table};
 ghost use Rattle.states.specs.Test as Test;
 ghost use Rattle.states.specs.Seen.{SeenByAxioms, SeenByClauses};
-ghost use Rattle.trials.specs.Entry.{lentAll};
-ghost use Rattle.gorvask.specs.Trials.{codeOfTried, MeantCode};
+ghost use Rattle.trials.specs.Entry.{lent_all};
+ghost use Rattle.gorvask.specs.Trials.{code_of_tried, MeantCode};
 
 use trials::judged::Tried;
 
 // 0 where all hold, 1 where something is broken; a refusal's number × 2^32 + line.
 fn code(tried: Tried) -> u64
-    ensures { result ≡ codeOfTried tried }
+    ensures { result ≡ code_of_tried tried }
 {
     match tried {
         Tried::Holds => 0,
@@ -31,26 +31,26 @@ pub extern "C" fn gorvask_try_axioms(
     store: &mut [u8],
     scratch: &mut [u8],
 ) -> u64
-    ensures reply { let t = lentAll clauses.old atoms.old deferrals.old store.old scratch.old in
-        let o = testState Test.axioms deck.now state.now t in
-        result ≡ testedCode o }
-    ensures clauses { let t = lentAll clauses.old atoms.old deferrals.old store.old scratch.old in
-        let o = testState Test.axioms deck.now state.now t in
-        clauses.new ≡ testedClauses t o }
-    ensures atoms { let t = lentAll clauses.old atoms.old deferrals.old store.old scratch.old in
-        let o = testState Test.axioms deck.now state.now t in
-        atoms.new ≡ testedAtoms t o }
-    ensures deferrals { let t = lentAll clauses.old atoms.old deferrals.old store.old scratch.old in
-        let o = testState Test.axioms deck.now state.now t in
-        deferrals.new ≡ testedDeferrals t o }
-    ensures store { let t = lentAll clauses.old atoms.old deferrals.old store.old scratch.old in
-        let o = testState Test.axioms deck.now state.now t in
-        store.new ≡ storeTable t o }
-    ensures scratch { let t = lentAll clauses.old atoms.old deferrals.old store.old scratch.old in
-        scratch.new ≡ scratchTable t.run }
+    ensures reply { let t = lent_all clauses.old atoms.old deferrals.old store.old scratch.old in
+        let o = test_state Test.axioms deck.now state.now t in
+        result ≡ tested_code o }
+    ensures clauses { let t = lent_all clauses.old atoms.old deferrals.old store.old scratch.old in
+        let o = test_state Test.axioms deck.now state.now t in
+        clauses.new ≡ tested_clauses t o }
+    ensures atoms { let t = lent_all clauses.old atoms.old deferrals.old store.old scratch.old in
+        let o = test_state Test.axioms deck.now state.now t in
+        atoms.new ≡ tested_atoms t o }
+    ensures deferrals { let t = lent_all clauses.old atoms.old deferrals.old store.old scratch.old in
+        let o = test_state Test.axioms deck.now state.now t in
+        deferrals.new ≡ tested_deferrals t o }
+    ensures store { let t = lent_all clauses.old atoms.old deferrals.old store.old scratch.old in
+        let o = test_state Test.axioms deck.now state.now t in
+        store.new ≡ store_table t o }
+    ensures scratch { let t = lent_all clauses.old atoms.old deferrals.old store.old scratch.old in
+        scratch.new ≡ scratch_table t.run }
     ensures meaning { MeantCode deck.now clauses.new atoms.new store.new result }
-    ensures seen { let t = lentAll clauses.old atoms.old deferrals.old store.old scratch.old in
-        SeenByAxioms deck.now state.now t (testState Test.axioms deck.now state.now t) }
+    ensures seen { let t = lent_all clauses.old atoms.old deferrals.old store.old scratch.old in
+        SeenByAxioms deck.now state.now t (test_state Test.axioms deck.now state.now t) }
 {
     let tried = trials::try_axioms(deck, state, clauses, atoms, deferrals, store, scratch);
     code(tried)
@@ -67,26 +67,26 @@ pub extern "C" fn gorvask_try_clauses(
     store: &mut [u8],
     scratch: &mut [u8],
 ) -> u64
-    ensures reply { let t = lentAll clauses.old atoms.old deferrals.old store.old scratch.old in
-        let o = testState Test.clauses deck.now state.now t in
-        result ≡ testedCode o }
-    ensures clauses { let t = lentAll clauses.old atoms.old deferrals.old store.old scratch.old in
-        let o = testState Test.clauses deck.now state.now t in
-        clauses.new ≡ testedClauses t o }
-    ensures atoms { let t = lentAll clauses.old atoms.old deferrals.old store.old scratch.old in
-        let o = testState Test.clauses deck.now state.now t in
-        atoms.new ≡ testedAtoms t o }
-    ensures deferrals { let t = lentAll clauses.old atoms.old deferrals.old store.old scratch.old in
-        let o = testState Test.clauses deck.now state.now t in
-        deferrals.new ≡ testedDeferrals t o }
-    ensures store { let t = lentAll clauses.old atoms.old deferrals.old store.old scratch.old in
-        let o = testState Test.clauses deck.now state.now t in
-        store.new ≡ storeTable t o }
-    ensures scratch { let t = lentAll clauses.old atoms.old deferrals.old store.old scratch.old in
-        scratch.new ≡ scratchTable t.run }
+    ensures reply { let t = lent_all clauses.old atoms.old deferrals.old store.old scratch.old in
+        let o = test_state Test.clauses deck.now state.now t in
+        result ≡ tested_code o }
+    ensures clauses { let t = lent_all clauses.old atoms.old deferrals.old store.old scratch.old in
+        let o = test_state Test.clauses deck.now state.now t in
+        clauses.new ≡ tested_clauses t o }
+    ensures atoms { let t = lent_all clauses.old atoms.old deferrals.old store.old scratch.old in
+        let o = test_state Test.clauses deck.now state.now t in
+        atoms.new ≡ tested_atoms t o }
+    ensures deferrals { let t = lent_all clauses.old atoms.old deferrals.old store.old scratch.old in
+        let o = test_state Test.clauses deck.now state.now t in
+        deferrals.new ≡ tested_deferrals t o }
+    ensures store { let t = lent_all clauses.old atoms.old deferrals.old store.old scratch.old in
+        let o = test_state Test.clauses deck.now state.now t in
+        store.new ≡ store_table t o }
+    ensures scratch { let t = lent_all clauses.old atoms.old deferrals.old store.old scratch.old in
+        scratch.new ≡ scratch_table t.run }
     ensures meaning { MeantCode deck.now clauses.new atoms.new store.new result }
-    ensures seen { let t = lentAll clauses.old atoms.old deferrals.old store.old scratch.old in
-        SeenByClauses deck.now state.now t (testState Test.clauses deck.now state.now t) }
+    ensures seen { let t = lent_all clauses.old atoms.old deferrals.old store.old scratch.old in
+        SeenByClauses deck.now state.now t (test_state Test.clauses deck.now state.now t) }
 {
     let tried = trials::try_clauses(deck, state, clauses, atoms, deferrals, store, scratch);
     code(tried)

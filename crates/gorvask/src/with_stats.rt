@@ -1,8 +1,8 @@
 // clausify_with_stats for callers in C and Rust.
 ghost use Rattle.std.specs.Prelude.{◌≡◌, length};
-ghost use Rattle.rules.specs.Run.{Run, clauseTable, atomTable, deferralTable, scratchTable};
+ghost use Rattle.rules.specs.Run.{Run, clause_table, atom_table, deferral_table, scratch_table};
 ghost use Rattle.clausify.specs.Entry.{lent};
-ghost use Rattle.gorvask.specs.Entry.{codeOf, runWithNumbers, numbersTable, MeantNumbers};
+ghost use Rattle.gorvask.specs.Entry.{code_of, run_with_numbers, numbers_table, MeantNumbers};
 
 use crate::reply;
 use clausify::fitted;
@@ -19,22 +19,22 @@ pub extern "C" fn gorvask_clausify_with_stats(
     scratch: &mut [u8],
 ) -> u64
     ensures reply { let t = lent clauses.old atoms.old deferrals.old scratch.old in
-        let o = runWithNumbers (length numbers.old) deck.now t in
-        result ≡ codeOf o }
+        let o = run_with_numbers (length numbers.old) deck.now t in
+        result ≡ code_of o }
     ensures clauses { let t = lent clauses.old atoms.old deferrals.old scratch.old in
-        let o = runWithNumbers (length numbers.old) deck.now t in
-        clauses.new ≡ clauseTable t o }
+        let o = run_with_numbers (length numbers.old) deck.now t in
+        clauses.new ≡ clause_table t o }
     ensures atoms { let t = lent clauses.old atoms.old deferrals.old scratch.old in
-        let o = runWithNumbers (length numbers.old) deck.now t in
-        atoms.new ≡ atomTable t o }
+        let o = run_with_numbers (length numbers.old) deck.now t in
+        atoms.new ≡ atom_table t o }
     ensures deferrals { let t = lent clauses.old atoms.old deferrals.old scratch.old in
-        let o = runWithNumbers (length numbers.old) deck.now t in
-        deferrals.new ≡ deferralTable t o }
+        let o = run_with_numbers (length numbers.old) deck.now t in
+        deferrals.new ≡ deferral_table t o }
     ensures numbers { let t = lent clauses.old atoms.old deferrals.old scratch.old in
-        let o = runWithNumbers (length numbers.old) deck.now t in
-        numbers.new ≡ numbersTable (length numbers.old) o }
+        let o = run_with_numbers (length numbers.old) deck.now t in
+        numbers.new ≡ numbers_table (length numbers.old) o }
     ensures scratch { let t = lent clauses.old atoms.old deferrals.old scratch.old in
-        scratch.new ≡ scratchTable t }
+        scratch.new ≡ scratch_table t }
     ensures meaning { MeantNumbers deck.now clauses.new atoms.new numbers.new result }
 {
     let fit = numbers.len() == 40;

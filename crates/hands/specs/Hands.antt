@@ -1,11 +1,11 @@
 -- Bodies and heads in hand, and what a call that emits does to the lent tables.
 use Rattle.std.specs.Prelude.{◌≡◌, false, List, ◌++◌, ℕ, ◌+◌, ◌*◌, ◌<◌, ◌≤◌, length, take}
-use Rattle.ir.specs.Options.{cardDisjunctAtoms, equalNames}
+use Rattle.ir.specs.Options.{card_disjunct_atoms, equal_names}
 use Rattle.ir.specs.declared.counters.Counters.{Counters}
 use Rattle.ir.specs.declared.answer.Answer.{Answer}
 use Rattle.ir.specs.declared.atom.Atom.{Atom}
 use Rattle.rules.specs.Base.{Res, contains}
-use Rattle.rules.specs.Deck.{mostClasses}
+use Rattle.rules.specs.Deck.{most_classes}
 use Rattle.rules.specs.State.{Limit, Env, Out}
 use Rattle.rules.specs.Run.{flat}
 use Rattle.rules.specs.Post.{Post}
@@ -32,12 +32,12 @@ four w c a d = record { scratch = w; clauses = c; atoms = a; deferrals = d }
 
 -- what does not change, as it stands in the counters and in scratch
 pub record EnvIn (env : Env) (k : Counters) (w : List ℕ) : Type 0 where
-  pub nominals : k.nominal_base ≡ env.nominalBase
-  pub option : cardDisjunctAtoms k.options ≡ env.cardDisjunctAtoms
-  pub names : equalNames k.options ≡ env.equalNames
-  pub keys : KeysHeld w env.dkeyClasses
-  pub noKeys : (a : ℕ) → mostClasses ≤ a → contains env.dkeyClasses a ≡ false
-  pub roles : RolesHeld w env.inverseCanon
+  pub nominals : k.nominal_base ≡ env.nominal_base
+  pub option : card_disjunct_atoms k.options ≡ env.card_disjunct_atoms
+  pub names : equal_names k.options ≡ env.equal_names
+  pub keys : KeysHeld w env.dkey_classes
+  pub no_keys : (a : ℕ) → most_classes ≤ a → contains env.dkey_classes a ≡ false
+  pub roles : RolesHeld w env.inverse_canon
 
 -- and in the tables' sizes
 pub record EnvHeld (env : Env) (k : Counters) (x : Four) : Type 0 where

@@ -5,12 +5,12 @@ ghost use Rattle.words.specs.Words.{words};
 ghost use Rattle.ir.specs.declared.atom.Atom.{Atom};
 ghost use Rattle.rules.specs.Base.{Res};
 ghost use Rattle.rules.specs.State.{Env, Out};
-ghost use Rattle.rules.specs.Heads.{emitBy, emitStep, atomicNameOf, nameOr, headAtomFor};
-ghost use Rattle.pool.specs.Layout.{field, conceptAt, poolOf};
+ghost use Rattle.rules.specs.Heads.{emit_by, emit_step, atomic_name_of, name_or, head_atom_for};
+ghost use Rattle.pool.specs.Layout.{field, concept_at, pool_of};
 ghost use Rattle.tables.specs.Drawn.{Sized};
 ghost use Rattle.hands.specs.Hands.{four, Did, Queues};
 ghost use Rattle.leaves.specs.Classes.{Restricts};
-ghost use Rattle.leaves.specs.Leaves.{nameFiller};
+ghost use Rattle.leaves.specs.Leaves.{name_filler};
 ghost use Rattle.leaves.specs.Made.{Small, DidAtom};
 ghost use Rattle.heads.specs.Emits.{Emitting};
 
@@ -41,7 +41,7 @@ pub fn emit_head(
     requires { Emitting scratch.old k base n c × Sized (length clauses.old) (length atoms.old) (length deferrals.old) }
     ensures { let old = four (words scratch.old) (words clauses.old) (words atoms.old) (words deferrals.old) in
         let new = four (words scratch.new) (words clauses.new) (words atoms.new) (words deferrals.new) in
-        let rule : Env → ℕ → List Atom → Out → Res Out (Unit {0}) = λ env f b s. emitBy env (poolOf old.scratch k.concepts) f b c v s in
+        let rule : Env → ℕ → List Atom → Out → Res Out (Unit {0}) = λ env f b s. emit_by env (pool_of old.scratch k.concepts) f b c v s in
         Did (λ _. 0) (suc c) rule k base n old new result × Queues (suc c) rule k base n old new }
 {
     let Visit::Begun(l) = k.visit() else {
@@ -79,8 +79,8 @@ fn emit_under(
     requires { Emitting scratch.old k base n c × Sized (length clauses.old) (length atoms.old) (length deferrals.old) × (field (words scratch.old) c 0 ≡ 10) × (k.next_var ≤ k.visits + 3) }
     ensures { let old = four (words scratch.old) (words clauses.old) (words atoms.old) (words deferrals.old) in
         let new = four (words scratch.new) (words clauses.new) (words atoms.new) (words deferrals.new) in
-        let pool = poolOf old.scratch k.concepts in
-        let rule : Env → ℕ → List Atom → Out → Res Out (Unit {0}) = λ env f b s. emitStep env pool (λ h d u. emitBy env pool f h d u) b v (conceptAt old.scratch c) s in
+        let pool = pool_of old.scratch k.concepts in
+        let rule : Env → ℕ → List Atom → Out → Res Out (Unit {0}) = λ env f b s. emit_step env pool (λ h d u. emit_by env pool f h d u) b v (concept_at old.scratch c) s in
         Did (λ _. 0) c rule k base n old new result × Queues c rule k base n old new }
 {
     if 256 <= n {
@@ -112,8 +112,8 @@ fn emit_all(
     requires { Emitting scratch.old k base n c × Sized (length clauses.old) (length atoms.old) (length deferrals.old) × (field (words scratch.old) c 0 ≡ 7) }
     ensures { let old = four (words scratch.old) (words clauses.old) (words atoms.old) (words deferrals.old) in
         let new = four (words scratch.new) (words clauses.new) (words atoms.new) (words deferrals.new) in
-        let pool = poolOf old.scratch k.concepts in
-        let rule : Env → ℕ → List Atom → Out → Res Out (Unit {0}) = λ env f b s. emitStep env pool (λ h d u. emitBy env pool f h d u) b v (conceptAt old.scratch c) s in
+        let pool = pool_of old.scratch k.concepts in
+        let rule : Env → ℕ → List Atom → Out → Res Out (Unit {0}) = λ env f b s. emit_step env pool (λ h d u. emit_by env pool f h d u) b v (concept_at old.scratch c) s in
         Did (λ _. 0) c rule k base n old new result × Queues c rule k base n old new }
 {
     let start = concept::child(scratch, c);
@@ -153,8 +153,8 @@ fn emit_or(
     requires { Emitting scratch.old k base n c × Sized (length clauses.old) (length atoms.old) (length deferrals.old) × (field (words scratch.old) c 0 ≡ 8) }
     ensures { let old = four (words scratch.old) (words clauses.old) (words atoms.old) (words deferrals.old) in
         let new = four (words scratch.new) (words clauses.new) (words atoms.new) (words deferrals.new) in
-        let pool = poolOf old.scratch k.concepts in
-        let rule : Env → ℕ → List Atom → Out → Res Out (Unit {0}) = λ env f b s. emitStep env pool (λ h d u. emitBy env pool f h d u) b v (conceptAt old.scratch c) s in
+        let pool = pool_of old.scratch k.concepts in
+        let rule : Env → ℕ → List Atom → Out → Res Out (Unit {0}) = λ env f b s. emit_step env pool (λ h d u. emit_by env pool f h d u) b v (concept_at old.scratch c) s in
         Did (λ _. 0) c rule k base n old new result × Queues c rule k base n old new }
 {
     let start = concept::child(scratch, c);
@@ -201,8 +201,8 @@ pub fn head_atom_for(
     requires { Emitting scratch.old k base 1 c × Sized (length clauses.old) (length atoms.old) (length deferrals.old) }
     ensures { let old = four (words scratch.old) (words clauses.old) (words atoms.old) (words deferrals.old) in
         let new = four (words scratch.new) (words clauses.new) (words atoms.new) (words deferrals.new) in
-        let pool = poolOf old.scratch k.concepts in
-        let rule : Env → ℕ → Out → Res Out (Option Atom) = λ env f s. headAtomFor env pool (λ h d u. emitBy env pool f h d u) c v s in
+        let pool = pool_of old.scratch k.concepts in
+        let rule : Env → ℕ → Out → Res Out (Option Atom) = λ env f s. head_atom_for env pool (λ h d u. emit_by env pool f h d u) c v s in
         DidAtom (suc c) rule k base old new result × Queues (suc c) (λ env f b s. rule env f s) k base 0 old new }
 {
     let Visit::Begun(l) = k.visit() else {
@@ -234,11 +234,11 @@ fn name_filler(
     base: usize,
     c: u32,
 ) -> Answer
-    requires { Emitting scratch.old k base 0 c × Sized (length clauses.old) (length atoms.old) (length deferrals.old) × Restricts (conceptAt (words scratch.old) c) }
+    requires { Emitting scratch.old k base 0 c × Sized (length clauses.old) (length atoms.old) (length deferrals.old) × Restricts (concept_at (words scratch.old) c) }
     ensures { let old = four (words scratch.old) (words clauses.old) (words atoms.old) (words deferrals.old) in
         let new = four (words scratch.new) (words clauses.new) (words atoms.new) (words deferrals.new) in
-        let pool = poolOf old.scratch k.concepts in
-        let rule : Env → ℕ → List Atom → Out → Res Out ℕ = λ env f b s. nameFiller env pool (atomicNameOf env pool (λ h d u. emitBy env pool f h d u)) (conceptAt old.scratch c) s in
+        let pool = pool_of old.scratch k.concepts in
+        let rule : Env → ℕ → List Atom → Out → Res Out ℕ = λ env f b s. name_filler env pool (atomic_name_of env pool (λ h d u. emit_by env pool f h d u)) (concept_at old.scratch c) s in
         Did (λ q. q) c rule k base 0 old new result × Small result × Queues c rule k base 0 old new }
 {
     let d = concept::child(scratch, c);
@@ -260,8 +260,8 @@ pub fn atomic_name_of(
     requires { Emitting scratch.old k base 1 c × Sized (length clauses.old) (length atoms.old) (length deferrals.old) }
     ensures { let old = four (words scratch.old) (words clauses.old) (words atoms.old) (words deferrals.old) in
         let new = four (words scratch.new) (words clauses.new) (words atoms.new) (words deferrals.new) in
-        let pool = poolOf old.scratch k.concepts in
-        let rule : Env → ℕ → List Atom → Out → Res Out ℕ = λ env f b s. atomicNameOf env pool (λ h d u. emitBy env pool f h d u) c s in
+        let pool = pool_of old.scratch k.concepts in
+        let rule : Env → ℕ → List Atom → Out → Res Out ℕ = λ env f b s. atomic_name_of env pool (λ h d u. emit_by env pool f h d u) c s in
         Did (λ q. q) (suc c) rule k base 0 old new result × Small result × Queues (suc c) rule k base 0 old new }
 {
     let Visit::Begun(l) = k.visit() else {
@@ -287,8 +287,8 @@ fn name_new(
     requires { Emitting scratch.old k base 1 c × Sized (length clauses.old) (length atoms.old) (length deferrals.old) × (k.next_class ≤ k.visits + 8191) }
     ensures { let old = four (words scratch.old) (words clauses.old) (words atoms.old) (words deferrals.old) in
         let new = four (words scratch.new) (words clauses.new) (words atoms.new) (words deferrals.new) in
-        let pool = poolOf old.scratch k.concepts in
-        let rule : Env → ℕ → List Atom → Out → Res Out ℕ = λ env f b s. nameOr env pool (λ h d u. emitBy env pool f h d u) c none s in
+        let pool = pool_of old.scratch k.concepts in
+        let rule : Env → ℕ → List Atom → Out → Res Out ℕ = λ env f b s. name_or env pool (λ h d u. emit_by env pool f h d u) c none s in
         Did (λ q. q) (suc c) rule k base 0 old new result × Small result × Queues (suc c) rule k base 0 old new }
 {
     let q = k.next_class;

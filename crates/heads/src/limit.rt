@@ -2,11 +2,11 @@
 ghost use Rattle.std.specs.Prelude.{◌≡◌, ◌&&◌, ◌+◌, ◌*◌, ◌<◌, ◌≤◌, length};
 ghost use Rattle.words.specs.Words.{words};
 ghost use Rattle.ir.specs.Pick.{pick};
-ghost use Rattle.ir.specs.Options.{equalNames};
-ghost use Rattle.ir.specs.Scratch.{limitsAt, limitsWords};
-ghost use Rattle.pool.specs.Layout.{conceptAt};
+ghost use Rattle.ir.specs.Options.{equal_names};
+ghost use Rattle.ir.specs.Scratch.{limits_at, limits_words};
+ghost use Rattle.pool.specs.Layout.{concept_at};
 ghost use Rattle.waiting.specs.Limits.{appended};
-ghost use Rattle.leaves.specs.Classes.{isMax, anew};
+ghost use Rattle.leaves.specs.Classes.{is_max, anew};
 ghost use Rattle.leaves.specs.Reading.{Reading};
 
 use ir::counters::Counters;
@@ -16,7 +16,7 @@ use pool::record as concept;
 // Whether a name of concept d is a fresh one.
 fn named_anew(scratch: &[u8], k: Counters, d: u32) -> bool
     requires { Reading scratch.now k × (d < k.concepts) }
-    ensures { result ≡ anew (conceptAt (words scratch.now) d) }
+    ensures { result ≡ anew (concept_at (words scratch.now) d) }
 {
     match concept::kind(scratch, d) {
         1 => false,
@@ -29,7 +29,7 @@ fn named_anew(scratch: &[u8], k: Counters, d: u32) -> bool
 // Whether the filler d of restriction c waits.
 fn waits(scratch: &[u8], k: Counters, c: u32, d: u32) -> bool
     requires { Reading scratch.now k × (c < k.concepts) × (d < k.concepts) }
-    ensures { result ≡ (equalNames k.options && (isMax (conceptAt (words scratch.now) c) && anew (conceptAt (words scratch.now) d))) }
+    ensures { result ≡ (equal_names k.options && (is_max (concept_at (words scratch.now) c) && anew (concept_at (words scratch.now) d))) }
 {
     if !options::equal_names(k.options) {
         return false;
@@ -42,9 +42,9 @@ fn waits(scratch: &[u8], k: Counters, c: u32, d: u32) -> bool
 
 // Where it does: under the name that it gets, which is the next fresh class.
 pub fn wait(scratch: &mut [u8], k: Counters, c: u32, d: u32)
-    requires { Reading scratch.old k × (c < k.concepts) × (d < k.concepts) × (4 * (limitsAt + limitsWords) ≤ length scratch.old) }
+    requires { Reading scratch.old k × (c < k.concepts) × (d < k.concepts) × (4 * (limits_at + limits_words) ≤ length scratch.old) }
     ensures { let w = words scratch.old in
-        words scratch.new ≡ pick (equalNames k.options && (isMax (conceptAt w c) && anew (conceptAt w d))) (appended w d k.next_class) w }
+        words scratch.new ≡ pick (equal_names k.options && (is_max (concept_at w c) && anew (concept_at w d))) (appended w d k.next_class) w }
 {
     if waits(scratch, k, c, d) {
         waiting::append(scratch, d, k.next_class);

@@ -3,14 +3,14 @@ ghost use Rattle.std.specs.Prelude.{List, ℕ, ◌<◌, length};
 ghost use Rattle.words.specs.Words.{words};
 ghost use Rattle.ir.specs.declared.atom.Atom.{Atom};
 ghost use Rattle.rules.specs.State.{Env, E};
-ghost use Rattle.rules.specs.Axioms.{C, absorbHardAntecedent};
-ghost use Rattle.pool.specs.Layout.{run, poolOf};
+ghost use Rattle.rules.specs.Axioms.{C, absorb_hard_antecedent};
+ghost use Rattle.pool.specs.Layout.{run, pool_of};
 ghost use Rattle.tables.specs.Drawn.{Sized};
 ghost use Rattle.hands.specs.Hands.{four, Did, Queues};
-ghost use Rattle.axioms.specs.RoleAxioms.{handAt};
+ghost use Rattle.axioms.specs.RoleAxioms.{hand_at};
 ghost use Rattle.axioms.specs.Wholes.{Clausifying, ClausifyingAfter, Clausified, Queued};
-ghost use Rattle.inclusions.specs.Parted.{softAt, hardAt};
-ghost use Rattle.inclusions.specs.Absorbs.{givesHead, absorbNone, absorbSome, Divided};
+ghost use Rattle.inclusions.specs.Parted.{soft_at, hard_at};
+ghost use Rattle.inclusions.specs.Absorbs.{gives_head, absorb_none, absorb_some, Divided};
 
 use crate::parts;
 use crate::parts::Parts;
@@ -34,7 +34,7 @@ fn absorb_none(
     requires { Clausifying scratch.old k × (sub < k.concepts) × (sup < k.concepts) × Sized (length clauses.old) (length atoms.old) (length deferrals.old) }
     ensures clausified { let old = four (words scratch.old) (words clauses.old) (words atoms.old) (words deferrals.old) in
         let new = four (words scratch.new) (words clauses.new) (words atoms.new) (words deferrals.new) in
-        let rule : Env → C (Unit {0}) = λ env. absorbNone env sub sup in
+        let rule : Env → C (Unit {0}) = λ env. absorb_none env sub sup in
         Clausified rule k old new result × Queued rule k old new }
     ensures clausifying_after { ClausifyingAfter scratch.new result }
 {
@@ -61,8 +61,8 @@ fn emit_soft(
     requires { Clausifying scratch.old k × (g < k.concepts) × (head < k.concepts) × Sized (length clauses.old) (length atoms.old) (length deferrals.old) }
     ensures { let old = four (words scratch.old) (words clauses.old) (words atoms.old) (words deferrals.old) in
         let new = four (words scratch.new) (words clauses.new) (words atoms.new) (words deferrals.new) in
-        let rule : Env → ℕ → List Atom → E (Unit {0}) = λ env f b s. givesHead env g head (poolOf old.scratch k.concepts) s in
-        Did (λ _. 0) 0 rule k handAt 0 old new result × Queues 0 rule k handAt 0 old new }
+        let rule : Env → ℕ → List Atom → E (Unit {0}) = λ env f b s. gives_head env g head (pool_of old.scratch k.concepts) s in
+        Did (λ _. 0) 0 rule k hand_at 0 old new result × Queues 0 rule k hand_at 0 old new }
 {
     let l = k.restart_vars();
     match antecedents::encode_antecedent(scratch, l, g) {
@@ -89,7 +89,7 @@ fn absorb_some(
     requires { Clausifying scratch.old k × (sub < k.concepts) × (sup < k.concepts) × Divided scratch.old k sub soft hard × Sized (length clauses.old) (length atoms.old) (length deferrals.old) }
     ensures clausified { let old = four (words scratch.old) (words clauses.old) (words atoms.old) (words deferrals.old) in
         let new = four (words scratch.new) (words clauses.new) (words atoms.new) (words deferrals.new) in
-        let rule : Env → C (Unit {0}) = λ env. absorbSome env sup (run old.scratch softAt soft) (run old.scratch hardAt hard) in
+        let rule : Env → C (Unit {0}) = λ env. absorb_some env sup (run old.scratch soft_at soft) (run old.scratch hard_at hard) in
         Clausified rule k old new result × Queued rule k old new }
     ensures clausifying_after { ClausifyingAfter scratch.new result }
 {
@@ -117,7 +117,7 @@ pub fn absorb_hard_antecedent(
     requires { Clausifying scratch.old k × (sub < k.concepts) × (sup < k.concepts) × Sized (length clauses.old) (length atoms.old) (length deferrals.old) }
     ensures clausified { let old = four (words scratch.old) (words clauses.old) (words atoms.old) (words deferrals.old) in
         let new = four (words scratch.new) (words clauses.new) (words atoms.new) (words deferrals.new) in
-        let rule : Env → C (Unit {0}) = λ env. absorbHardAntecedent env sub sup in
+        let rule : Env → C (Unit {0}) = λ env. absorb_hard_antecedent env sub sup in
         Clausified rule k old new result × Queued rule k old new }
     ensures clausifying_after { ClausifyingAfter scratch.new result }
 {

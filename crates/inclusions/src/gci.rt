@@ -2,7 +2,7 @@
 ghost use Rattle.std.specs.Prelude.{◌≡◌, ◌<◌, length};
 ghost use Rattle.words.specs.Words.{words};
 ghost use Rattle.rules.specs.State.{Env};
-ghost use Rattle.rules.specs.Axioms.{C, clausifyGci};
+ghost use Rattle.rules.specs.Axioms.{C, clausify_gci};
 ghost use Rattle.pool.specs.Layout.{field};
 ghost use Rattle.tables.specs.Drawn.{Sized};
 ghost use Rattle.hands.specs.Hands.{four};
@@ -31,7 +31,7 @@ fn clausify_alternatives(
     requires { Clausifying scratch.old k × (sub < k.concepts) × (sup < k.concepts) × Sized (length clauses.old) (length atoms.old) (length deferrals.old) }
     ensures clausified { let old = four (words scratch.old) (words clauses.old) (words atoms.old) (words deferrals.old) in
         let new = four (words scratch.new) (words clauses.new) (words atoms.new) (words deferrals.new) in
-        let rule : Env → C (Unit {0}) = λ env. clausifyGci env sub sup in
+        let rule : Env → C (Unit {0}) = λ env. clausify_gci env sub sup in
         Clausified rule k old new result × Queued rule k old new }
     ensures clausifying_after { ClausifyingAfter scratch.new result }
 {
@@ -60,7 +60,7 @@ fn clausify_class(
     requires { Clausifying scratch.old k × (sub < k.concepts) × (sup < k.concepts) × Sized (length clauses.old) (length atoms.old) (length deferrals.old) × (field (words scratch.old) sub 0 ≡ 3) }
     ensures clausified { let old = four (words scratch.old) (words clauses.old) (words atoms.old) (words deferrals.old) in
         let new = four (words scratch.new) (words clauses.new) (words atoms.new) (words deferrals.new) in
-        let rule : Env → C (Unit {0}) = λ env. clausifyGci env sub sup in
+        let rule : Env → C (Unit {0}) = λ env. clausify_gci env sub sup in
         Clausified rule k old new result × Queued rule k old new }
     ensures clausifying_after { ClausifyingAfter scratch.new result }
 {
@@ -85,7 +85,7 @@ pub fn clausify_gci(
     requires { Clausifying scratch.old k × (sub < k.concepts) × (sup < k.concepts) × Sized (length clauses.old) (length atoms.old) (length deferrals.old) }
     ensures clausified { let old = four (words scratch.old) (words clauses.old) (words atoms.old) (words deferrals.old) in
         let new = four (words scratch.new) (words clauses.new) (words atoms.new) (words deferrals.new) in
-        let rule : Env → C (Unit {0}) = λ env. clausifyGci env sub sup in
+        let rule : Env → C (Unit {0}) = λ env. clausify_gci env sub sup in
         Clausified rule k old new result × Queued rule k old new }
     ensures clausifying_after { ClausifyingAfter scratch.new result }
 {

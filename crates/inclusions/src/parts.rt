@@ -1,17 +1,17 @@
 // The conjuncts of a hard antecedent, and the concepts that are made of them.
 ghost use Rattle.std.specs.Prelude.{◌≡◌, [], ◌+◌, ◌≤◌, ◌<◌, length, take};
 ghost use Rattle.words.specs.Words.{words};
-ghost use Rattle.ir.specs.Scratch.{stackAt};
-ghost use Rattle.rules.specs.Pool.{at, members, mostConcepts, mostMembers};
+ghost use Rattle.ir.specs.Scratch.{stack_at};
+ghost use Rattle.rules.specs.Pool.{at, members, most_concepts, most_members};
 ghost use Rattle.rules.specs.State.{Env, Out};
 ghost use Rattle.rules.specs.Axioms.{conjuncts, partition};
 ghost use Rattle.rules.specs.Invariants.{Each};
-ghost use Rattle.pool.specs.Layout.{poolBytes, poolOf, run};
+ghost use Rattle.pool.specs.Layout.{pool_bytes, pool_of, run};
 ghost use Rattle.tables.specs.Good.{Good};
 ghost use Rattle.leaves.specs.Reading.{Reading};
 ghost use Rattle.antecedents.specs.States.{Counted};
-ghost use Rattle.inclusions.specs.Conjuncts.{countIn, conjunctIn, MemberIn};
-ghost use Rattle.inclusions.specs.Parted.{softAt, hardAt, inPartsBytes, headAlone, headOver, softAndOf, partedAfter, partedOf, PartsIn, Normalised};
+ghost use Rattle.inclusions.specs.Conjuncts.{count_in, conjunct_in, MemberIn};
+ghost use Rattle.inclusions.specs.Parted.{soft_at, hard_at, in_parts_bytes, head_alone, head_over, soft_and_of, parted_after, parted_of, PartsIn, Normalised};
 
 use ir::answer::{Answer, Encoded};
 use ir::counters::Counters;
@@ -34,8 +34,8 @@ pub enum Parts {
 
 // How many top-level conjuncts concept c has.
 fn conjunct_count(scratch: &[u8], c: u32) -> u32
-    requires { (c < mostConcepts) × (poolBytes ≤ length scratch.now) }
-    ensures { result ≡ countIn (words scratch.now) c }
+    requires { (c < most_concepts) × (pool_bytes ≤ length scratch.now) }
+    ensures { result ≡ count_in (words scratch.now) c }
 {
     if record::kind(scratch, c) == AND {
         return record::number(scratch, c);
@@ -45,8 +45,8 @@ fn conjunct_count(scratch: &[u8], c: u32) -> u32
 
 // Conjunct i of concept c.
 fn conjunct(scratch: &[u8], c: u32, i: u32) -> u32
-    requires { (c < mostConcepts) × (poolBytes ≤ length scratch.now) × MemberIn (words scratch.now) c i }
-    ensures { result ≡ conjunctIn (words scratch.now) c i }
+    requires { (c < most_concepts) × (pool_bytes ≤ length scratch.now) × MemberIn (words scratch.now) c i }
+    ensures { result ≡ conjunct_in (words scratch.now) c i }
 {
     if record::kind(scratch, c) == AND {
         return words::get_word(
@@ -59,10 +59,10 @@ fn conjunct(scratch: &[u8], c: u32, i: u32) -> u32
 
 // Each conjunct of c is encoded; those that have no alternatives are hard.
 pub fn partition(scratch: &mut [u8], k: Counters, c: u32) -> Parts
-    requires { Reading scratch.old k × Good k × (c < k.concepts) × (inPartsBytes ≤ length scratch.old) }
-    ensures scratch_after { (env : Env) (s : Out) → Counted k s → partedAfter result (words scratch.new) ≡ partedOf k (partition env (poolOf (words scratch.old) k.concepts) (conjuncts c (at (poolOf (words scratch.old) k.concepts) c)) [] [] s) }
+    requires { Reading scratch.old k × Good k × (c < k.concepts) × (in_parts_bytes ≤ length scratch.old) }
+    ensures scratch_after { (env : Env) (s : Out) → Counted k s → parted_after result (words scratch.new) ≡ parted_of k (partition env (pool_of (words scratch.old) k.concepts) (conjuncts c (at (pool_of (words scratch.old) k.concepts) c)) [] [] s) }
     ensures parts_in { PartsIn k c (words scratch.old) (words scratch.new) result }
-    ensures scratch_unchanged { take stackAt (words scratch.new) ≡ take stackAt (words scratch.old) }
+    ensures scratch_unchanged { take stack_at (words scratch.new) ≡ take stack_at (words scratch.old) }
 {
     let n = conjunct_count(scratch, c);
     let mut l = k;
@@ -92,8 +92,8 @@ pub fn partition(scratch: &mut [u8], k: Counters, c: u32) -> Parts
 
 // The negation of sub, or sup.
 pub fn head_alone(scratch: &mut [u8], k: Counters, sub: u32, sup: u32) -> Answer
-    requires { Reading scratch.old k × Good k × (sub < k.concepts) × (sup < k.concepts) × (inPartsBytes ≤ length scratch.old) }
-    ensures { Normalised (headAlone sub sup) k scratch.old scratch.new result }
+    requires { Reading scratch.old k × Good k × (sub < k.concepts) × (sup < k.concepts) × (in_parts_bytes ≤ length scratch.old) }
+    ensures { Normalised (head_alone sub sup) k scratch.old scratch.new result }
 {
     match nnf::push_negation_in(scratch, k, sub) {
         Answer::Done(l, negated) => {
@@ -107,8 +107,8 @@ pub fn head_alone(scratch: &mut [u8], k: Counters, sub: u32, sup: u32) -> Answer
 
 // The negations of the hard conjuncts of sub, or sup.
 pub fn head_over(scratch: &mut [u8], k: Counters, hard: u32, sub: u32, sup: u32) -> Answer
-    requires { Reading scratch.old k × Good k × (sub < k.concepts) × (sup < k.concepts) × (inPartsBytes ≤ length scratch.old) × Each (λ d. d < sub) (run (words scratch.old) hardAt hard) × (hard + members (poolOf (words scratch.old) sub) ≤ mostMembers) }
-    ensures { Normalised (headOver (run (words scratch.old) hardAt hard) sup) k scratch.old scratch.new result }
+    requires { Reading scratch.old k × Good k × (sub < k.concepts) × (sup < k.concepts) × (in_parts_bytes ≤ length scratch.old) × Each (λ d. d < sub) (run (words scratch.old) hard_at hard) × (hard + members (pool_of (words scratch.old) sub) ≤ most_members) }
+    ensures { Normalised (head_over (run (words scratch.old) hard_at hard) sup) k scratch.old scratch.new result }
 {
     match nnf::normal_run(scratch, k, HARD, hard, HARD + hard as usize, sub, true) {
         Answer::Done(l, _) => {
@@ -121,8 +121,8 @@ pub fn head_over(scratch: &mut [u8], k: Counters, hard: u32, sub: u32, sup: u32)
 
 // The conjunction of the soft conjuncts.
 pub fn soft_and(scratch: &mut [u8], k: Counters, soft: u32) -> Answer
-    requires { Reading scratch.old k × Good k × (soft ≤ mostMembers) × (inPartsBytes ≤ length scratch.old) × Each (λ d. d < k.concepts) (run (words scratch.old) softAt soft) }
-    ensures { Normalised (softAndOf (run (words scratch.old) softAt soft)) k scratch.old scratch.new result }
+    requires { Reading scratch.old k × Good k × (soft ≤ most_members) × (in_parts_bytes ≤ length scratch.old) × Each (λ d. d < k.concepts) (run (words scratch.old) soft_at soft) }
+    ensures { Normalised (soft_and_of (run (words scratch.old) soft_at soft)) k scratch.old scratch.new result }
 {
     if soft == 1 {
         return Answer::Done(k, words::get_word(scratch, SOFT));

@@ -5,143 +5,143 @@ use Rattle.std.proofs.Math.Bool.{false}
 use borrow.Author.Tests.{eqb-true, eqb-false, ne_eqb, eq-eqb}
 use Rattle.std.proofs.Math.Dec.{eqb}
 use Rattle.words.specs.Words.{words}
-use Rattle.words.specs.Laws.{length-words}
-use Rattle.ir.specs.Scratch.{rolesAt}
-use Rattle.ir.specs.Roles.{roleId, roleCode, roleOf, isInverse}
+use Rattle.words.specs.Laws.{length_words}
+use Rattle.ir.specs.Scratch.{roles_at}
+use Rattle.ir.specs.Roles.{role_id, role_code, role_of, is_inverse}
 use Rattle.ir.specs.declared.role.Role.TheVariants.{Named, Inverse}
-use Rattle.rules.specs.Base.{isSome}
-use Rattle.rules.specs.Deck.{mostRoles}
-use Rattle.rules.specs.Inverse.{InverseCanon, lookup, skipped, declared, canonOf, canonRole}
-use Rattle.rules.specs.TextLaws.{by-test}
+use Rattle.rules.specs.Base.{is_some}
+use Rattle.rules.specs.Deck.{most_roles}
+use Rattle.rules.specs.Inverse.{InverseCanon, lookup, skipped, declared, canon_of, canon_role}
+use Rattle.rules.specs.TextLaws.{by_test}
 use Rattle.inverse.specs.Layout.{RolesHeld, MappedAt, free, key, Mapped, Beside}
-use Rattle.inverse.specs.Laws.{even-named, odd-inverse}
+use Rattle.inverse.specs.Laws.{even_named, odd_inverse}
 
 -- the map that canon_role reads
-pub mapped-held : (w : List ℕ) (m : InverseCanon) → Mapped w m mostRoles → RolesHeld w m
-unfolding canonRole
-mapped-held w m M = record { mapped = λ r l. at r (M.each r l) }
+pub mapped_held : (w : List ℕ) (m : InverseCanon) → Mapped w m most_roles → RolesHeld w m
+unfolding canon_role
+mapped_held w m M = record { mapped = λ r l. at r (M.each r l) }
   where
-    at : (r : ℕ) → MappedAt w m r → get_or w (rolesAt + r) 0 ≡ roleCode (canonOf (Named r) (lookup m r))
+    at : (r : ℕ) → MappedAt w m r → get_or w (roles_at + r) 0 ≡ role_code (canon_of (Named r) (lookup m r))
     at r (free a b) = rw a b
     at r (key i a b) = rw a b
 
 -- ---- keys
-pub key-is : (w : List ℕ) (m : InverseCanon) (r x : ℕ) → Mapped w m mostRoles → r < mostRoles → x ≡ get_or w (rolesAt + r) 0 → eqb (x % 2) 1 ≡ isSome (lookup m r)
-key-is w m r x M l e = at (M.each r l)
+pub key_is : (w : List ℕ) (m : InverseCanon) (r x : ℕ) → Mapped w m most_roles → r < most_roles → x ≡ get_or w (roles_at + r) 0 → eqb (x % 2) 1 ≡ is_some (lookup m r)
+key_is w m r x M l e = at (M.each r l)
   where
-    at : MappedAt w m r → eqb (x % 2) 1 ≡ isSome (lookup m r)
+    at : MappedAt w m r → eqb (x % 2) 1 ≡ is_some (lookup m r)
     at (free a b) = let o : x % 2 ≡ 0 = omega arith in rw (a, o) refl
     at (key i a b) = let o : x % 2 ≡ 1 = omega arith in rw (a, o) refl
 
 -- ---- an axiom that makes no entry
-or-true : (b : Bool) → (b || true) ≡ true
-or-true true = refl
-or-true false = refl
+or_true : (b : Bool) → (b || true) ≡ true
+or_true true = refl
+or_true false = refl
 
-even-of : (c : ℕ) → (c % 2 ≡ 1 → ⊥) → c % 2 ≡ 0
-even-of c h = two (c % 2) (omega arith) h
+even_of : (c : ℕ) → (c % 2 ≡ 1 → ⊥) → c % 2 ≡ 0
+even_of c h = two (c % 2) (omega arith) h
   where
     two : (n : ℕ) → n < 2 → (n ≡ 1 → ⊥) → n ≡ 0
     two zero l h = refl
     two (suc n) l h = absurd (h (omega arith))
 
-odd-of : (c : ℕ) → c % 2 ≡ 1 → c % 2 ≡ 0 → ⊥
-odd-of c h e = absurd (omega arith)
+odd_of : (c : ℕ) → c % 2 ≡ 1 → c % 2 ≡ 0 → ⊥
+odd_of c h e = absurd (omega arith)
 
 module _ (m : InverseCanon) (r s : ℕ) where
-  pub skip-inverse : r % 2 ≡ 1 → true ≡ skipped m (roleOf r) (roleOf s)
-  skip-inverse h = rw (odd-inverse r (odd-of r h)) refl
+  pub skip_inverse : r % 2 ≡ 1 → true ≡ skipped m (role_of r) (role_of s)
+  skip_inverse h = rw (odd_inverse r (odd_of r h)) refl
 
-  pub skip-second : s % 2 ≡ 1 → true ≡ skipped m (roleOf r) (roleOf s)
-  skip-second h = rw (odd-inverse s (odd-of s h)) (by (isInverse (roleOf r)))
+  pub skip_second : s % 2 ≡ 1 → true ≡ skipped m (role_of r) (role_of s)
+  skip_second h = rw (odd_inverse s (odd_of s h)) (by (is_inverse (role_of r)))
     where
-      by : (b : Bool) → true ≡ (b || true || eqb (roleId (roleOf r)) (s / 2) || isSome (lookup m (roleId (roleOf r))) || isSome (lookup m (s / 2)))
+      by : (b : Bool) → true ≡ (b || true || eqb (role_id (role_of r)) (s / 2) || is_some (lookup m (role_id (role_of r))) || is_some (lookup m (s / 2)))
       by true = refl
       by false = refl
 
   module _ (p : r % 2 ≡ 1 → ⊥) (q : s % 2 ≡ 1 → ⊥) where
-    pub skip-same : r ≡ s → true ≡ skipped m (roleOf r) (roleOf s)
-    skip-same e = rw (even-named r (even-of r p), even-named s (even-of s q), e, eq-eqb (s / 2) (s / 2) refl) refl
+    pub skip_same : r ≡ s → true ≡ skipped m (role_of r) (role_of s)
+    skip_same e = rw (even_named r (even_of r p), even_named s (even_of s q), e, eq-eqb (s / 2) (s / 2) refl) refl
 
-    pub skip-keys : (a b : Bool) → (r ≡ s → ⊥) → a ≡ isSome (lookup m (r / 2)) → b ≡ isSome (lookup m (s / 2)) → (a || b) ≡ skipped m (roleOf r) (roleOf s)
-    skip-keys a b d e f =
-        let x = even-of r p in
-        let y = even-of s q in
+    pub skip_keys : (a b : Bool) → (r ≡ s → ⊥) → a ≡ is_some (lookup m (r / 2)) → b ≡ is_some (lookup m (s / 2)) → (a || b) ≡ skipped m (role_of r) (role_of s)
+    skip_keys a b d e f =
+        let x = even_of r p in
+        let y = even_of s q in
         let o : r / 2 ≡ s / 2 → ⊥ = λ z. absurd (d (omega arith)) in
-        rw (even-named r x, even-named s y, ne_eqb (r / 2) (s / 2) o, e, f) refl
+        rw (even_named r x, even_named s y, ne_eqb (r / 2) (s / 2) o, e, f) refl
 
 -- ---- one entry more
-module _ (w w' : List ℕ) (m : InverseCanon) (r s : ℕ) (M : Mapped w m mostRoles) where
-  pub declare-skip : skipped m (roleOf r) (roleOf s) ≡ true → w' ≡ w → Mapped w' (declared m (roleOf r) (roleOf s)) mostRoles
-  declare-skip h e = rw (h, e) M
+module _ (w w' : List ℕ) (m : InverseCanon) (r s : ℕ) (M : Mapped w m most_roles) where
+  pub declare_skip : skipped m (role_of r) (role_of s) ≡ true → w' ≡ w → Mapped w' (declared m (role_of r) (role_of s)) most_roles
+  declare_skip h e = rw (h, e) M
 
-  module _ (h : skipped m (roleOf r) (roleOf s) ≡ false) (e : w' ≡ set w (rolesAt + s / 2) (r + 1)) (long : rolesAt + mostRoles ≤ length w) where
+  module _ (h : skipped m (role_of r) (role_of s) ≡ false) (e : w' ≡ set w (roles_at + s / 2) (r + 1)) (long : roles_at + most_roles ≤ length w) where
     p : r % 2 ≡ 0
-    p = by-test (eqb (r % 2) 1) (λ t. absurd (let z : true ≡ false = skip-inverse m r s (eqb-true (r % 2) 1 t) ∙ h in let y : ◌≡◌ {A = ℕ} 0 1 = cc in omega arith)) (λ t. even-of r (eqb-false (r % 2) 1 t))
+    p = by_test (eqb (r % 2) 1) (λ t. absurd (let z : true ≡ false = skip_inverse m r s (eqb-true (r % 2) 1 t) ∙ h in let y : ◌≡◌ {A = ℕ} 0 1 = cc in omega arith)) (λ t. even_of r (eqb-false (r % 2) 1 t))
 
     q : s % 2 ≡ 0
-    q = by-test (eqb (s % 2) 1) (λ t. absurd (let z : true ≡ false = skip-second m r s (eqb-true (s % 2) 1 t) ∙ h in let y : ◌≡◌ {A = ℕ} 0 1 = cc in omega arith)) (λ t. even-of s (eqb-false (s % 2) 1 t))
+    q = by_test (eqb (s % 2) 1) (λ t. absurd (let z : true ≡ false = skip_second m r s (eqb-true (s % 2) 1 t) ∙ h in let y : ◌≡◌ {A = ℕ} 0 1 = cc in omega arith)) (λ t. even_of s (eqb-false (s % 2) 1 t))
 
-    entry : (k : ℕ) → k < mostRoles → MappedAt w' (declared m (roleOf r) (roleOf s)) k
+    entry : (k : ℕ) → k < most_roles → MappedAt w' (declared m (role_of r) (role_of s)) k
     unfolding lookup
-    entry k l = rw (h, even-named r p, even-named s q) (by-test (eqb (s / 2) k)
+    entry k l = rw (h, even_named r p, even_named s q) (by_test (eqb (s / 2) k)
         (λ t. let z : s / 2 ≡ k = eqb-true (s / 2) k t in
-        key (r / 2) (rw t refl) (rw (e, ← z) (get_or-set_same w (rolesAt + s / 2) (r + 1) 0 (omega arith) ∙ omega (arith, p))))
+        key (r / 2) (rw t refl) (rw (e, ← z) (get_or-set_same w (roles_at + s / 2) (r + 1) 0 (omega arith) ∙ omega (arith, p))))
         (λ t. other k t (M.each k l)))
       where
         other : (k : ℕ) → eqb (s / 2) k ≡ false → MappedAt w m k → MappedAt w' (record { key = s / 2; value = Inverse (r / 2) } ∷ m) k
-        other k t (free a b) = free (rw t a) (rw e (get_or-set_other w (rolesAt + s / 2) (rolesAt + k) (r + 1) 0 (λ z. eqb-false (s / 2) k t (omega arith)) ∙ b))
-        other k t (key i a b) = key i (rw t a) (rw e (get_or-set_other w (rolesAt + s / 2) (rolesAt + k) (r + 1) 0 (λ z. eqb-false (s / 2) k t (omega arith)) ∙ b))
+        other k t (free a b) = free (rw t a) (rw e (get_or-set_other w (roles_at + s / 2) (roles_at + k) (r + 1) 0 (λ z. eqb-false (s / 2) k t (omega arith)) ∙ b))
+        other k t (key i a b) = key i (rw t a) (rw e (get_or-set_other w (roles_at + s / 2) (roles_at + k) (r + 1) 0 (λ z. eqb-false (s / 2) k t (omega arith)) ∙ b))
 
-    pub declare-more : Mapped w' (declared m (roleOf r) (roleOf s)) mostRoles
-    declare-more = record { each = entry }
+    pub declare_more : Mapped w' (declared m (role_of r) (role_of s)) most_roles
+    declare_more = record { each = entry }
 
 -- ---- each role its own
-pub mapped-none : (w : List ℕ) → Mapped w [] 0
-mapped-none w = record { each = λ r l. absurd (omega arith) }
+pub mapped_none : (w : List ℕ) → Mapped w [] 0
+mapped_none w = record { each = λ r l. absurd (omega arith) }
 
-pub mapped-own : (w w' : List ℕ) (n : ℕ) → Mapped w [] n → w' ≡ set w (rolesAt + n) (2 * n) → rolesAt + n < length w → Mapped w' [] (n + 1)
+pub mapped_own : (w w' : List ℕ) (n : ℕ) → Mapped w [] n → w' ≡ set w (roles_at + n) (2 * n) → roles_at + n < length w → Mapped w' [] (n + 1)
 unfolding lookup
-mapped-own w w' n M e long = record {
-  each = λ r l. by-test (eqb r n)
-      (λ t. let z : r ≡ n = eqb-true r n t in rw (z, e) (free refl (get_or-set_same w (rolesAt + n) (2 * n) 0 long)))
+mapped_own w w' n M e long = record {
+  each = λ r l. by_test (eqb r n)
+      (λ t. let z : r ≡ n = eqb-true r n t in rw (z, e) (free refl (get_or-set_same w (roles_at + n) (2 * n) 0 long)))
       (λ t. old r t (M.each r (omega (arith, eqb-false r n t))));
 }
   where
     old : (r : ℕ) → eqb r n ≡ false → MappedAt w [] r → MappedAt w' [] r
-    old r t (free a b) = free a (rw e (get_or-set_other w (rolesAt + n) (rolesAt + r) (2 * n) 0 (λ z. eqb-false r n t (omega arith)) ∙ b))
+    old r t (free a b) = free a (rw e (get_or-set_other w (roles_at + n) (roles_at + r) (2 * n) 0 (λ z. eqb-false r n t (omega arith)) ∙ b))
     old r t (key i a b) = absurd (let z : ◌≡◌ {A = ℕ} 0 1 = cc in omega arith)
 
 -- ---- what is beside the map
-pub beside-refl : (w : List ℕ) → Beside w w
-beside-refl w = record { below = λ j l. refl; above = λ j l. refl }
+pub beside_refl : (w : List ℕ) → Beside w w
+beside_refl w = record { below = λ j l. refl; above = λ j l. refl }
 
-pub beside-trans : (w w₁ w₂ : List ℕ) → Beside w w₁ → Beside w₁ w₂ → Beside w w₂
-beside-trans w w₁ w₂ A B = record { below = λ j l. B.below j l ∙ A.below j l; above = λ j l. B.above j l ∙ A.above j l }
+pub beside_trans : (w w₁ w₂ : List ℕ) → Beside w w₁ → Beside w₁ w₂ → Beside w w₂
+beside_trans w w₁ w₂ A B = record { below = λ j l. B.below j l ∙ A.below j l; above = λ j l. B.above j l ∙ A.above j l }
 
-pub beside-set : (w w' : List ℕ) (r x : ℕ) → r < mostRoles → w' ≡ set w (rolesAt + r) x → Beside w w'
-beside-set w w' r x h e = record {
-  below = λ j l. rw e (get_or-set_other w (rolesAt + r) j x 0 (λ z. absurd (omega arith)));
-  above = λ j l. rw e (get_or-set_other w (rolesAt + r) j x 0 (λ z. absurd (omega arith)));
+pub beside_set : (w w' : List ℕ) (r x : ℕ) → r < most_roles → w' ≡ set w (roles_at + r) x → Beside w w'
+beside_set w w' r x h e = record {
+  below = λ j l. rw e (get_or-set_other w (roles_at + r) j x 0 (λ z. absurd (omega arith)));
+  above = λ j l. rw e (get_or-set_other w (roles_at + r) j x 0 (λ z. absurd (omega arith)));
 }
 
 -- ---- the loop over the roles, in scratch's bytes
 pub record Clearing (s₀ s : List ℕ) (n : ℕ) : Type 0 where
-  pub within : n ≤ mostRoles
+  pub within : n ≤ most_roles
   pub mapped : Mapped (words s) [] n
   pub beside : Beside (words s₀) (words s)
   pub long : length s ≡ length s₀
 
-pub clearing-first : (s : List ℕ) → Clearing s s 0
-clearing-first s = record { within = omega arith; mapped = mapped-none (words s); beside = beside-refl (words s); long = refl }
+pub clearing_first : (s : List ℕ) → Clearing s s 0
+clearing_first s = record { within = omega arith; mapped = mapped_none (words s); beside = beside_refl (words s); long = refl }
 
-pub clearing-next : (s₀ s s' : List ℕ) (n : ℕ) → Clearing s₀ s n → n < mostRoles → 4 * (rolesAt + mostRoles) ≤ length s₀ → words s' ≡ set (words s) (rolesAt + n) (2 * n) → length s' ≡ length s → Clearing s₀ s' (n + 1)
-clearing-next s₀ s s' n C h r e l = record {
+pub clearing_next : (s₀ s s' : List ℕ) (n : ℕ) → Clearing s₀ s n → n < most_roles → 4 * (roles_at + most_roles) ≤ length s₀ → words s' ≡ set (words s) (roles_at + n) (2 * n) → length s' ≡ length s → Clearing s₀ s' (n + 1)
+clearing_next s₀ s s' n C h r e l = record {
   within = omega arith;
-  mapped = mapped-own (words s) (words s') n C.mapped e (omega (arith, C.long, length-words s));
-  beside = beside-trans (words s₀) (words s) (words s') C.beside (beside-set (words s) (words s') n (2 * n) h e);
+  mapped = mapped_own (words s) (words s') n C.mapped e (omega (arith, C.long, length_words s));
+  beside = beside_trans (words s₀) (words s) (words s') C.beside (beside_set (words s) (words s') n (2 * n) h e);
   long = l ∙ C.long;
 }
 
-pub clearing-end : (s₀ s : List ℕ) (n : ℕ) → Clearing s₀ s n → mostRoles ≤ n → Mapped (words s) [] mostRoles
-clearing-end s₀ s n C h = let e : n ≡ mostRoles = omega (arith, C.within) in subst (Mapped (words s) []) e C.mapped
+pub clearing_end : (s₀ s : List ℕ) (n : ℕ) → Clearing s₀ s n → most_roles ≤ n → Mapped (words s) [] most_roles
+clearing_end s₀ s n C h = let e : n ≡ most_roles = omega (arith, C.within) in subst (Mapped (words s) []) e C.mapped

@@ -2,22 +2,22 @@
 use Rattle.std.specs.Prelude.{◌≡◌, List, ℕ, ◌+◌, ◌*◌, ◌<◌, ◌≤◌, length, get_or}
 use Rattle.std.proofs.Math.Option.{none, some}
 use Rattle.words.specs.Words.{words}
-use Rattle.ir.specs.Scratch.{rolesAt, linesAt}
-use Rattle.ir.specs.Roles.{roleCode}
+use Rattle.ir.specs.Scratch.{roles_at, lines_at}
+use Rattle.ir.specs.Roles.{role_code}
 use Rattle.ir.specs.declared.role.Role.TheVariants.{Named, Inverse}
-use Rattle.rules.specs.Deck.{mostRoles}
-use Rattle.rules.specs.Inverse.{InverseCanon, lookup, canonRole}
+use Rattle.rules.specs.Deck.{most_roles}
+use Rattle.rules.specs.Inverse.{InverseCanon, lookup, canon_role}
 use Rattle.rules.specs.Invariants.{Each, Bounds, AxiomIn}
-use Rattle.ontology.specs.Layout.{axiomsOf, AxiomsHeld}
+use Rattle.ontology.specs.Layout.{axioms_of, AxiomsHeld}
 
 pub record RolesHeld (w : List ℕ) (m : InverseCanon) : Type 0 where
-  pub mapped : (r : ℕ) → r < mostRoles → get_or w (rolesAt + r) 0 ≡ roleCode (canonRole m (Named r))
+  pub mapped : (r : ℕ) → r < most_roles → get_or w (roles_at + r) 0 ≡ role_code (canon_role m (Named r))
 
 -- ---- while the map is built
 -- role r is no key and has its own code, or it is mapped to an inverse
 pub data MappedAt (w : List ℕ) (m : InverseCanon) (r : ℕ) : Type 0 where
-  free : lookup m r ≡ none → get_or w (rolesAt + r) 0 ≡ 2 * r → MappedAt w m r
-  key : (i : ℕ) → lookup m r ≡ some (Inverse i) → get_or w (rolesAt + r) 0 ≡ 2 * i + 1 → MappedAt w m r
+  free : lookup m r ≡ none → get_or w (roles_at + r) 0 ≡ 2 * r → MappedAt w m r
+  key : (i : ℕ) → lookup m r ≡ some (Inverse i) → get_or w (roles_at + r) 0 ≡ 2 * i + 1 → MappedAt w m r
 
 -- the first n roles
 pub record Mapped (w : List ℕ) (m : InverseCanon) (n : ℕ) : Type 0 where
@@ -25,14 +25,14 @@ pub record Mapped (w : List ℕ) (m : InverseCanon) (n : ℕ) : Type 0 where
 
 -- nothing but the map was written
 pub record Beside (w w' : List ℕ) : Type 0 where
-  pub below : (j : ℕ) → j < rolesAt → get_or w' j 0 ≡ get_or w j 0
-  pub above : (j : ℕ) → rolesAt + mostRoles ≤ j → get_or w' j 0 ≡ get_or w j 0
+  pub below : (j : ℕ) → j < roles_at → get_or w' j 0 ≡ get_or w j 0
+  pub above : (j : ℕ) → roles_at + most_roles ≤ j → get_or w' j 0 ≡ get_or w j 0
 
 -- what the code asks of scratch's bytes s
 pub record Building (s : List ℕ) (n : ℕ) : Type 0 where
-  pub space : 4 * linesAt ≤ length s
+  pub space : 4 * lines_at ≤ length s
   pub held : AxiomsHeld (words s) n
   pub bounds : Bounds
-  pub few : bounds.roles ≤ mostRoles
+  pub few : bounds.roles ≤ most_roles
   pub concepts : ℕ
-  pub inside : Each (AxiomIn bounds concepts) (axiomsOf (words s) n)
+  pub inside : Each (AxiomIn bounds concepts) (axioms_of (words s) n)

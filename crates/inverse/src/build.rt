@@ -1,12 +1,12 @@
 // build_inverse_canon, resolved: a role that is a key has the code of what it is mapped to, which is an inverse; any other its own.
 ghost use Rattle.std.specs.Prelude.{◌≡◌, [], ◌*◌, ◌≤◌, ◌<◌, length};
 ghost use Rattle.words.specs.Words.{words};
-ghost use Rattle.ir.specs.Scratch.{alternativesAt};
-ghost use Rattle.ir.specs.Roles.{roleOf};
-ghost use Rattle.rules.specs.Deck.{mostRoles};
-ghost use Rattle.rules.specs.Inverse.{InverseCanon, lookup, skipped, declared, inverseOf, buildInverseCanon};
-ghost use Rattle.rules.specs.Base.{isSome};
-ghost use Rattle.ontology.specs.Layout.{axiomAt, axiomsOf};
+ghost use Rattle.ir.specs.Scratch.{alternatives_at};
+ghost use Rattle.ir.specs.Roles.{role_of};
+ghost use Rattle.rules.specs.Deck.{most_roles};
+ghost use Rattle.rules.specs.Inverse.{InverseCanon, lookup, skipped, declared, inverse_of, build_inverse_canon};
+ghost use Rattle.rules.specs.Base.{is_some};
+ghost use Rattle.ontology.specs.Layout.{axiom_at, axioms_of};
 ghost use Rattle.inverse.specs.Layout.{RolesHeld, Mapped, Beside, Building};
 
 use ir::scratch::ROLES;
@@ -14,16 +14,16 @@ use ontology::axiom;
 
 // Whether role r is a key.
 fn is_key(scratch: &[u8], r: u32) -> bool
-    requires { (r < mostRoles) × (4 * alternativesAt ≤ length scratch.now) }
-    ensures { (m : InverseCanon) → Mapped (words scratch.now) m mostRoles → result ≡ isSome (lookup m r) }
+    requires { (r < most_roles) × (4 * alternatives_at ≤ length scratch.now) }
+    ensures { (m : InverseCanon) → Mapped (words scratch.now) m most_roles → result ≡ is_some (lookup m r) }
 {
     words::get_word(scratch, ROLES + r as usize) % 2 == 1
 }
 
 // Whether an axiom 32 of roles r and s makes no entry.
 fn skip(scratch: &[u8], r: u32, s: u32) -> bool
-    requires { (r < 2 * mostRoles) × (s < 2 * mostRoles) × (4 * alternativesAt ≤ length scratch.now) }
-    ensures { (m : InverseCanon) → Mapped (words scratch.now) m mostRoles → result ≡ skipped m (roleOf r) (roleOf s) }
+    requires { (r < 2 * most_roles) × (s < 2 * most_roles) × (4 * alternatives_at ≤ length scratch.now) }
+    ensures { (m : InverseCanon) → Mapped (words scratch.now) m most_roles → result ≡ skipped m (role_of r) (role_of s) }
 {
     if r % 2 == 1 {
         return true;
@@ -42,8 +42,8 @@ fn skip(scratch: &[u8], r: u32, s: u32) -> bool
 
 // S ≡ R⁻.
 fn declare(scratch: &mut [u8], r: u32, s: u32)
-    requires { (r < 2 * mostRoles) × (s < 2 * mostRoles) × (4 * alternativesAt ≤ length scratch.old) }
-    ensures mapped { (m : InverseCanon) → Mapped (words scratch.old) m mostRoles → Mapped (words scratch.new) (declared m (roleOf r) (roleOf s)) mostRoles }
+    requires { (r < 2 * most_roles) × (s < 2 * most_roles) × (4 * alternatives_at ≤ length scratch.old) }
+    ensures mapped { (m : InverseCanon) → Mapped (words scratch.old) m most_roles → Mapped (words scratch.new) (declared m (role_of r) (role_of s)) most_roles }
     ensures beside { Beside (words scratch.old) (words scratch.new) }
 {
     if skip(scratch, r, s) {
@@ -54,8 +54,8 @@ fn declare(scratch: &mut [u8], r: u32, s: u32)
 
 // Each role is its own.
 fn clear_roles(scratch: &mut [u8])
-    requires { 4 * alternativesAt ≤ length scratch.old }
-    ensures mapped { Mapped (words scratch.new) [] mostRoles }
+    requires { 4 * alternatives_at ≤ length scratch.old }
+    ensures mapped { Mapped (words scratch.new) [] most_roles }
     ensures beside { Beside (words scratch.old) (words scratch.new) }
 {
     let mut r: u32 = 0;
@@ -68,7 +68,7 @@ fn clear_roles(scratch: &mut [u8])
 // The entry of axiom i, if it makes one.
 fn declare_axiom(scratch: &mut [u8], n: u32, i: u32)
     requires { Building scratch.old n × (i < n) }
-    ensures mapped { (m : InverseCanon) → Mapped (words scratch.old) m mostRoles → Mapped (words scratch.new) (inverseOf m (axiomAt (words scratch.old) i)) mostRoles }
+    ensures mapped { (m : InverseCanon) → Mapped (words scratch.old) m most_roles → Mapped (words scratch.new) (inverse_of m (axiom_at (words scratch.old) i)) most_roles }
     ensures beside { Beside (words scratch.old) (words scratch.new) }
 {
     if axiom::number(scratch, i, 0) != 32 {
@@ -81,8 +81,8 @@ fn declare_axiom(scratch: &mut [u8], n: u32, i: u32)
 
 // The entries of the first n axioms, from an empty map on.
 fn declare_all(scratch: &mut [u8], n: u32)
-    requires { Building scratch.old n × Mapped (words scratch.old) [] mostRoles }
-    ensures mapped { Mapped (words scratch.new) (buildInverseCanon (axiomsOf (words scratch.old) n)) mostRoles }
+    requires { Building scratch.old n × Mapped (words scratch.old) [] most_roles }
+    ensures mapped { Mapped (words scratch.new) (build_inverse_canon (axioms_of (words scratch.old) n)) most_roles }
     ensures beside { Beside (words scratch.old) (words scratch.new) }
 {
     let mut i: u32 = 0;
@@ -94,7 +94,7 @@ fn declare_all(scratch: &mut [u8], n: u32)
 
 pub fn build_inverse_canon(scratch: &mut [u8], n: u32)
     requires { Building scratch.old n }
-    ensures roles_held { RolesHeld (words scratch.new) (buildInverseCanon (axiomsOf (words scratch.old) n)) }
+    ensures roles_held { RolesHeld (words scratch.new) (build_inverse_canon (axioms_of (words scratch.old) n)) }
     ensures beside { Beside (words scratch.old) (words scratch.new) }
 {
     clear_roles(scratch);

@@ -5,17 +5,17 @@ pub mod build;
 
 ghost use Rattle.std.specs.Prelude.{◌≡◌, ◌*◌, ◌≤◌, ◌<◌, length};
 ghost use Rattle.words.specs.Words.{words};
-ghost use Rattle.ir.specs.Scratch.{alternativesAt};
-ghost use Rattle.ir.specs.Roles.{roleOf, roleCode, flipped};
-ghost use Rattle.rules.specs.Deck.{mostRoles};
-ghost use Rattle.rules.specs.Inverse.{InverseCanon, canonRole};
+ghost use Rattle.ir.specs.Scratch.{alternatives_at};
+ghost use Rattle.ir.specs.Roles.{role_of, role_code, flipped};
+ghost use Rattle.rules.specs.Deck.{most_roles};
+ghost use Rattle.rules.specs.Inverse.{InverseCanon, canon_role};
 ghost use Rattle.inverse.specs.Layout.{RolesHeld};
 
 use ir::scratch::ROLES;
 
 // The other polarity of a role's code.
 fn flip(code: u32) -> u32
-    ensures { result ≡ roleCode (flipped (roleOf code)) }
+    ensures { result ≡ role_code (flipped (role_of code)) }
 {
     if code % 2 == 0 {
         return code + 1;
@@ -25,8 +25,8 @@ fn flip(code: u32) -> u32
 
 // The code of a role's canonical form.
 pub fn canon_role(scratch: &[u8], code: u32) -> u32
-    requires { (code < 2 * mostRoles) × (4 * alternativesAt ≤ length scratch.now) }
-    ensures { (m : InverseCanon) → RolesHeld (words scratch.now) m → result ≡ roleCode (canonRole m (roleOf code)) }
+    requires { (code < 2 * most_roles) × (4 * alternatives_at ≤ length scratch.now) }
+    ensures { (m : InverseCanon) → RolesHeld (words scratch.now) m → result ≡ role_code (canon_role m (role_of code)) }
 {
     let canon = words::get_word(scratch, ROLES + (code / 2) as usize);
     if code % 2 == 0 {

@@ -29,18 +29,18 @@ abbrev pub visited : Counters → Visit
 visited k = pick (ltb k.visits k.limit) (Begun (tick k)) Full
 
 -- document 01's number of a visit that does not begin; 0 where it does
-abbrev pub visitRefusal : Visit → ℕ
-visitRefusal (Begun k) = 0
-visitRefusal Full = 10
+abbrev pub visit_refusal : Visit → ℕ
+visit_refusal (Begun k) = 0
+visit_refusal Full = 10
 
-abbrev pub freshVar : Counters → Counters
-freshVar k = counters k.visits k.limit k.concepts k.members (k.next_var + 1) k.next_class k.clauses k.atoms k.deferrals k.line k.nominal_base k.options
+abbrev pub fresh_var : Counters → Counters
+fresh_var k = counters k.visits k.limit k.concepts k.members (k.next_var + 1) k.next_class k.clauses k.atoms k.deferrals k.line k.nominal_base k.options
 
-abbrev pub freshClass : Counters → Counters
-freshClass k = counters k.visits k.limit k.concepts k.members k.next_var (k.next_class + 1) k.clauses k.atoms k.deferrals k.line k.nominal_base k.options
+abbrev pub fresh_class : Counters → Counters
+fresh_class k = counters k.visits k.limit k.concepts k.members k.next_var (k.next_class + 1) k.clauses k.atoms k.deferrals k.line k.nominal_base k.options
 
-abbrev pub deferredOnce : Counters → Counters
-deferredOnce k = counters k.visits k.limit k.concepts k.members k.next_var k.next_class k.clauses k.atoms (k.deferrals + 1) k.line k.nominal_base k.options
+abbrev pub deferred_once : Counters → Counters
+deferred_once k = counters k.visits k.limit k.concepts k.members k.next_var k.next_class k.clauses k.atoms (k.deferrals + 1) k.line k.nominal_base k.options
 
 abbrev pub pushed : ℕ → Counters → Counters
 pushed m k = counters k.visits k.limit k.concepts k.members k.next_var k.next_class (k.clauses + 1) (k.atoms + m) k.deferrals k.line k.nominal_base k.options
@@ -48,8 +48,8 @@ pushed m k = counters k.visits k.limit k.concepts k.members k.next_var k.next_cl
 abbrev pub interned : ℕ → Counters → Counters
 interned m k = counters k.visits k.limit (k.concepts + 1) (k.members + m) k.next_var k.next_class k.clauses k.atoms k.deferrals k.line k.nominal_base k.options
 
-abbrev pub atLine : ℕ → Counters → Counters
-atLine n k = counters k.visits k.limit k.concepts k.members k.next_var k.next_class k.clauses k.atoms k.deferrals n k.nominal_base k.options
+abbrev pub at_line : ℕ → Counters → Counters
+at_line n k = counters k.visits k.limit k.concepts k.members k.next_var k.next_class k.clauses k.atoms k.deferrals n k.nominal_base k.options
 
-abbrev pub varsRestarted : Counters → Counters
-varsRestarted k = counters k.visits k.limit k.concepts k.members 1 k.next_class k.clauses k.atoms k.deferrals k.line k.nominal_base k.options
+abbrev pub vars_restarted : Counters → Counters
+vars_restarted k = counters k.visits k.limit k.concepts k.members 1 k.next_class k.clauses k.atoms k.deferrals k.line k.nominal_base k.options

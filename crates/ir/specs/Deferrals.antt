@@ -3,13 +3,13 @@ use Rattle.std.specs.Prelude.{ℕ}
 use Rattle.ir.specs.declared.deferral.Deferral.{Deferral}
 use Rattle.ir.specs.declared.deferral.Deferral.TheVariants.{DisjointAntecedent, DisjointUnionMember, DisjointUnionCovering, RoleChainLenNe2, Antecedent, HeadOrDisjunct, HeadExistsInner, HeadNotNonatomic, ReflexiveDerivedCap}
 
-abbrev pub deferralKind : Deferral → ℕ
-deferralKind DisjointAntecedent = 1
-deferralKind DisjointUnionMember = 2
-deferralKind DisjointUnionCovering = 3
-deferralKind RoleChainLenNe2 = 4
-deferralKind Antecedent = 5
-deferralKind HeadOrDisjunct = 6
-deferralKind HeadExistsInner = 7
-deferralKind HeadNotNonatomic = 8
-deferralKind ReflexiveDerivedCap = 9
+abbrev pub deferral_kind : Deferral → ℕ
+deferral_kind DisjointAntecedent = 1
+deferral_kind DisjointUnionMember = 2
+deferral_kind DisjointUnionCovering = 3
+deferral_kind RoleChainLenNe2 = 4
+deferral_kind Antecedent = 5
+deferral_kind HeadOrDisjunct = 6
+deferral_kind HeadExistsInner = 7
+deferral_kind HeadNotNonatomic = 8
+deferral_kind ReflexiveDerivedCap = 9

@@ -1,6 +1,6 @@
 // Atoms, their variables, and the substitution of a variable.
 ghost use Rattle.std.specs.Prelude.{◌≡◌};
-ghost use Rattle.ir.specs.Atoms.{atomVars, varsOf, replaced, substituteAtom};
+ghost use Rattle.ir.specs.Atoms.{atom_vars, vars_of, replaced, substitute_atom};
 
 use crate::role::Role;
 
@@ -32,7 +32,7 @@ pub enum Vars {
 }
 
 pub fn atom_vars(a: Atom) -> Vars
-    ensures { varsOf result ≡ atomVars a }
+    ensures { vars_of result ≡ atom_vars a }
 {
     match a {
         Atom::Class(_, v) => Vars::One(v),
@@ -53,7 +53,7 @@ pub fn replace(drop: u32, keep: u32, v: u32) -> u32
 
 // The atom with `keep` for the variable `drop`.
 pub fn substitute_atom(a: Atom, drop: u32, keep: u32) -> Atom
-    ensures { result ≡ substituteAtom a (replaced drop keep) }
+    ensures { result ≡ substitute_atom a (replaced drop keep) }
 {
     match a {
         Atom::Class(k, v) => Atom::Class(k, replace(drop, keep, v)),

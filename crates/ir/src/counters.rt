@@ -1,6 +1,6 @@
 // The Rust's `&mut Clausifier` as counters by value, handed back beside the lent tables.
 ghost use Rattle.std.specs.Prelude.{◌≡◌, ◌+◌, ◌<◌, ◌^◌};
-ghost use Rattle.ir.specs.Counts.{visited, freshVar, freshClass, deferredOnce, pushed, interned, atLine, varsRestarted};
+ghost use Rattle.ir.specs.Counts.{visited, fresh_var, fresh_class, deferred_once, pushed, interned, at_line, vars_restarted};
 
 #[derive(Clone, Copy)]
 pub struct Counters {
@@ -47,7 +47,7 @@ impl Counters {
     // The variable itself is `next_var` before the call.
     pub fn fresh_var(mut self) -> Counters
         requires { self.next_var + 1 < 2 ^ 32 }
-        ensures { result ≡ freshVar self }
+        ensures { result ≡ fresh_var self }
     {
         let v = self.next_var;
         self.next_var = v + 1;
@@ -57,7 +57,7 @@ impl Counters {
     // The class itself is `next_class` before the call.
     pub fn fresh_class(mut self) -> Counters
         requires { self.next_class + 1 < 2 ^ 32 }
-        ensures { result ≡ freshClass self }
+        ensures { result ≡ fresh_class self }
     {
         let q = self.next_class;
         self.next_class = q + 1;
@@ -67,7 +67,7 @@ impl Counters {
     // One deferral record more.
     pub fn defer(mut self) -> Counters
         requires { self.deferrals + 1 < 2 ^ 32 }
-        ensures { result ≡ deferredOnce self }
+        ensures { result ≡ deferred_once self }
     {
         let d = self.deferrals;
         self.deferrals = d + 1;
@@ -100,7 +100,7 @@ impl Counters {
 
     // At another axiom.
     pub fn at_line(mut self, line: u32) -> Counters
-        ensures { result ≡ atLine line self }
+        ensures { result ≡ at_line line self }
     {
         self.line = line;
         self
@@ -108,7 +108,7 @@ impl Counters {
 
     // The next fresh variable is 1 again: X is 0.
     pub fn restart_vars(mut self) -> Counters
-        ensures { result ≡ varsRestarted self }
+        ensures { result ≡ vars_restarted self }
     {
         self.next_var = 1;
         self

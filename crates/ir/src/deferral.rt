@@ -1,6 +1,6 @@
 // The kinds of deferral, by the Rust's names and document 01's numbers.
 ghost use Rattle.std.specs.Prelude.{◌≡◌};
-ghost use Rattle.ir.specs.Deferrals.{deferralKind};
+ghost use Rattle.ir.specs.Deferrals.{deferral_kind};
 
 #[derive(Clone, Copy)]
 pub enum Deferral {
@@ -17,7 +17,7 @@ pub enum Deferral {
 
 impl Deferral {
     pub fn kind(self) -> u32
-        ensures { result ≡ deferralKind self }
+        ensures { result ≡ deferral_kind self }
     {
         match self {
             Deferral::DisjointAntecedent => 1,

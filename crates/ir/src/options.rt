@@ -1,21 +1,21 @@
 // The header's options: 1 decomposes wide bodies, 2 gives card_disjunct_atoms, 4 makes the names of at-most fillers equal to them.
 ghost use Rattle.std.specs.Prelude.{◌≡◌};
-ghost use Rattle.ir.specs.Options.{bodyDecompose, cardDisjunctAtoms, equalNames};
+ghost use Rattle.ir.specs.Options.{body_decompose, card_disjunct_atoms, equal_names};
 
 pub fn body_decompose(options: u32) -> bool
-    ensures { result ≡ bodyDecompose options }
+    ensures { result ≡ body_decompose options }
 {
     options % 2 == 1
 }
 
 pub fn card_disjunct_atoms(options: u32) -> bool
-    ensures { result ≡ cardDisjunctAtoms options }
+    ensures { result ≡ card_disjunct_atoms options }
 {
     options / 2 % 2 == 1
 }
 
 pub fn equal_names(options: u32) -> bool
-    ensures { result ≡ equalNames options }
+    ensures { result ≡ equal_names options }
 {
     options / 4 % 2 == 1
 }

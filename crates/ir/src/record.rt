@@ -2,9 +2,9 @@
 ghost use Rattle.std.specs.Prelude.{◌≡◌, ◌+◌, ◌*◌, ◌≤◌, ◌<◌, ◌^◌, length};
 ghost use Rattle.std.proofs.lemmas.List.Edits.{sets};
 ghost use Rattle.words.specs.Words.{words};
-ghost use Rattle.ir.specs.Records.{Fits, qualifierWord, qualifierOf, wordsOf, six, sixOf, recordAt, atomAt, readWords};
-ghost use Rattle.ir.specs.Records.{unusedWords, classRead, roleRead, existsRead, atMostRead, atLeastRead, equalRead};
-ghost use Rattle.ir.specs.Records.{sameWords, sameAtom};
+ghost use Rattle.ir.specs.Records.{Fits, qualifier_word, qualifier_of, words_of, six, six_of, record_at, atom_at, read_words};
+ghost use Rattle.ir.specs.Records.{unused_words, class_read, role_read, exists_read, at_most_read, at_least_read, equal_read};
+ghost use Rattle.ir.specs.Records.{same_words, same_atom};
 
 use crate::atom::{Atom, Qualifier};
 use crate::role::Role;
@@ -23,8 +23,8 @@ pub enum Read {
 impl Qualifier {
     // 0, or one more than the class.
     pub fn word(self) -> u32
-        requires { qualifierWord self < 2 ^ 32 }
-        ensures { result ≡ qualifierWord self }
+        requires { qualifier_word self < 2 ^ 32 }
+        ensures { result ≡ qualifier_word self }
     {
         match self {
             Qualifier::Unqualified => 0,
@@ -33,7 +33,7 @@ impl Qualifier {
     }
 
     pub fn of_word(w: u32) -> Qualifier
-        ensures { result ≡ qualifierOf w }
+        ensures { result ≡ qualifier_of w }
     {
         if w == 0 {
             return Qualifier::Unqualified;
@@ -44,7 +44,7 @@ impl Qualifier {
 
 pub fn encode(a: Atom) -> AtomWords
     requires { Fits a }
-    ensures { result ≡ wordsOf a }
+    ensures { result ≡ words_of a }
 {
     match a {
         Atom::Class(k, v) => AtomWords(1, 0, k + 1, 0, v, 0),
@@ -58,7 +58,7 @@ pub fn encode(a: Atom) -> AtomWords
 
 // Whether three words are unused.
 fn unused(a: u32, b: u32, c: u32) -> bool
-    ensures { result ≡ unusedWords a b c }
+    ensures { result ≡ unused_words a b c }
 {
     if a != 0 {
         return false;
@@ -70,7 +70,7 @@ fn unused(a: u32, b: u32, c: u32) -> bool
 }
 
 fn read_class(w: AtomWords) -> Read
-    ensures { result ≡ classRead w.1 w.2 w.3 w.4 w.5 }
+    ensures { result ≡ class_read w.1 w.2 w.3 w.4 w.5 }
 {
     let k = w.2;
     if !unused(w.1, w.3, w.5) {
@@ -83,7 +83,7 @@ fn read_class(w: AtomWords) -> Read
 }
 
 fn read_role(w: AtomWords) -> Read
-    ensures { result ≡ roleRead w.1 w.2 w.3 w.4 w.5 }
+    ensures { result ≡ role_read w.1 w.2 w.3 w.4 w.5 }
 {
     if !unused(w.2, w.3, 0) {
         return Read::NoAtom;
@@ -92,7 +92,7 @@ fn read_role(w: AtomWords) -> Read
 }
 
 fn read_exists(w: AtomWords) -> Read
-    ensures { result ≡ existsRead w.1 w.2 w.3 w.4 w.5 }
+    ensures { result ≡ exists_read w.1 w.2 w.3 w.4 w.5 }
 {
     let k = w.2;
     if !unused(w.3, w.5, 0) {
@@ -105,7 +105,7 @@ fn read_exists(w: AtomWords) -> Read
 }
 
 fn read_at_most(w: AtomWords) -> Read
-    ensures { result ≡ atMostRead w.1 w.2 w.3 w.4 w.5 }
+    ensures { result ≡ at_most_read w.1 w.2 w.3 w.4 w.5 }
 {
     if w.5 != 0 {
         return Read::NoAtom;
@@ -114,7 +114,7 @@ fn read_at_most(w: AtomWords) -> Read
 }
 
 fn read_at_least(w: AtomWords) -> Read
-    ensures { result ≡ atLeastRead w.1 w.2 w.3 w.4 w.5 }
+    ensures { result ≡ at_least_read w.1 w.2 w.3 w.4 w.5 }
 {
     if w.5 != 0 {
         return Read::NoAtom;
@@ -123,7 +123,7 @@ fn read_at_least(w: AtomWords) -> Read
 }
 
 fn read_equal(w: AtomWords) -> Read
-    ensures { result ≡ equalRead w.1 w.2 w.3 w.4 w.5 }
+    ensures { result ≡ equal_read w.1 w.2 w.3 w.4 w.5 }
 {
     if !unused(w.1, w.2, w.3) {
         return Read::NoAtom;
@@ -133,7 +133,7 @@ fn read_equal(w: AtomWords) -> Read
 
 // The atom of six words; six that no atom has are none.
 pub fn decode(w: AtomWords) -> Read
-    ensures { result ≡ readWords w }
+    ensures { result ≡ read_words w }
 {
     let kind = w.0;
     match kind {
@@ -149,7 +149,7 @@ pub fn decode(w: AtomWords) -> Read
 
 fn put_record(t: &mut [u8], i: usize, w: AtomWords)
     requires { 24 * i + 24 ≤ length t.old }
-    ensures { words t.new ≡ sets (words t.old) (6 * i) (sixOf w) }
+    ensures { words t.new ≡ sets (words t.old) (6 * i) (six_of w) }
 {
     let at = 6 * i;
     words::put_word(t, at, w.0);
@@ -171,7 +171,7 @@ pub fn put_atom(t: &mut [u8], i: usize, a: Atom)
 
 fn get_record(t: &[u8], i: usize) -> AtomWords
     requires { 24 * i + 24 ≤ length t.now }
-    ensures { result ≡ recordAt (words t.now) i }
+    ensures { result ≡ record_at (words t.now) i }
 {
     let at = 6 * i;
     AtomWords(
@@ -187,13 +187,13 @@ fn get_record(t: &[u8], i: usize) -> AtomWords
 // What record i of a table is.
 pub fn get_atom(t: &[u8], i: usize) -> Read
     requires { 24 * i + 24 ≤ length t.now }
-    ensures { result ≡ atomAt (words t.now) i }
+    ensures { result ≡ atom_at (words t.now) i }
 {
     decode(get_record(t, i))
 }
 
 fn same_words(a: AtomWords, b: AtomWords) -> bool
-    ensures { result ≡ sameWords (sixOf a) (sixOf b) }
+    ensures { result ≡ same_words (six_of a) (six_of b) }
 {
     if a.0 != b.0 {
         return false;
@@ -219,7 +219,7 @@ fn same_words(a: AtomWords, b: AtomWords) -> bool
 // Equality of two atoms, by their words.
 pub fn same_atom(a: Atom, b: Atom) -> bool
     requires { Fits a × Fits b }
-    ensures { result ≡ sameAtom a b }
+    ensures { result ≡ same_atom a b }
 {
     same_words(encode(a), encode(b))
 }

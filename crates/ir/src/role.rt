@@ -1,6 +1,6 @@
 // A role as named or inverse, and its code: 2 * id, plus 1 for the inverse.
 ghost use Rattle.std.specs.Prelude.{◌≡◌, ◌<◌, ◌^◌};
-ghost use Rattle.ir.specs.Roles.{roleId, isInverse, flipped, roleCode, roleOf};
+ghost use Rattle.ir.specs.Roles.{role_id, is_inverse, flipped, role_code, role_of};
 
 #[derive(Clone, Copy)]
 pub enum Role {
@@ -11,7 +11,7 @@ pub enum Role {
 impl Role {
     // The underlying named role, regardless of polarity.
     pub fn role_id(self) -> u32
-        ensures { result ≡ roleId self }
+        ensures { result ≡ role_id self }
     {
         match self {
             Role::Named(i) => i,
@@ -20,7 +20,7 @@ impl Role {
     }
 
     pub fn is_inverse(self) -> bool
-        ensures { result ≡ isInverse self }
+        ensures { result ≡ is_inverse self }
     {
         match self {
             Role::Named(_) => false,
@@ -39,8 +39,8 @@ impl Role {
     }
 
     pub fn code(self) -> u32
-        requires { roleId self < 2 ^ 31 }
-        ensures { result ≡ roleCode self }
+        requires { role_id self < 2 ^ 31 }
+        ensures { result ≡ role_code self }
     {
         match self {
             Role::Named(i) => 2 * i,
@@ -50,7 +50,7 @@ impl Role {
 
     // The role of a code.
     pub fn of_code(code: u32) -> Role
-        ensures { result ≡ roleOf code }
+        ensures { result ≡ role_of code }
     {
         if code % 2 == 0 {
             Role::Named(code / 2)

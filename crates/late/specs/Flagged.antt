@@ -2,7 +2,7 @@
 use Rattle.std.specs.Prelude.{◌≡◌, List, ℕ, ◌<◌, ◌≤◌, ◌^◌, length}
 use Rattle.words.specs.Words.{words}
 use Rattle.ir.specs.declared.counters.Counters.{Counters}
-use Rattle.rules.specs.Deck.{mostRoles}
+use Rattle.rules.specs.Deck.{most_roles}
 use Rattle.rules.specs.State.{Env, Out}
 use Rattle.rules.specs.Invariants.{Each, Bounds, ClauseIn}
 use Rattle.reflexive.specs.Flags.{FlagsHeld}
@@ -19,9 +19,9 @@ pub record Flagged (s : List ℕ) (k : Counters) (size : ℕ) (c a d : List ℕ)
   pub lent : Lent env.rooms c a d
   pub drawn : tables k c a d ≡ show k env.rooms state
   pub bounds : Bounds
-  pub roles : bounds.roles ≤ mostRoles
+  pub roles : bounds.roles ≤ most_roles
   pub vars : ℕ
   pub few : vars < 2 ^ 31
-  pub inside : Each (ClauseIn bounds state.nextFresh vars) state.clauses
+  pub inside : Each (ClauseIn bounds state.next_fresh vars) state.clauses
   pub good : Good k
   pub space : 338400 ≤ length s

@@ -9,54 +9,54 @@ use lib.Dec.{eqb, ltb, leb}
 use lib.ListN.{length, get_or, drop, length-drop}
 use Rattle.rules.specs.Base.{all}
 use Rattle.rules.specs.Deck.{Known, rising}
-use Rattle.meaning.specs.Truth.{by-truth, and-left, and-right}
-use Rattle.states.specs.State.{risingPairs, takesClass, restOk, followsOk, lineOk}
-use Rattle.states.specs.LineLaws.{Onward, line-onward}
+use Rattle.meaning.specs.Truth.{by_truth, and_left, and_right}
+use Rattle.states.specs.State.{rising_pairs, takes_class, rest_ok, follows_ok, line_ok}
+use Rattle.states.specs.LineLaws.{Onward, line_onward}
 use Rattle.layouts.specs.Lines.{before}
 
 -- ---- a good line is short
 -- elements that rise
-few-rising : (n x : ℕ) (l : List ℕ) → rising (x ∷ l) ≡ true → all (λ e. ltb e n) (x ∷ l) ≡ true → x + length l < n
+few_rising : (n x : ℕ) (l : List ℕ) → rising (x ∷ l) ≡ true → all (λ e. ltb e n) (x ∷ l) ≡ true → x + length l < n
 unfolding rising
-few-rising n x [] h b = let q = ltb-true x n (and-left (ltb x n) true b) in omega arith
-few-rising n x (y ∷ l) h b =
-    let u = ltb-true x y (and-left (ltb x y) (rising (y ∷ l)) h) in
-    let q = few-rising n y l (and-right (ltb x y) (rising (y ∷ l)) h) (and-right (ltb x n) (all (λ e. ltb e n) (y ∷ l)) b) in
+few_rising n x [] h b = let q = ltb-true x n (and_left (ltb x n) true b) in omega arith
+few_rising n x (y ∷ l) h b =
+    let u = ltb-true x y (and_left (ltb x y) (rising (y ∷ l)) h) in
+    let q = few_rising n y l (and_right (ltb x y) (rising (y ∷ l)) h) (and_right (ltb x n) (all (λ e. ltb e n) (y ∷ l)) b) in
     omega arith
 
-rising-few : (n : ℕ) (l : List ℕ) → rising l ≡ true → all (λ e. ltb e n) l ≡ true → length l ≤ n
-rising-few n [] h b = omega arith
-rising-few n (x ∷ l) h b = let q = few-rising n x l h b in omega arith
+rising_few : (n : ℕ) (l : List ℕ) → rising l ≡ true → all (λ e. ltb e n) l ≡ true → length l ≤ n
+rising_few n [] h b = omega arith
+rising_few n (x ∷ l) h b = let q = few_rising n x l h b in omega arith
 
 -- pairs that rise
 above : (a b c d : ℕ) → (ltb a c || (eqb a c && ltb b d)) ≡ true → b < 64 → 64 * a + b < 64 * c + d
-above a b c d h s = by-truth (ltb a c) (λ e. let q = ltb-true a c e in omega arith)
+above a b c d h s = by_truth (ltb a c) (λ e. let q = ltb-true a c e in omega arith)
     (λ e.
     let u : (eqb a c && ltb b d) ≡ true = rw e at h in
-    let p = eqb-true a c (and-left (eqb a c) (ltb b d) u) in
-    let q = ltb-true b d (and-right (eqb a c) (ltb b d) u) in
+    let p = eqb-true a c (and_left (eqb a c) (ltb b d) u) in
+    let q = ltb-true b d (and_right (eqb a c) (ltb b d) u) in
     omega arith)
 
-few-pairs : (n a b : ℕ) (l : List ℕ) → n ≤ 64 → risingPairs (a ∷ b ∷ l) ≡ true → all (λ e. ltb e n) (a ∷ b ∷ l) ≡ true → 2 * (64 * a + b) + length l ≤ 8190
-unfolding risingPairs
-few-pairs n a b [] s h m =
-    let p = ltb-true a n (and-left (ltb a n) (ltb b n && true) m) in
-    let q = ltb-true b n (and-left (ltb b n) true (and-right (ltb a n) (ltb b n && true) m)) in
+few_pairs : (n a b : ℕ) (l : List ℕ) → n ≤ 64 → rising_pairs (a ∷ b ∷ l) ≡ true → all (λ e. ltb e n) (a ∷ b ∷ l) ≡ true → 2 * (64 * a + b) + length l ≤ 8190
+unfolding rising_pairs
+few_pairs n a b [] s h m =
+    let p = ltb-true a n (and_left (ltb a n) (ltb b n && true) m) in
+    let q = ltb-true b n (and_left (ltb b n) true (and_right (ltb a n) (ltb b n && true) m)) in
     omega arith
-few-pairs n a b (c ∷ []) s h m = absurd (false≢true h)
-few-pairs n a b (c ∷ d ∷ l) s h m =
+few_pairs n a b (c ∷ []) s h m = absurd (false≢true h)
+few_pairs n a b (c ∷ d ∷ l) s h m =
     let t = ltb a c || (eqb a c && ltb b d) in
-    let rest = and-right (ltb b n) (all (λ e. ltb e n) (c ∷ d ∷ l)) (and-right (ltb a n) (all (λ e. ltb e n) (b ∷ c ∷ d ∷ l)) m) in
-    let q = ltb-true b n (and-left (ltb b n) (all (λ e. ltb e n) (c ∷ d ∷ l)) (and-right (ltb a n) (all (λ e. ltb e n) (b ∷ c ∷ d ∷ l)) m)) in
-    let u = above a b c d (and-left t (risingPairs (c ∷ d ∷ l)) h) (omega arith) in
-    let g = few-pairs n c d l s (and-right t (risingPairs (c ∷ d ∷ l)) h) rest in
+    let rest = and_right (ltb b n) (all (λ e. ltb e n) (c ∷ d ∷ l)) (and_right (ltb a n) (all (λ e. ltb e n) (b ∷ c ∷ d ∷ l)) m) in
+    let q = ltb-true b n (and_left (ltb b n) (all (λ e. ltb e n) (c ∷ d ∷ l)) (and_right (ltb a n) (all (λ e. ltb e n) (b ∷ c ∷ d ∷ l)) m)) in
+    let u = above a b c d (and_left t (rising_pairs (c ∷ d ∷ l)) h) (omega arith) in
+    let g = few_pairs n c d l s (and_right t (rising_pairs (c ∷ d ∷ l)) h) rest in
     omega arith
 
-pairs-few : (n : ℕ) (l : List ℕ) → n ≤ 64 → risingPairs l ≡ true → all (λ e. ltb e n) l ≡ true → length l ≤ 8192
-unfolding risingPairs
-pairs-few n [] s h m = omega arith
-pairs-few n (a ∷ []) s h m = absurd (false≢true h)
-pairs-few n (a ∷ b ∷ l) s h m = let q = few-pairs n a b l s h m in omega arith
+pairs_few : (n : ℕ) (l : List ℕ) → n ≤ 64 → rising_pairs l ≡ true → all (λ e. ltb e n) l ≡ true → length l ≤ 8192
+unfolding rising_pairs
+pairs_few n [] s h m = omega arith
+pairs_few n (a ∷ []) s h m = absurd (false≢true h)
+pairs_few n (a ∷ b ∷ l) s h m = let q = few_pairs n a b l s h m in omega arith
 
 -- ---- the parts of the test
 pub record Fine (d : Known) (fresh kind id size : ℕ) (r : List ℕ) : Type 0 where
@@ -66,7 +66,7 @@ pub record Fine (d : Known) (fresh kind id size : ℕ) (r : List ℕ) : Type 0 w
   pub single : get_or r 0 0 ≡ 53 → length (drop 2 r) ≡ 1
   pub short : size ≤ 64 → length (drop 2 r) ≤ 8192
 
-module _ (d : Known) (fresh kind id size : ℕ) (r : List ℕ) (h : lineOk d fresh (before kind id size) r ≡ true) where
+module _ (d : Known) (fresh kind id size : ℕ) (r : List ℕ) (h : line_ok d fresh (before kind id size) r ≡ true) where
   abbrev k : ℕ
   k = get_or r 0 0
 
@@ -76,42 +76,42 @@ module _ (d : Known) (fresh kind id size : ℕ) (r : List ℕ) (h : lineOk d fre
   abbrev l : List ℕ
   l = drop 2 r
 
-  begun : (leb 2 (length r) && followsOk (before kind id size) k i && all (λ e. ltb e size) l) ≡ true
-  begun = and-left (leb 2 (length r) && followsOk (before kind id size) k i && all (λ e. ltb e size) l) (restOk d fresh k i l) h
+  begun : (leb 2 (length r) && follows_ok (before kind id size) k i && all (λ e. ltb e size) l) ≡ true
+  begun = and_left (leb 2 (length r) && follows_ok (before kind id size) k i && all (λ e. ltb e size) l) (rest_ok d fresh k i l) h
 
-  rest : restOk d fresh k i l ≡ true
-  rest = and-right (leb 2 (length r) && followsOk (before kind id size) k i && all (λ e. ltb e size) l) (restOk d fresh k i l) h
+  rest : rest_ok d fresh k i l ≡ true
+  rest = and_right (leb 2 (length r) && follows_ok (before kind id size) k i && all (λ e. ltb e size) l) (rest_ok d fresh k i l) h
 
   elements : all (λ e. ltb e size) l ≡ true
-  elements = and-right (leb 2 (length r) && followsOk (before kind id size) k i) (all (λ e. ltb e size) l) begun
+  elements = and_right (leb 2 (length r) && follows_ok (before kind id size) k i) (all (λ e. ltb e size) l) begun
 
-  of-class : k ≡ 51 → (takesClass d fresh i && rising l) ≡ true
-  of-class e = rw (eq-eqb k 51 e) at rest
+  of_class : k ≡ 51 → (takes_class d fresh i && rising l) ≡ true
+  of_class e = rw (eq-eqb k 51 e) at rest
 
-  of-role : k ≡ 52 → (ltb i d.header.roles && risingPairs l) ≡ true
-  of-role e = rw (ne_eqb k 51 (λ q. omega arith), eq-eqb k 52 e) at rest
+  of_role : k ≡ 52 → (ltb i d.header.roles && rising_pairs l) ≡ true
+  of_role e = rw (ne_eqb k 51 (λ q. omega arith), eq-eqb k 52 e) at rest
 
-  of-single : (k ≡ 51 → ⊥) → (k ≡ 52 → ⊥) → (ltb i d.header.individuals && eqb (length l) 1) ≡ true
-  of-single e f = rw (ne_eqb k 51 e, ne_eqb k 52 f) at rest
+  of_single : (k ≡ 51 → ⊥) → (k ≡ 52 → ⊥) → (ltb i d.header.individuals && eqb (length l) 1) ≡ true
+  of_single e f = rw (ne_eqb k 51 e, ne_eqb k 52 f) at rest
 
-  one-element : (k ≡ 51 → ⊥) → (k ≡ 52 → ⊥) → length l ≡ 1
-  one-element e f = eqb-true (length l) 1 (and-right (ltb i d.header.individuals) (eqb (length l) 1) (of-single e f))
+  one_element : (k ≡ 51 → ⊥) → (k ≡ 52 → ⊥) → length l ≡ 1
+  one_element e f = eqb-true (length l) 1 (and_right (ltb i d.header.individuals) (eqb (length l) 1) (of_single e f))
 
-  pub line-fine : Fine d fresh kind id size r
-  line-fine = record {
-    two = leb-true 2 (length r) (and-left (leb 2 (length r)) (followsOk (before kind id size) k i) (and-left (leb 2 (length r) && followsOk (before kind id size) k i) (all (λ e. ltb e size) l) begun));
-    onward = line-onward d fresh (before kind id size) r h;
+  pub line_fine : Fine d fresh kind id size r
+  line_fine = record {
+    two = leb-true 2 (length r) (and_left (leb 2 (length r)) (follows_ok (before kind id size) k i) (and_left (leb 2 (length r) && follows_ok (before kind id size) k i) (all (λ e. ltb e size) l) begun));
+    onward = line_onward d fresh (before kind id size) r h;
     below = elements;
-    single = λ e. one-element (λ q. omega arith) (λ q. omega arith);
-    short = λ s. by-truth (eqb k 51)
-        (λ e. let q = rising-few size l (and-right (takesClass d fresh i) (rising l) (of-class (eqb-true k 51 e))) elements in omega (arith, q, s))
-        (λ e. by-truth (eqb k 52)
-        (λ f. pairs-few size l s (and-right (ltb i d.header.roles) (risingPairs l) (of-role (eqb-true k 52 f))) elements)
-        (λ f. let q = one-element (eqb-false k 51 e) (eqb-false k 52 f) in omega (arith, q)));
+    single = λ e. one_element (λ q. omega arith) (λ q. omega arith);
+    short = λ s. by_truth (eqb k 51)
+        (λ e. let q = rising_few size l (and_right (takes_class d fresh i) (rising l) (of_class (eqb-true k 51 e))) elements in omega (arith, q, s))
+        (λ e. by_truth (eqb k 52)
+        (λ f. pairs_few size l s (and_right (ltb i d.header.roles) (rising_pairs l) (of_role (eqb-true k 52 f))) elements)
+        (λ f. let q = one_element (eqb-false k 51 e) (eqb-false k 52 f) in omega (arith, q)));
   }
 
 -- a longer one is bad
-pub long-bad : (d : Known) (fresh kind id size : ℕ) (r : List ℕ) → size ≤ 64 → 40960 < length r → lineOk d fresh (before kind id size) r ≡ false
-long-bad d fresh kind id size r s h = by-truth (lineOk d fresh (before kind id size) r)
-    (λ e. let F = line-fine d fresh kind id size r e in let q = F.short s in let n = length-drop 2 r in absurd (omega (arith, q, n)))
+pub long_bad : (d : Known) (fresh kind id size : ℕ) (r : List ℕ) → size ≤ 64 → 40960 < length r → line_ok d fresh (before kind id size) r ≡ false
+long_bad d fresh kind id size r s h = by_truth (line_ok d fresh (before kind id size) r)
+    (λ e. let F = line_fine d fresh kind id size r e in let q = F.short s in let n = length-drop 2 r in absurd (omega (arith, q, n)))
     (λ e. e)

@@ -11,116 +11,116 @@ use borrow.Author.Tests.{eqb-true, ne_eqb, leb-true}
 use lib.Dec.{eqb, leb}
 use lib.ListN.{length, get_or, drop}
 use lib.Seq.{sets}
-use Rattle.rules.specs.Text.{row, rowOf}
+use Rattle.rules.specs.Text.{row, row_of}
 use Rattle.rules.specs.Deck.{Known}
-use Rattle.rules.specs.Run.{scratchBytes}
+use Rattle.rules.specs.Run.{scratch_bytes}
 use Rattle.words.specs.Words.{words}
-use Rattle.words.specs.Laws.{length-words}
-use Rattle.words.specs.Runs.{getD-sets-before}
+use Rattle.words.specs.Laws.{length_words}
+use Rattle.words.specs.Runs.{get_d_sets_before}
 use Rattle.text.specs.declared.Line.{Line}
 use Rattle.text.specs.declared.Line.TheVariants.{Read, Long, Broken}
 use Rattle.text.specs.contracts.Line.{the_type}
-use Rattle.text.specs.Rows.{rowAt, lineSaid, fieldsIn, Placed}
-use Rattle.text.specs.RowLaws.{length-row, held-row, held-behind}
-use Rattle.meaning.specs.Truth.{and-left, and-right}
-use Rattle.states.specs.State.{State, state, Seen, seen, StateTold, bad, countOk, mostElements, lineOk, onLine, onStateRow, onCount, stateBy, readState}
-use Rattle.sets.specs.Places.{lineAt, lineWords}
+use Rattle.text.specs.Rows.{row_at, line_said, fields_in, Placed}
+use Rattle.text.specs.RowLaws.{length_row, held_row, held_behind}
+use Rattle.meaning.specs.Truth.{and_left, and_right}
+use Rattle.states.specs.State.{State, state, Seen, seen, StateTold, bad, count_ok, most_elements, line_ok, on_line, on_state_row, on_count, state_by, read_state}
+use Rattle.sets.specs.Places.{line_at, line_words}
 use Rattle.sets.specs.Laid.{KeptTo}
 use Rattle.layouts.specs.declared.Limits.{Limits}
-use Rattle.layouts.specs.Read.{knownOf}
-use Rattle.layouts.specs.Lines.{lineIn, before, rowsWord, KeptFrom, FirstLine, GoodLine}
-use Rattle.layouts.proofs.Facts.{line-fine, long-bad}
+use Rattle.layouts.specs.Read.{known_of}
+use Rattle.layouts.specs.Lines.{line_in, before, rows_word, KeptFrom, FirstLine, GoodLine}
+use Rattle.layouts.proofs.Facts.{line_fine, long_bad}
 
 -- ---- the words behind the row reader
-pub kept-before : (w w' vs : List ℕ) (a : ℕ) → w' ≡ sets w a vs → KeptTo a w w'
-kept-before w w' vs a e i h = ap (λ (u : List ℕ). get_or u i 0) e ∙ getD-sets-before vs w a i 0 h
+pub kept_before : (w w' vs : List ℕ) (a : ℕ) → w' ≡ sets w a vs → KeptTo a w w'
+kept_before w w' vs a e i h = ap (λ (u : List ℕ). get_or u i 0) e ∙ get_d_sets_before vs w a i 0 h
 
-pub placed-is : (text : List ℕ) (p room n q : ℕ) (x : Line) → x ≡ Read n q → Placed text p room x → Placed text p room (Read n q)
-placed-is text p room n q x e h = subst (Placed text p room) e h
+pub placed_is : (text : List ℕ) (p room n q : ℕ) (x : Line) → x ≡ Read n q → Placed text p room x → Placed text p room (Read n q)
+placed_is text p room n q x e h = subst (Placed text p room) e h
 
-module _ (text : List ℕ) (p : ℕ) (t : List ℕ) (space : scratchBytes ≤ length t) (w' : List ℕ) (n q : ℕ) (x : Line) (is : x ≡ Read n q)
-    (said : lineSaid text p x ≡ rowOf (drop p text)) (put : w' ≡ sets (words t) lineAt (rowAt text p (fieldsIn x))) where
-  put-is : w' ≡ sets (words t) lineAt (rowAt text p n)
-  put-is = put ∙ ap (λ (y : Line). sets (words t) lineAt (rowAt text p (fieldsIn y))) is
+module _ (text : List ℕ) (p : ℕ) (t : List ℕ) (space : scratch_bytes ≤ length t) (w' : List ℕ) (n q : ℕ) (x : Line) (is : x ≡ Read n q)
+    (said : line_said text p x ≡ row_of (drop p text)) (put : w' ≡ sets (words t) line_at (row_at text p (fields_in x))) where
+  put_is : w' ≡ sets (words t) line_at (row_at text p n)
+  put_is = put ∙ ap (λ (y : Line). sets (words t) line_at (row_at text p (fields_in y))) is
 
-  pub read-is : rowOf (drop p text) ≡ row (rowAt text p n) (drop q text)
-  read-is = sym said ∙ ap (lineSaid text p) is
+  pub read_is : row_of (drop p text) ≡ row (row_at text p n) (drop q text)
+  read_is = sym said ∙ ap (line_said text p) is
 
-  pub line-is : n ≤ lineWords → lineIn w' n ≡ rowAt text p n
-  line-is h = ap (λ (u : List ℕ). lineIn u n) put-is ∙ held-row (words t) text lineAt p n (omega (arith, length-words t))
+  pub line_is : n ≤ line_words → line_in w' n ≡ row_at text p n
+  line_is h = ap (λ (u : List ℕ). line_in u n) put_is ∙ held_row (words t) text line_at p n (omega (arith, length_words t))
 
-  pub rows-kept : n ≤ lineWords → KeptFrom rowsWord (words t) w'
-  rows-kept h i g = ap (λ (u : List ℕ). get_or u i 0) put-is ∙ held-behind (words t) text lineAt p n i (omega arith)
+  pub rows_kept : n ≤ line_words → KeptFrom rows_word (words t) w'
+  rows_kept h i g = ap (λ (u : List ℕ). get_or u i 0) put_is ∙ held_behind (words t) text line_at p n i (omega arith)
 
 -- ---- the first line
 module _ (text : List ℕ) where
-  not-counted : (r rest : List ℕ) → rowOf text ≡ row r rest → countOk r ≡ false → (d : Known) (fresh : ℕ) → readState d fresh text ≡ bad 1
-  unfolding readState
-  not-counted r rest e f d fresh = ap (onCount d fresh) e ∙ ap (onLine (λ w. stateBy (suc (length rest)) d fresh 2 w rest) 1 (seen 50 0 (state (get_or r 1 0) [] [] []))) f
+  not_counted : (r rest : List ℕ) → row_of text ≡ row r rest → count_ok r ≡ false → (d : Known) (fresh : ℕ) → read_state d fresh text ≡ bad 1
+  unfolding read_state
+  not_counted r rest e f d fresh = ap (on_count d fresh) e ∙ ap (on_line (λ w. state_by (suc (length rest)) d fresh 2 w rest) 1 (seen 50 0 (state (get_or r 1 0) [] [] []))) f
 
-  pub first-bad : (r s rest : List ℕ) → rowOf text ≡ row r rest → s ≡ r → false ≡ countOk s → (d : Known) (fresh : ℕ) → readState d fresh text ≡ bad 1
-  first-bad r s rest e f g = not-counted r rest e (ap countOk (sym f) ∙ sym g)
+  pub first_bad : (r s rest : List ℕ) → row_of text ≡ row r rest → s ≡ r → false ≡ count_ok s → (d : Known) (fresh : ℕ) → read_state d fresh text ≡ bad 1
+  first_bad r s rest e f g = not_counted r rest e (ap count_ok (sym f) ∙ sym g)
 
-  pub first-long : (n : ℕ) (rest : List ℕ) → rowOf text ≡ row (rowAt text 0 n) rest → 2 < n → (d : Known) (fresh : ℕ) → readState d fresh text ≡ bad 1
-  first-long n rest e h = not-counted (rowAt text 0 n) rest e (rw (length-row text 0 n, ne_eqb n 2 (λ q. omega arith)) refl)
+  pub first_long : (n : ℕ) (rest : List ℕ) → row_of text ≡ row (row_at text 0 n) rest → 2 < n → (d : Known) (fresh : ℕ) → read_state d fresh text ≡ bad 1
+  first_long n rest e h = not_counted (row_at text 0 n) rest e (rw (length_row text 0 n, ne_eqb n 2 (λ q. omega arith)) refl)
 
-  pub first-other : (x : Line) (room : ℕ) → OneOf (1 ∷ 2 ∷ []) (tag_of the_type x) → lineSaid text 0 x ≡ rowOf text → Placed text 0 room x → 2 ≤ room → (d : Known) (fresh : ℕ) → readState d fresh text ≡ bad 1
-  unfolding readState
-  first-other (Read n q) room k e P h = absurd (⊎_elim (λ u. omega (arith, u)) (λ u. omega (arith, u)) k)
-  first-other (Long n q) room k e P h = first-long n (drop q text) (sym e) (omega (arith, P.0))
-  first-other (Broken n) room k e P h = λ d fresh. ap (onCount d fresh) (sym e)
+  pub first_other : (x : Line) (room : ℕ) → OneOf (1 ∷ 2 ∷ []) (tag_of the_type x) → line_said text 0 x ≡ row_of text → Placed text 0 room x → 2 ≤ room → (d : Known) (fresh : ℕ) → read_state d fresh text ≡ bad 1
+  unfolding read_state
+  first_other (Read n q) room k e P h = absurd (⊎_elim (λ u. omega (arith, u)) (λ u. omega (arith, u)) k)
+  first_other (Long n q) room k e P h = first_long n (drop q text) (sym e) (omega (arith, P.0))
+  first_other (Broken n) room k e P h = λ d fresh. ap (on_count d fresh) (sym e)
 
-  pub first-two : (s : List ℕ) → true ≡ countOk s → length s ≡ 2
-  first-two s g =
+  pub first_two : (s : List ℕ) → true ≡ count_ok s → length s ≡ 2
+  first_two s g =
       let a = eqb (length s) 2 in
       let b = eqb (get_or s 0 0) 50 in
-      eqb-true (length s) 2 (and-left a b (and-left (a && b) (leb 1 (get_or s 1 0)) (and-left (a && b && leb 1 (get_or s 1 0)) (leb (get_or s 1 0) mostElements) (sym g))))
+      eqb-true (length s) 2 (and_left a b (and_left (a && b) (leb 1 (get_or s 1 0)) (and_left (a && b && leb 1 (get_or s 1 0)) (leb (get_or s 1 0) most_elements) (sym g))))
 
-  pub first-read : (r s : List ℕ) (size q : ℕ) → rowOf text ≡ row r (drop q text) → s ≡ r → true ≡ countOk s → size ≡ get_or s 1 0 → q ≤ length text → FirstLine text size q
-  unfolding readState
-  first-read r s size q e f g z h =
+  pub first_read : (r s : List ℕ) (size q : ℕ) → row_of text ≡ row r (drop q text) → s ≡ r → true ≡ count_ok s → size ≡ get_or s 1 0 → q ≤ length text → FirstLine text size q
+  unfolding read_state
+  first_read r s size q e f g z h =
       let a = eqb (length s) 2 in
       let b = eqb (get_or s 0 0) 50 in
-      let some = leb-true 1 (get_or s 1 0) (and-right (a && b) (leb 1 (get_or s 1 0)) (and-left (a && b && leb 1 (get_or s 1 0)) (leb (get_or s 1 0) mostElements) (sym g))) in
-      let few = leb-true (get_or s 1 0) mostElements (and-right (a && b && leb 1 (get_or s 1 0)) (leb (get_or s 1 0) mostElements) (sym g)) in
+      let some = leb-true 1 (get_or s 1 0) (and_right (a && b) (leb 1 (get_or s 1 0)) (and_left (a && b && leb 1 (get_or s 1 0)) (leb (get_or s 1 0) most_elements) (sym g))) in
+      let few = leb-true (get_or s 1 0) most_elements (and_right (a && b && leb 1 (get_or s 1 0)) (leb (get_or s 1 0) most_elements) (sym g)) in
       record {
         some = omega (arith, some, z);
         few = omega (arith, few, z);
         within = h;
         read = λ d fresh.
-            ap (onCount d fresh) e
-            ∙ ap (onLine (λ w. stateBy (suc (length (drop q text))) d fresh 2 w (drop q text)) 1 (seen 50 0 (state (get_or r 1 0) [] [] []))) (ap countOk (sym f) ∙ sym g)
-            ∙ ap (λ (n : ℕ). stateBy (suc (length (drop q text))) d fresh 2 (before 50 0 n) (drop q text)) (ap (λ (u : List ℕ). get_or u 1 0) (sym f) ∙ sym z);
+            ap (on_count d fresh) e
+            ∙ ap (on_line (λ w. state_by (suc (length (drop q text))) d fresh 2 w (drop q text)) 1 (seen 50 0 (state (get_or r 1 0) [] [] []))) (ap count_ok (sym f) ∙ sym g)
+            ∙ ap (λ (n : ℕ). state_by (suc (length (drop q text))) d fresh 2 (before 50 0 n) (drop q text)) (ap (λ (u : List ℕ). get_or u 1 0) (sym f) ∙ sym z);
       }
 
 -- ---- a line behind it
-pub line-same : (d : Known) (fresh kind id size : ℕ) (s : State) (r : List ℕ) → s.size ≡ size → lineOk d fresh (seen kind id s) r ≡ lineOk d fresh (before kind id size) r
-line-same d fresh kind id size s r e = ap (λ (n : ℕ). lineOk d fresh (before kind id n) r) e
+pub line_same : (d : Known) (fresh kind id size : ℕ) (s : State) (r : List ℕ) → s.size ≡ size → line_ok d fresh (seen kind id s) r ≡ line_ok d fresh (before kind id size) r
+line_same d fresh kind id size s r e = ap (λ (n : ℕ). line_ok d fresh (before kind id n) r) e
 
 module _ (m : Limits) (kind id size : ℕ) (text : List ℕ) (p : ℕ) where
   abbrev pub BadLine : Type 0
-  BadLine = (rest : Seen → List ℕ → StateTold) (line : ℕ) (s : State) → s.size ≡ size → onStateRow (knownOf m) m.fresh rest line (seen kind id s) (rowOf (drop p text)) ≡ bad line
+  BadLine = (rest : Seen → List ℕ → StateTold) (line : ℕ) (s : State) → s.size ≡ size → on_state_row (known_of m) m.fresh rest line (seen kind id s) (row_of (drop p text)) ≡ bad line
 
-  not-fine : (r bytes : List ℕ) → rowOf (drop p text) ≡ row r bytes → lineOk (knownOf m) m.fresh (before kind id size) r ≡ false → BadLine
-  not-fine r bytes e f rest line s z = ap (onStateRow (knownOf m) m.fresh rest line (seen kind id s)) e ∙ rw (line-same (knownOf m) m.fresh kind id size s r z, f) refl
+  not_fine : (r bytes : List ℕ) → row_of (drop p text) ≡ row r bytes → line_ok (known_of m) m.fresh (before kind id size) r ≡ false → BadLine
+  not_fine r bytes e f rest line s z = ap (on_state_row (known_of m) m.fresh rest line (seen kind id s)) e ∙ rw (line_same (known_of m) m.fresh kind id size s r z, f) refl
 
-  pub next-bad : (r s bytes : List ℕ) → rowOf (drop p text) ≡ row r bytes → s ≡ r → false ≡ lineOk (knownOf m) m.fresh (before kind id size) s → BadLine
-  next-bad r s bytes e f g = not-fine r bytes e (ap (lineOk (knownOf m) m.fresh (before kind id size)) (sym f) ∙ sym g)
+  pub next_bad : (r s bytes : List ℕ) → row_of (drop p text) ≡ row r bytes → s ≡ r → false ≡ line_ok (known_of m) m.fresh (before kind id size) s → BadLine
+  next_bad r s bytes e f g = not_fine r bytes e (ap (line_ok (known_of m) m.fresh (before kind id size)) (sym f) ∙ sym g)
 
-  pub next-long : (n : ℕ) (bytes : List ℕ) → size ≤ 64 → rowOf (drop p text) ≡ row (rowAt text p n) bytes → 40960 < n → BadLine
-  next-long n bytes s e h = not-fine (rowAt text p n) bytes e (long-bad (knownOf m) m.fresh kind id size (rowAt text p n) s (omega (arith, length-row text p n, h)))
+  pub next_long : (n : ℕ) (bytes : List ℕ) → size ≤ 64 → row_of (drop p text) ≡ row (row_at text p n) bytes → 40960 < n → BadLine
+  next_long n bytes s e h = not_fine (row_at text p n) bytes e (long_bad (known_of m) m.fresh kind id size (row_at text p n) s (omega (arith, length_row text p n, h)))
 
-  pub next-other : (x : Line) (room : ℕ) → size ≤ 64 → OneOf (1 ∷ 2 ∷ []) (tag_of the_type x) → lineSaid text p x ≡ rowOf (drop p text) → Placed text p room x → 40960 ≤ room → BadLine
-  next-other (Read n q) room s k e P h = absurd (⊎_elim (λ u. omega (arith, u)) (λ u. omega (arith, u)) k)
-  next-other (Long n q) room s k e P h = next-long n (drop q text) s (sym e) (omega (arith, P.0))
-  next-other (Broken n) room s k e P h = λ rest line t z. ap (onStateRow (knownOf m) m.fresh rest line (seen kind id t)) (sym e)
+  pub next_other : (x : Line) (room : ℕ) → size ≤ 64 → OneOf (1 ∷ 2 ∷ []) (tag_of the_type x) → line_said text p x ≡ row_of (drop p text) → Placed text p room x → 40960 ≤ room → BadLine
+  next_other (Read n q) room s k e P h = absurd (⊎_elim (λ u. omega (arith, u)) (λ u. omega (arith, u)) k)
+  next_other (Long n q) room s k e P h = next_long n (drop q text) s (sym e) (omega (arith, P.0))
+  next_other (Broken n) room s k e P h = λ rest line t z. ap (on_state_row (known_of m) m.fresh rest line (seen kind id t)) (sym e)
 
-  pub next-good : (v v' : List ℕ) (n q : ℕ) → rowOf (drop p text) ≡ row (rowAt text p n) (drop q text) → lineIn v' n ≡ rowAt text p n → lineOk (knownOf m) m.fresh (before kind id size) (lineIn v' n) ≡ true
-      → n ≤ lineWords → q ≡ p + 11 * n + 1 → q ≤ length text → KeptFrom rowsWord v v' → GoodLine m kind id size text p v v' n q
-  next-good v v' n q e l f few place within rows =
-      let F = line-fine (knownOf m) m.fresh kind id size (lineIn v' n) f in
+  pub next_good : (v v' : List ℕ) (n q : ℕ) → row_of (drop p text) ≡ row (row_at text p n) (drop q text) → line_in v' n ≡ row_at text p n → line_ok (known_of m) m.fresh (before kind id size) (line_in v' n) ≡ true
+      → n ≤ line_words → q ≡ p + 11 * n + 1 → q ≤ length text → KeptFrom rows_word v v' → GoodLine m kind id size text p v v' n q
+  next_good v v' n q e l f few place within rows =
+      let F = line_fine (known_of m) m.fresh kind id size (line_in v' n) f in
       let two = F.two in
-      let long : length (lineIn v' n) ≡ n = ap length l ∙ length-row text p n in
+      let long : length (line_in v' n) ≡ n = ap length l ∙ length_row text p n in
       record {
         some = omega (arith, two, long);
         few = few;

@@ -1,17 +1,17 @@
 -- What the reader of a state promises.
 use Rattle.std.specs.Prelude.{◌≡◌, List, [], ℕ, ◌≤◌, eqb}
 use Rattle.ir.specs.Pick.{pick}
-use Rattle.rules.specs.Deck.{Known, known, mostClasses, mostIndividuals, mostRoles}
-use Rattle.states.specs.State.{StateTold, stated, bad, unread, interpretationOf}
+use Rattle.rules.specs.Deck.{Known, known, most_classes, most_individuals, most_roles}
+use Rattle.states.specs.State.{StateTold, stated, bad, unread, interpretation_of}
 use Rattle.sets.specs.Laid.{Laid}
 use Rattle.layouts.specs.declared.Limits.{Limits}
 use Rattle.layouts.specs.declared.Stated.{Stated}
 use Rattle.layouts.specs.declared.Stated.TheVariants.{Stated as StatedIn, Bad}
 
 pub record Limited (m : Limits) : Type 0 where
-  pub classes : m.classes ≤ mostClasses
-  pub individuals : m.individuals ≤ mostIndividuals
-  pub roles : m.roles ≤ mostRoles
+  pub classes : m.classes ≤ most_classes
+  pub individuals : m.individuals ≤ most_individuals
+  pub roles : m.roles ≤ most_roles
   pub fresh : m.fresh ≤ 2000000
 
 pub record Declares (d : Known) (m : Limits) : Type 0 where
@@ -20,16 +20,16 @@ pub record Declares (d : Known) (m : Limits) : Type 0 where
   pub roles : d.header.roles ≡ m.roles
 
 -- a deck that declares so many; a state's reading asks nothing else of it
-abbrev pub knownOf : Limits → Known
-knownOf m = known 0 (record { classes = m.classes; individuals = m.individuals; roles = m.roles; options = 0 }) [] [] [] []
+abbrev pub known_of : Limits → Known
+known_of m = known 0 (record { classes = m.classes; individuals = m.individuals; roles = m.roles; options = 0 }) [] [] [] []
 
 -- the answer, and with a state the words of the store and of scratch that lay it out
 abbrev pub StatedAs : Known → Limits → StateTold → List ℕ → List ℕ → Stated → Type 0
-StatedAs d m (stated s) w v (StatedIn n) = (n ≡ s.size) × Laid (interpretationOf d s) m.roles w v
+StatedAs d m (stated s) w v (StatedIn n) = (n ≡ s.size) × Laid (interpretation_of d s) m.roles w v
 StatedAs d m (stated s) w v (Bad l) = ⊥
 StatedAs d m (bad line) w v (StatedIn n) = ⊥
 StatedAs d m (bad line) w v (Bad l) = l ≡ line
 StatedAs d m unread w v r = ⊥
 
-abbrev pub endedAs : ℕ → ℕ → ℕ → Stated
-endedAs size singles individuals = pick (eqb singles individuals) (StatedIn size) (Bad 0)
+abbrev pub ended_as : ℕ → ℕ → ℕ → Stated
+ended_as size singles individuals = pick (eqb singles individuals) (StatedIn size) (Bad 0)

@@ -3,9 +3,9 @@ ghost use Rattle.std.specs.Prelude.{◌≡◌, ◌&&◌, ◌||◌, true, ◌<◌
 ghost use Rattle.words.specs.Words.{words};
 ghost use Rattle.rules.specs.Base.{all};
 ghost use Rattle.rules.specs.Deck.{rising};
-ghost use Rattle.states.specs.State.{countOk, followsOk, risingPairs, takesClass, restOk, lineOk};
-ghost use Rattle.layouts.specs.Read.{Limited, knownOf};
-ghost use Rattle.layouts.specs.Lines.{lineIn, LineThere, before};
+ghost use Rattle.states.specs.State.{count_ok, follows_ok, rising_pairs, takes_class, rest_ok, line_ok};
+ghost use Rattle.layouts.specs.Read.{Limited, known_of};
+ghost use Rattle.layouts.specs.Lines.{line_in, LineThere, before};
 
 use crate::Limits;
 use sets::places;
@@ -13,7 +13,7 @@ use sets::places;
 // Number k.
 pub fn number(scratch: &[u8], n: usize, k: usize) -> u32
     requires { LineThere scratch.now n × (k < n) }
-    ensures { result ≡ get_or (lineIn (words scratch.now) n) k 0 }
+    ensures { result ≡ get_or (line_in (words scratch.now) n) k 0 }
 {
     words::get_word(scratch, places::LINE + k)
 }
@@ -21,7 +21,7 @@ pub fn number(scratch: &[u8], n: usize, k: usize) -> u32
 // The first line: 50 and 1 to 64 elements.
 pub fn count_ok(scratch: &[u8], n: usize) -> bool
     requires { LineThere scratch.now n }
-    ensures { result ≡ countOk (lineIn (words scratch.now) n) }
+    ensures { result ≡ count_ok (line_in (words scratch.now) n) }
 {
     if n != 2 {
         return false;
@@ -38,7 +38,7 @@ pub fn count_ok(scratch: &[u8], n: usize) -> bool
 
 // By kind, then by id, each id once.
 fn follows(kind: u32, id: u32, k: u32, i: u32) -> bool
-    ensures { result ≡ followsOk (before kind id 0) k i }
+    ensures { result ≡ follows_ok (before kind id 0) k i }
 {
     if k < 51 {
         return false;
@@ -58,7 +58,7 @@ fn follows(kind: u32, id: u32, k: u32, i: u32) -> bool
 // The numbers behind kind and id are elements.
 fn all_below(scratch: &[u8], n: usize, size: u32) -> bool
     requires { LineThere scratch.now n }
-    ensures { result ≡ all (λ e. ltb e size) (drop 2 (lineIn (words scratch.now) n)) }
+    ensures { result ≡ all (λ e. ltb e size) (drop 2 (line_in (words scratch.now) n)) }
 {
     let mut k: usize = 2;
     while k < n {
@@ -73,7 +73,7 @@ fn all_below(scratch: &[u8], n: usize, size: u32) -> bool
 // They rise strictly.
 fn rises(scratch: &[u8], n: usize) -> bool
     requires { LineThere scratch.now n }
-    ensures { result ≡ rising (drop 2 (lineIn (words scratch.now) n)) }
+    ensures { result ≡ rising (drop 2 (line_in (words scratch.now) n)) }
 {
     if n <= 2 {
         return true;
@@ -107,7 +107,7 @@ fn pair_above(a: u32, b: u32, c: u32, d: u32) -> bool
 // They are pairs that rise.
 fn pairs_rise(scratch: &[u8], n: usize) -> bool
     requires { LineThere scratch.now n }
-    ensures { result ≡ risingPairs (drop 2 (lineIn (words scratch.now) n)) }
+    ensures { result ≡ rising_pairs (drop 2 (line_in (words scratch.now) n)) }
 {
     if n <= 2 {
         return true;
@@ -134,7 +134,7 @@ fn pairs_rise(scratch: &[u8], n: usize) -> bool
 // A declared class, or a fresh id of the run; no individual's class.
 fn takes_class(m: Limits, c: u32) -> bool
     requires { Limited m }
-    ensures { result ≡ takesClass (knownOf m) m.fresh c }
+    ensures { result ≡ takes_class (known_of m) m.fresh c }
 {
     let classes = m.classes;
     if c < classes {
@@ -149,7 +149,7 @@ fn takes_class(m: Limits, c: u32) -> bool
 
 fn rest_ok(scratch: &[u8], n: usize, m: Limits, k: u32, i: u32) -> bool
     requires { LineThere scratch.now n × Limited m × (2 ≤ n) }
-    ensures { result ≡ restOk (knownOf m) m.fresh k i (drop 2 (lineIn (words scratch.now) n)) }
+    ensures { result ≡ rest_ok (known_of m) m.fresh k i (drop 2 (line_in (words scratch.now) n)) }
 {
     if k == 51 {
         if !takes_class(m, i) {
@@ -172,7 +172,7 @@ fn rest_ok(scratch: &[u8], n: usize, m: Limits, k: u32, i: u32) -> bool
 // The line behind one of this kind and id, in a state of so many elements.
 pub fn line_ok(scratch: &[u8], n: usize, m: Limits, kind: u32, id: u32, size: u32) -> bool
     requires { LineThere scratch.now n × Limited m }
-    ensures { result ≡ lineOk (knownOf m) m.fresh (before kind id size) (lineIn (words scratch.now) n) }
+    ensures { result ≡ line_ok (known_of m) m.fresh (before kind id size) (line_in (words scratch.now) n) }
 {
     if n < 2 {
         return false;

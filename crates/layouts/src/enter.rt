@@ -2,14 +2,14 @@
 ghost use Rattle.std.specs.Prelude.{◌≡◌, Bool, true, ℕ, ◌+◌, ◌*◌, ◌<◌, ◌≤◌, ltb, length, drop};
 ghost use Rattle.words.specs.Words.{words};
 ghost use Rattle.rules.specs.Base.{all, contains};
-ghost use Rattle.rules.specs.Run.{scratchBytes};
+ghost use Rattle.rules.specs.Run.{scratch_bytes};
 ghost use Rattle.states.specs.State.{State, entered};
-ghost use Rattle.states.specs.Masks.{maskOf};
-ghost use Rattle.sets.specs.Places.{rowsAt};
+ghost use Rattle.states.specs.Masks.{mask_of};
+ghost use Rattle.sets.specs.Places.{rows_at};
 ghost use Rattle.sets.specs.Laid.{KeptTo};
-ghost use Rattle.layouts.specs.Read.{knownOf};
-ghost use Rattle.layouts.specs.Lines.{lineIn, LineThere, rowsWord};
-ghost use Rattle.layouts.specs.Drawn.{roomPut, Linked, RowsAs, withPair, withPairs, Drawn, Enterable, IsLine, enteredLine};
+ghost use Rattle.layouts.specs.Read.{known_of};
+ghost use Rattle.layouts.specs.Lines.{line_in, LineThere, rows_word};
+ghost use Rattle.layouts.specs.Drawn.{room_put, Linked, RowsAs, with_pair, with_pairs, Drawn, Enterable, IsLine, entered_line};
 
 use crate::{Limits, check};
 use sets::{kept, places};
@@ -24,8 +24,8 @@ pub struct At {
 
 // The elements of a line 51, as a set.
 fn set_of(scratch: &[u8], n: usize, size: u32) -> u64
-    requires { LineThere scratch.now n × (2 ≤ n) × (size ≤ 64) × (all (λ e. ltb e size) (drop 2 (lineIn (words scratch.now) n)) ≡ true) }
-    ensures { result ≡ maskOf size (contains (drop 2 (lineIn (words scratch.now) n))) }
+    requires { LineThere scratch.now n × (2 ≤ n) × (size ≤ 64) × (all (λ e. ltb e size) (drop 2 (line_in (words scratch.now) n)) ≡ true) }
+    ensures { result ≡ mask_of size (contains (drop 2 (line_in (words scratch.now) n))) }
 {
     let mut set: u64 = 0;
     let mut k = n;
@@ -39,7 +39,7 @@ fn set_of(scratch: &[u8], n: usize, size: u32) -> u64
 // The class's set, where the store has room for it.
 fn put_class(store: &mut [u8], c: usize, set: u64)
     requires { c < 8589934592 }
-    ensures { words store.new ≡ roomPut (words store.old) c set }
+    ensures { words store.new ≡ room_put (words store.old) c set }
 {
     if 8 * c + 8 <= store.len() {
         kept::put_set(store, c, set);
@@ -48,8 +48,8 @@ fn put_class(store: &mut [u8], c: usize, set: u64)
 
 // Element x becomes related to y by a role code.
 fn link(scratch: &mut [u8], code: usize, x: u32, y: u32)
-    requires { (scratchBytes ≤ length scratch.old) × (code < 2048) × (x < 64) × (y < 64) }
-    ensures { Linked (words scratch.old) (words scratch.new) (rowsAt + 64 * code + x) y }
+    requires { (scratch_bytes ≤ length scratch.old) × (code < 2048) × (x < 64) × (y < 64) }
+    ensures { Linked (words scratch.old) (words scratch.new) (rows_at + 64 * code + x) y }
 {
     let i = places::ROWS + 64 * code + x as usize;
     let row = kept::get_set(scratch, i);
@@ -58,9 +58,9 @@ fn link(scratch: &mut [u8], code: usize, x: u32, y: u32)
 
 // The pair (a, b) of a role, in both directions.
 fn link_pair(scratch: &mut [u8], role: u32, a: u32, b: u32)
-    requires { (scratchBytes ≤ length scratch.old) × (role < 1024) × (a < 64) × (b < 64) }
-    ensures by_index { (n roles : ℕ) (f : ℕ → ℕ → ℕ → Bool) → n ≤ 64 → a < n → b < n → RowsAs n roles (words scratch.old) f → RowsAs n roles (words scratch.new) (withPair f role a b) }
-    ensures kept_to { KeptTo rowsWord (words scratch.old) (words scratch.new) }
+    requires { (scratch_bytes ≤ length scratch.old) × (role < 1024) × (a < 64) × (b < 64) }
+    ensures by_index { (n roles : ℕ) (f : ℕ → ℕ → ℕ → Bool) → n ≤ 64 → a < n → b < n → RowsAs n roles (words scratch.old) f → RowsAs n roles (words scratch.new) (with_pair f role a b) }
+    ensures kept_to { KeptTo rows_word (words scratch.old) (words scratch.new) }
 {
     let code = 2 * (role as usize);
     link(scratch, code, a, b);
@@ -69,9 +69,9 @@ fn link_pair(scratch: &mut [u8], role: u32, a: u32, b: u32)
 
 // The pairs of a line 52.
 fn enter_pairs(scratch: &mut [u8], n: usize, role: u32, size: u32)
-    requires { LineThere scratch.old n × (2 ≤ n) × (role < 1024) × (size ≤ 64) × (all (λ e. ltb e size) (drop 2 (lineIn (words scratch.old) n)) ≡ true) }
-    ensures by_index { (roles : ℕ) (f : ℕ → ℕ → ℕ → Bool) → RowsAs size roles (words scratch.old) f → RowsAs size roles (words scratch.new) (withPairs f role (drop 2 (lineIn (words scratch.old) n))) }
-    ensures kept_to { KeptTo rowsWord (words scratch.old) (words scratch.new) }
+    requires { LineThere scratch.old n × (2 ≤ n) × (role < 1024) × (size ≤ 64) × (all (λ e. ltb e size) (drop 2 (line_in (words scratch.old) n)) ≡ true) }
+    ensures by_index { (roles : ℕ) (f : ℕ → ℕ → ℕ → Bool) → RowsAs size roles (words scratch.old) f → RowsAs size roles (words scratch.new) (with_pairs f role (drop 2 (line_in (words scratch.old) n))) }
+    ensures kept_to { KeptTo rows_word (words scratch.old) (words scratch.new) }
 {
     let mut j = (n - 2) / 2;
     while 0 < j {
@@ -85,9 +85,9 @@ fn enter_pairs(scratch: &mut [u8], n: usize, role: u32, size: u32)
 // Its line, good and of this kind and id, entered.
 pub fn enter(store: &mut [u8], scratch: &mut [u8], n: usize, m: Limits, at: At, size: u32) -> At
     requires { Enterable m at size store.old scratch.old n }
-    ensures line { IsLine result (lineIn (words scratch.old) n) }
-    ensures drawn { (s : State) → Drawn (knownOf m) s at size (words store.old) (words scratch.old) → Drawn (knownOf m) (enteredLine s (lineIn (words scratch.old) n)) result size (words store.new) (words scratch.new) }
-    ensures kept_to { KeptTo rowsWord (words scratch.old) (words scratch.new) }
+    ensures line { IsLine result (line_in (words scratch.old) n) }
+    ensures drawn { (s : State) → Drawn (known_of m) s at size (words store.old) (words scratch.old) → Drawn (known_of m) (entered_line s (line_in (words scratch.old) n)) result size (words store.new) (words scratch.new) }
+    ensures kept_to { KeptTo rows_word (words scratch.old) (words scratch.new) }
 {
     let kind = check::number(scratch, n, 0);
     let id = check::number(scratch, n, 1);

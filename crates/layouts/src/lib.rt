@@ -10,12 +10,12 @@ pub mod line;
 ghost use Rattle.std.specs.Prelude.{◌≡◌, [], suc, ◌≤◌, length, drop};
 ghost use Rattle.words.specs.Words.{words};
 ghost use Rattle.rules.specs.Deck.{Known};
-ghost use Rattle.rules.specs.Run.{scratchBytes};
-ghost use Rattle.states.specs.State.{state, seen, stateBy, readState};
-ghost use Rattle.states.specs.Test.{storeBytes};
-ghost use Rattle.sets.specs.Places.{deckWords, lineAt};
+ghost use Rattle.rules.specs.Run.{scratch_bytes};
+ghost use Rattle.states.specs.State.{state, seen, state_by, read_state};
+ghost use Rattle.states.specs.Test.{store_bytes};
+ghost use Rattle.sets.specs.Places.{deck_words, line_at};
 ghost use Rattle.sets.specs.Laid.{KeptTo};
-ghost use Rattle.layouts.specs.Read.{Limited, Declares, knownOf, StatedAs, endedAs};
+ghost use Rattle.layouts.specs.Read.{Limited, Declares, known_of, StatedAs, ended_as};
 ghost use Rattle.layouts.specs.Drawn.{Blank};
 
 use crate::enter::At;
@@ -39,7 +39,7 @@ pub enum Stated {
 
 // Behind the last line: each individual must have had its own.
 fn ended(size: u32, singles: u32, individuals: u32) -> Stated
-    ensures { result ≡ endedAs size singles individuals }
+    ensures { result ≡ ended_as size singles individuals }
 {
     if singles == individuals {
         return Stated::Stated(size);
@@ -57,8 +57,8 @@ fn read_lines(
     from: usize,
 ) -> Stated
     requires { Blank m size text.now store.old scratch.old from }
-    ensures stated_as { StatedAs (knownOf m) m (stateBy (suc (length (drop from text.now))) (knownOf m) m.fresh 2 (seen 50 0 (state size [] [] [])) (drop from text.now)) (words store.new) (words scratch.new) result }
-    ensures kept_to { KeptTo lineAt (words scratch.old) (words scratch.new) }
+    ensures stated_as { StatedAs (known_of m) m (state_by (suc (length (drop from text.now))) (known_of m) m.fresh 2 (seen 50 0 (state size [] [] [])) (drop from text.now)) (words store.new) (words scratch.new) result }
+    ensures kept_to { KeptTo line_at (words scratch.old) (words scratch.new) }
 {
     let len = text.len();
     let mut at = At {
@@ -81,9 +81,9 @@ fn read_lines(
 }
 
 pub fn read_state(text: &[u8], store: &mut [u8], scratch: &mut [u8], m: Limits) -> Stated
-    requires { Limited m × (storeBytes ≤ length store.old) × (scratchBytes ≤ length scratch.old) }
-    ensures stated_as { (d : Known) → Declares d m → StatedAs d m (readState d m.fresh text.now) (words store.new) (words scratch.new) result }
-    ensures kept_to { KeptTo deckWords (words scratch.old) (words scratch.new) }
+    requires { Limited m × (store_bytes ≤ length store.old) × (scratch_bytes ≤ length scratch.old) }
+    ensures stated_as { (d : Known) → Declares d m → StatedAs d m (read_state d m.fresh text.now) (words store.new) (words scratch.new) result }
+    ensures kept_to { KeptTo deck_words (words scratch.old) (words scratch.new) }
 {
     let First::Size(size, q) = line::first_line(text, scratch) else {
         return Stated::Bad(1);

@@ -1,8 +1,8 @@
 // One line: read once into scratch, from word LINE on, and checked there.
 ghost use Rattle.std.specs.Prelude.{◌≤◌, length};
 ghost use Rattle.words.specs.Words.{words};
-ghost use Rattle.rules.specs.Run.{scratchBytes};
-ghost use Rattle.sets.specs.Places.{lineAt};
+ghost use Rattle.rules.specs.Run.{scratch_bytes};
+ghost use Rattle.sets.specs.Places.{line_at};
 ghost use Rattle.sets.specs.Laid.{KeptTo};
 ghost use Rattle.layouts.specs.Read.{Limited};
 ghost use Rattle.layouts.specs.Lines.{FirstAs, NextAs};
@@ -27,9 +27,9 @@ pub enum Next {
 }
 
 pub fn first_line(text: &[u8], scratch: &mut [u8]) -> First
-    requires { scratchBytes ≤ length scratch.old }
+    requires { scratch_bytes ≤ length scratch.old }
     ensures first_as { FirstAs text.now result }
-    ensures kept_to { KeptTo lineAt (words scratch.old) (words scratch.new) }
+    ensures kept_to { KeptTo line_at (words scratch.old) (words scratch.new) }
 {
     let Line::Read(n, q) = text::read_row(text, 0, scratch, places::LINE) else {
         return First::None;
@@ -45,9 +45,9 @@ pub fn first_line(text: &[u8], scratch: &mut [u8]) -> First
 
 // The line at p. One of more than 40,960 numbers is bad, whatever they are.
 pub fn next_line(text: &[u8], scratch: &mut [u8], p: usize, m: Limits, at: At, size: u32) -> Next
-    requires { (scratchBytes ≤ length scratch.old) × Limited m × (size ≤ 64) }
+    requires { (scratch_bytes ≤ length scratch.old) × Limited m × (size ≤ 64) }
     ensures next_as { NextAs m at.kind at.id size text.now p (words scratch.old) (words scratch.new) result }
-    ensures kept_to { KeptTo lineAt (words scratch.old) (words scratch.new) }
+    ensures kept_to { KeptTo line_at (words scratch.old) (words scratch.new) }
 {
     let Line::Read(n, q) = text::read_row(text, p, scratch, places::LINE) else {
         return Next::None;

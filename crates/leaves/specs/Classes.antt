@@ -4,17 +4,17 @@ use Rattle.std.proofs.Math.Option.{Option, none, some}
 use Prim.{Unit}
 use Rattle.rules.specs.Concept.{Concept}
 use Rattle.rules.specs.Concept.{Top, Bot, Atomic, Nominal, SelfRestriction, Not, And, Or, Some, All, Min, Max}
-use Rattle.tables.specs.Good.{mostNames}
+use Rattle.tables.specs.Good.{most_names}
 use Rattle.leaves.specs.declared.read.ClassId.{ClassId}
 use Rattle.leaves.specs.declared.read.ClassId.TheVariants as Class
 
-abbrev pub classIn : ClassId → Option ℕ
-classIn (Class.Some a) = some a
-classIn Class.None = none
+abbrev pub class_in : ClassId → Option ℕ
+class_in (Class.Some a) = some a
+class_in Class.None = none
 
 -- a class of the deck, an individual's, or the name of a limit
 abbrev pub SmallClass : ClassId → Type 0
-SmallClass (Class.Some a) = a < mostNames
+SmallClass (Class.Some a) = a < most_names
 SmallClass Class.None = Unit {0}
 
 abbrev pub HasRole : Concept → Type 0
@@ -46,33 +46,33 @@ Restricts (All _ _) = ⊥
 Restricts (Min _ _ _) = Unit {0}
 Restricts (Max _ _ _) = Unit {0}
 
-abbrev pub atLeastNone : Concept → Bool
-atLeastNone Top = false
-atLeastNone Bot = false
-atLeastNone (Atomic _) = false
-atLeastNone (Nominal _) = false
-atLeastNone (SelfRestriction _) = false
-atLeastNone (Not _) = false
-atLeastNone (And _) = false
-atLeastNone (Or _) = false
-atLeastNone (Some _ _) = false
-atLeastNone (All _ _) = false
-atLeastNone (Min n _ _) = eqb n 0
-atLeastNone (Max _ _ _) = false
+abbrev pub at_least_none : Concept → Bool
+at_least_none Top = false
+at_least_none Bot = false
+at_least_none (Atomic _) = false
+at_least_none (Nominal _) = false
+at_least_none (SelfRestriction _) = false
+at_least_none (Not _) = false
+at_least_none (And _) = false
+at_least_none (Or _) = false
+at_least_none (Some _ _) = false
+at_least_none (All _ _) = false
+at_least_none (Min n _ _) = eqb n 0
+at_least_none (Max _ _ _) = false
 
-abbrev pub isMax : Concept → Bool
-isMax Top = false
-isMax Bot = false
-isMax (Atomic _) = false
-isMax (Nominal _) = false
-isMax (SelfRestriction _) = false
-isMax (Not _) = false
-isMax (And _) = false
-isMax (Or _) = false
-isMax (Some _ _) = false
-isMax (All _ _) = false
-isMax (Min _ _ _) = false
-isMax (Max _ _ _) = true
+abbrev pub is_max : Concept → Bool
+is_max Top = false
+is_max Bot = false
+is_max (Atomic _) = false
+is_max (Nominal _) = false
+is_max (SelfRestriction _) = false
+is_max (Not _) = false
+is_max (And _) = false
+is_max (Or _) = false
+is_max (Some _ _) = false
+is_max (All _ _) = false
+is_max (Min _ _ _) = false
+is_max (Max _ _ _) = true
 
 -- neither Top nor a class or an individual: a name of it is a fresh one
 abbrev pub anew : Concept → Bool

@@ -10,9 +10,9 @@ use Rattle.rules.specs.Base.{return, then, ◌>>=◌, ◌>>◌}
 use Rattle.rules.specs.Concept.{Concept}
 use Rattle.rules.specs.Concept.{Top, Bot, Atomic, Nominal, SelfRestriction, Not, And, Or, Some, All, Min, Max}
 use Rattle.rules.specs.Pool.{Pool, at}
-use Rattle.rules.specs.State.{Env, E, canon, freshClass, await, with, push, defer, classIdOf, isDkey}
-use Rattle.rules.specs.Heads.{isTop, namedAnew}
-use Rattle.leaves.specs.Classes.{isMax}
+use Rattle.rules.specs.State.{Env, E, canon, fresh_class, await, with, push, defer, class_id_of, is_dkey}
+use Rattle.rules.specs.Heads.{is_top, named_anew}
+use Rattle.leaves.specs.Classes.{is_max}
 use Rattle.leaves.specs.declared.leaf.Leaf.{Leaf}
 use Rattle.leaves.specs.declared.leaf.Leaf.TheVariants.{Nothing, Empty, Head, Body, Deferred}
 use Rattle.leaves.specs.declared.disjunct.Disjunct.{Disjunct}
@@ -21,208 +21,208 @@ use Rattle.leaves.specs.declared.disjunct.Disjunct.TheVariants.{Ready, Negated, 
 module _ (env : Env) (pool : Pool) where
   -- ---- emit_head
   -- no part of the concept is named, and it is no And, Or or All
-  abbrev pub isLeaf : Concept → Bool
-  isLeaf Top = true
-  isLeaf Bot = true
-  isLeaf (Atomic _) = true
-  isLeaf (Nominal _) = true
-  isLeaf (SelfRestriction _) = true
-  isLeaf (Not _) = true
-  isLeaf (And _) = false
-  isLeaf (Or _) = false
-  isLeaf (Some _ _) = false
-  isLeaf (All _ _) = false
-  isLeaf (Min zero _ _) = true
-  isLeaf (Min (suc _) _ d) = isTop (at pool d)
-  isLeaf (Max _ _ d) = isTop (at pool d)
+  abbrev pub is_leaf : Concept → Bool
+  is_leaf Top = true
+  is_leaf Bot = true
+  is_leaf (Atomic _) = true
+  is_leaf (Nominal _) = true
+  is_leaf (SelfRestriction _) = true
+  is_leaf (Not _) = true
+  is_leaf (And _) = false
+  is_leaf (Or _) = false
+  is_leaf (Some _ _) = false
+  is_leaf (All _ _) = false
+  is_leaf (Min zero _ _) = true
+  is_leaf (Min (suc _) _ d) = is_top (at pool d)
+  is_leaf (Max _ _ d) = is_top (at pool d)
 
   -- of a negated concept: the atom that joins the body
-  abbrev pub negatedAtom : ℕ → Concept → Option Atom
-  negatedAtom v Top = none
-  negatedAtom v Bot = none
-  negatedAtom v (Atomic a) = some (Class a v)
-  negatedAtom v (Nominal i) = some (Class (env.nominalBase + i) v)
-  negatedAtom v (SelfRestriction r) = some (RoleAtom (canon env r) v v)
-  negatedAtom v (Not _) = none
-  negatedAtom v (And _) = none
-  negatedAtom v (Or _) = none
-  negatedAtom v (Some _ _) = none
-  negatedAtom v (All _ _) = none
-  negatedAtom v (Min _ _ _) = none
-  negatedAtom v (Max _ _ _) = none
+  abbrev pub negated_atom : ℕ → Concept → Option Atom
+  negated_atom v Top = none
+  negated_atom v Bot = none
+  negated_atom v (Atomic a) = some (Class a v)
+  negated_atom v (Nominal i) = some (Class (env.nominal_base + i) v)
+  negated_atom v (SelfRestriction r) = some (RoleAtom (canon env r) v v)
+  negated_atom v (Not _) = none
+  negated_atom v (And _) = none
+  negated_atom v (Or _) = none
+  negated_atom v (Some _ _) = none
+  negated_atom v (All _ _) = none
+  negated_atom v (Min _ _ _) = none
+  negated_atom v (Max _ _ _) = none
 
-  abbrev pub bodyOr : Option Atom → Leaf
-  bodyOr (some a) = Body a
-  bodyOr none = Deferred
+  abbrev pub body_or : Option Atom → Leaf
+  body_or (some a) = Body a
+  body_or none = Deferred
 
-  abbrev pub leafOf : ℕ → Concept → Leaf
-  leafOf v Top = Nothing
-  leafOf v Bot = Empty
-  leafOf v (Atomic a) = Head (Class a v)
-  leafOf v (Nominal i) = Head (Class (env.nominalBase + i) v)
-  leafOf v (SelfRestriction r) = Head (RoleAtom (canon env r) v v)
-  leafOf v (Not d) = bodyOr (negatedAtom v (at pool d))
-  leafOf v (And _) = Nothing
-  leafOf v (Or _) = Nothing
-  leafOf v (Some _ _) = Nothing
-  leafOf v (All _ _) = Nothing
-  leafOf v (Min zero r d) = Nothing
-  leafOf v (Min (suc n) r d) = Head (AtLeast (canon env r) Unqualified (suc n) v)
-  leafOf v (Max n r d) = Head (AtMost (canon env r) Unqualified n v)
+  abbrev pub leaf_of : ℕ → Concept → Leaf
+  leaf_of v Top = Nothing
+  leaf_of v Bot = Empty
+  leaf_of v (Atomic a) = Head (Class a v)
+  leaf_of v (Nominal i) = Head (Class (env.nominal_base + i) v)
+  leaf_of v (SelfRestriction r) = Head (RoleAtom (canon env r) v v)
+  leaf_of v (Not d) = body_or (negated_atom v (at pool d))
+  leaf_of v (And _) = Nothing
+  leaf_of v (Or _) = Nothing
+  leaf_of v (Some _ _) = Nothing
+  leaf_of v (All _ _) = Nothing
+  leaf_of v (Min zero r d) = Nothing
+  leaf_of v (Min (suc n) r d) = Head (AtLeast (canon env r) Unqualified (suc n) v)
+  leaf_of v (Max n r d) = Head (AtMost (canon env r) Unqualified n v)
 
-  abbrev pub emitLeaf : List Atom → Leaf → E (Unit {0})
-  emitLeaf b Nothing = return tt
-  emitLeaf b Empty = push env b []
-  emitLeaf b (Head a) = push env b (a ∷ [])
-  emitLeaf b (Body a) = do
+  abbrev pub emit_leaf : List Atom → Leaf → E (Unit {0})
+  emit_leaf b Nothing = return tt
+  emit_leaf b Empty = push env b []
+  emit_leaf b (Head a) = push env b (a ∷ [])
+  emit_leaf b (Body a) = do
     more ← with b a
     push env more []
-  emitLeaf b Deferred = defer env HeadNotNonatomic
+  emit_leaf b Deferred = defer env HeadNotNonatomic
 
   -- over a data key the head is dropped
-  abbrev pub unlessKey : List Atom → Atom → Bool → E (Unit {0})
-  unlessKey b a true = return tt
-  unlessKey b a false = push env b (a ∷ [])
+  abbrev pub unless_key : List Atom → Atom → Bool → E (Unit {0})
+  unless_key b a true = return tt
+  unless_key b a false = push env b (a ∷ [])
 
   -- the head of a restriction whose filler is named q
-  abbrev pub emitNamed : ℕ → Concept → List Atom → ℕ → E (Unit {0})
-  emitNamed v Top b q = return tt
-  emitNamed v Bot b q = return tt
-  emitNamed v (Atomic _) b q = return tt
-  emitNamed v (Nominal _) b q = return tt
-  emitNamed v (SelfRestriction _) b q = return tt
-  emitNamed v (Not _) b q = return tt
-  emitNamed v (And _) b q = return tt
-  emitNamed v (Or _) b q = return tt
-  emitNamed v (Some r _) b q = push env b (Exists (canon env r) q v ∷ [])
-  emitNamed v (All _ _) b q = return tt
-  emitNamed v (Min n r _) b q = unlessKey b (AtLeast (canon env r) (Qualified q) n v) (isDkey env (some q))
-  emitNamed v (Max n r _) b q = unlessKey b (AtMost (canon env r) (Qualified q) n v) (isDkey env (some q))
+  abbrev pub emit_named : ℕ → Concept → List Atom → ℕ → E (Unit {0})
+  emit_named v Top b q = return tt
+  emit_named v Bot b q = return tt
+  emit_named v (Atomic _) b q = return tt
+  emit_named v (Nominal _) b q = return tt
+  emit_named v (SelfRestriction _) b q = return tt
+  emit_named v (Not _) b q = return tt
+  emit_named v (And _) b q = return tt
+  emit_named v (Or _) b q = return tt
+  emit_named v (Some r _) b q = push env b (Exists (canon env r) q v ∷ [])
+  emit_named v (All _ _) b q = return tt
+  emit_named v (Min n r _) b q = unless_key b (AtLeast (canon env r) (Qualified q) n v) (is_dkey env (some q))
+  emit_named v (Max n r _) b q = unless_key b (AtMost (canon env r) (Qualified q) n v) (is_dkey env (some q))
 
-  abbrev pub dropsHead : Concept → ℕ → Bool
-  dropsHead Top q = false
-  dropsHead Bot q = false
-  dropsHead (Atomic _) q = false
-  dropsHead (Nominal _) q = false
-  dropsHead (SelfRestriction _) q = false
-  dropsHead (Not _) q = false
-  dropsHead (And _) q = false
-  dropsHead (Or _) q = false
-  dropsHead (Some _ _) q = false
-  dropsHead (All _ _) q = false
-  dropsHead (Min _ _ _) q = isDkey env (some q)
-  dropsHead (Max _ _ _) q = isDkey env (some q)
+  abbrev pub drops_head : Concept → ℕ → Bool
+  drops_head Top q = false
+  drops_head Bot q = false
+  drops_head (Atomic _) q = false
+  drops_head (Nominal _) q = false
+  drops_head (SelfRestriction _) q = false
+  drops_head (Not _) q = false
+  drops_head (And _) q = false
+  drops_head (Or _) q = false
+  drops_head (Some _ _) q = false
+  drops_head (All _ _) q = false
+  drops_head (Min _ _ _) q = is_dkey env (some q)
+  drops_head (Max _ _ _) q = is_dkey env (some q)
 
   -- ---- head_atom_for
-  abbrev pub negatedOr : Option Atom → Disjunct
-  negatedOr (some a) = Negated a
-  negatedOr none = Absent
+  abbrev pub negated_or : Option Atom → Disjunct
+  negated_or (some a) = Negated a
+  negated_or none = Absent
 
   -- a number restriction: named where it may be no atom, else an atom over its filler
-  abbrev pub countedOr : Bool → Bool → Atom → Disjunct
-  countedOr true top a = Whole
-  countedOr false true a = Ready a
-  countedOr false false a = Filler
+  abbrev pub counted_or : Bool → Bool → Atom → Disjunct
+  counted_or true top a = Whole
+  counted_or false true a = Ready a
+  counted_or false false a = Filler
 
-  abbrev pub disjunctOf : ℕ → Concept → Disjunct
-  disjunctOf v Top = Whole
-  disjunctOf v Bot = Whole
-  disjunctOf v (Atomic a) = Ready (Class a v)
-  disjunctOf v (Nominal i) = Ready (Class (env.nominalBase + i) v)
-  disjunctOf v (SelfRestriction _) = Whole
-  disjunctOf v (Not d) = negatedOr (negatedAtom 0 (at pool d))
-  disjunctOf v (And _) = Whole
-  disjunctOf v (Or _) = Whole
-  disjunctOf v (Some _ _) = Filler
-  disjunctOf v (All _ _) = Whole
-  disjunctOf v (Min n r d) = countedOr (not env.cardDisjunctAtoms || (eqb n 0 || isDkey env (classIdOf env (at pool d)))) (isTop (at pool d)) (AtLeast (canon env r) Unqualified n v)
-  disjunctOf v (Max n r d) = countedOr (not env.cardDisjunctAtoms || isDkey env (classIdOf env (at pool d))) (isTop (at pool d)) (AtMost (canon env r) Unqualified n v)
+  abbrev pub disjunct_of : ℕ → Concept → Disjunct
+  disjunct_of v Top = Whole
+  disjunct_of v Bot = Whole
+  disjunct_of v (Atomic a) = Ready (Class a v)
+  disjunct_of v (Nominal i) = Ready (Class (env.nominal_base + i) v)
+  disjunct_of v (SelfRestriction _) = Whole
+  disjunct_of v (Not d) = negated_or (negated_atom 0 (at pool d))
+  disjunct_of v (And _) = Whole
+  disjunct_of v (Or _) = Whole
+  disjunct_of v (Some _ _) = Filler
+  disjunct_of v (All _ _) = Whole
+  disjunct_of v (Min n r d) = counted_or (not env.card_disjunct_atoms || (eqb n 0 || is_dkey env (class_id_of env (at pool d)))) (is_top (at pool d)) (AtLeast (canon env r) Unqualified n v)
+  disjunct_of v (Max n r d) = counted_or (not env.card_disjunct_atoms || is_dkey env (class_id_of env (at pool d))) (is_top (at pool d)) (AtMost (canon env r) Unqualified n v)
 
   -- Min and Max that are no atoms of their own
-  abbrev pub noAtom : Concept → Bool
-  noAtom Top = false
-  noAtom Bot = false
-  noAtom (Atomic _) = false
-  noAtom (Nominal _) = false
-  noAtom (SelfRestriction _) = false
-  noAtom (Not _) = false
-  noAtom (And _) = false
-  noAtom (Or _) = false
-  noAtom (Some _ _) = false
-  noAtom (All _ _) = false
-  noAtom (Min n _ d) = not env.cardDisjunctAtoms || (eqb n 0 || isDkey env (classIdOf env (at pool d)))
-  noAtom (Max _ _ d) = not env.cardDisjunctAtoms || isDkey env (classIdOf env (at pool d))
+  abbrev pub no_atom : Concept → Bool
+  no_atom Top = false
+  no_atom Bot = false
+  no_atom (Atomic _) = false
+  no_atom (Nominal _) = false
+  no_atom (SelfRestriction _) = false
+  no_atom (Not _) = false
+  no_atom (And _) = false
+  no_atom (Or _) = false
+  no_atom (Some _ _) = false
+  no_atom (All _ _) = false
+  no_atom (Min n _ d) = not env.card_disjunct_atoms || (eqb n 0 || is_dkey env (class_id_of env (at pool d)))
+  no_atom (Max _ _ d) = not env.card_disjunct_atoms || is_dkey env (class_id_of env (at pool d))
 
   -- Min and Max over Top
-  abbrev pub overTop : ℕ → Concept → Atom
-  overTop v Top = Class 0 v
-  overTop v Bot = Class 0 v
-  overTop v (Atomic _) = Class 0 v
-  overTop v (Nominal _) = Class 0 v
-  overTop v (SelfRestriction _) = Class 0 v
-  overTop v (Not _) = Class 0 v
-  overTop v (And _) = Class 0 v
-  overTop v (Or _) = Class 0 v
-  overTop v (Some _ _) = Class 0 v
-  overTop v (All _ _) = Class 0 v
-  overTop v (Min n r _) = AtLeast (canon env r) Unqualified n v
-  overTop v (Max n r _) = AtMost (canon env r) Unqualified n v
+  abbrev pub over_top : ℕ → Concept → Atom
+  over_top v Top = Class 0 v
+  over_top v Bot = Class 0 v
+  over_top v (Atomic _) = Class 0 v
+  over_top v (Nominal _) = Class 0 v
+  over_top v (SelfRestriction _) = Class 0 v
+  over_top v (Not _) = Class 0 v
+  over_top v (And _) = Class 0 v
+  over_top v (Or _) = Class 0 v
+  over_top v (Some _ _) = Class 0 v
+  over_top v (All _ _) = Class 0 v
+  over_top v (Min n r _) = AtLeast (canon env r) Unqualified n v
+  over_top v (Max n r _) = AtMost (canon env r) Unqualified n v
 
   -- the atom of a restriction whose filler is named q
-  abbrev pub fillerAtom : ℕ → Concept → ℕ → Atom
-  fillerAtom v Top q = Class q v
-  fillerAtom v Bot q = Class q v
-  fillerAtom v (Atomic _) q = Class q v
-  fillerAtom v (Nominal _) q = Class q v
-  fillerAtom v (SelfRestriction _) q = Class q v
-  fillerAtom v (Not _) q = Class q v
-  fillerAtom v (And _) q = Class q v
-  fillerAtom v (Or _) q = Class q v
-  fillerAtom v (Some r _) q = Exists (canon env r) q v
-  fillerAtom v (All _ _) q = Class q v
-  fillerAtom v (Min n r _) q = AtLeast (canon env r) (Qualified q) n v
-  fillerAtom v (Max n r _) q = AtMost (canon env r) (Qualified q) n v
+  abbrev pub filler_atom : ℕ → Concept → ℕ → Atom
+  filler_atom v Top q = Class q v
+  filler_atom v Bot q = Class q v
+  filler_atom v (Atomic _) q = Class q v
+  filler_atom v (Nominal _) q = Class q v
+  filler_atom v (SelfRestriction _) q = Class q v
+  filler_atom v (Not _) q = Class q v
+  filler_atom v (And _) q = Class q v
+  filler_atom v (Or _) q = Class q v
+  filler_atom v (Some r _) q = Exists (canon env r) q v
+  filler_atom v (All _ _) q = Class q v
+  filler_atom v (Min n r _) q = AtLeast (canon env r) (Qualified q) n v
+  filler_atom v (Max n r _) q = AtMost (canon env r) (Qualified q) n v
 
   -- the filler of a restriction
-  abbrev pub fillerOf : Concept → ℕ
-  fillerOf Top = 0
-  fillerOf Bot = 0
-  fillerOf (Atomic _) = 0
-  fillerOf (Nominal _) = 0
-  fillerOf (SelfRestriction _) = 0
-  fillerOf (Not d) = d
-  fillerOf (And _) = 0
-  fillerOf (Or _) = 0
-  fillerOf (Some _ d) = d
-  fillerOf (All _ d) = d
-  fillerOf (Min _ _ d) = d
-  fillerOf (Max _ _ d) = d
+  abbrev pub filler_of : Concept → ℕ
+  filler_of Top = 0
+  filler_of Bot = 0
+  filler_of (Atomic _) = 0
+  filler_of (Nominal _) = 0
+  filler_of (SelfRestriction _) = 0
+  filler_of (Not d) = d
+  filler_of (And _) = 0
+  filler_of (Or _) = 0
+  filler_of (Some _ d) = d
+  filler_of (All _ d) = d
+  filler_of (Min _ _ d) = d
+  filler_of (Max _ _ d) = d
 
   -- with option 4 the filler of a limit waits, where it is named anew
-  abbrev pub awaitFiller : Concept → E (Unit {0})
-  awaitFiller e = await env (fillerOf e) (isMax e && namedAnew env (at pool (fillerOf e)))
+  abbrev pub await_filler : Concept → E (Unit {0})
+  await_filler e = await env (filler_of e) (is_max e && named_anew env (at pool (filler_of e)))
 
   -- a fresh name for the negation of an atom on X
-  abbrev pub nameNegated : ℕ → Atom → E (Option Atom)
-  nameNegated v a = do
-    q ← freshClass
+  abbrev pub name_negated : ℕ → Atom → E (Option Atom)
+  name_negated v a = do
+    q ← fresh_class
     push env (Class q 0 ∷ a ∷ []) []
     return (some (Class q v))
 
   module _ (name : ℕ → E ℕ) where
     -- the class that names a restriction's filler
-    abbrev pub nameFiller : Concept → E ℕ
-    nameFiller e = do
-      awaitFiller e
-      name (fillerOf e)
+    abbrev pub name_filler : Concept → E ℕ
+    name_filler e = do
+      await_filler e
+      name (filler_of e)
 
-    abbrev pub disjunctAtom : ℕ → ℕ → Concept → Disjunct → E (Option Atom)
-    disjunctAtom c v e (Ready a) = return (some a)
-    disjunctAtom c v e (Negated a) = nameNegated v a
-    disjunctAtom c v e Absent = return none
-    disjunctAtom c v e Whole = do
+    abbrev pub disjunct_atom : ℕ → ℕ → Concept → Disjunct → E (Option Atom)
+    disjunct_atom c v e (Ready a) = return (some a)
+    disjunct_atom c v e (Negated a) = name_negated v a
+    disjunct_atom c v e Absent = return none
+    disjunct_atom c v e Whole = do
       q ← name c
       return (some (Class q v))
-    disjunctAtom c v e Filler = do
-      q ← nameFiller e
-      return (some (fillerAtom v e q))
+    disjunct_atom c v e Filler = do
+      q ← name_filler e
+      return (some (filler_atom v e q))

@@ -26,9 +26,9 @@ headed (Head.Made k x) c a d = ok (some x) (tables k c a d)
 headed (Head.Absent k) c a d = ok none (tables k c a d)
 headed (Head.Refused e) c a d = refused e
 
-abbrev pub shownAtom : Env → Counters → Res Out (Option Atom) → Res Tables (Option Atom)
-shownAtom env k (ok x s) = ok x (show k env.rooms s)
-shownAtom env k (refused e) = refused e
+abbrev pub shown_atom : Env → Counters → Res Out (Option Atom) → Res Tables (Option Atom)
+shown_atom env k (ok x s) = ok x (show k env.rooms s)
+shown_atom env k (refused e) = refused e
 
 abbrev pub GoodHeaded : Headed → Type 0
 GoodHeaded (Head.Made k x) = Good k × Fits x
@@ -42,7 +42,7 @@ KeptHeaded k (Head.Refused e) = Unit {0}
 
 pub record DidAtom (low : ℕ) (rule : Env → ℕ → Out → Res Out (Option Atom)) (k : Counters) (base : ℕ) (x y : Four) (r : Headed) : Type 0 where
   pub equal : (env : Env) (f : ℕ) (s : Out) → low ≤ f → EnvHeld env k x → tables k x.clauses x.atoms x.deferrals ≡ show k env.rooms s
-      → headed r y.clauses y.atoms y.deferrals ≡ shownAtom env k (rule env f s)
+      → headed r y.clauses y.atoms y.deferrals ≡ shown_atom env k (rule env f s)
   pub frame : take (6 * base) y.scratch ≡ take (6 * base) x.scratch
   pub good : GoodHeaded r
   pub kept : KeptHeaded k r
@@ -57,6 +57,6 @@ pub record DidAfter (rule : Env → List Atom → ℕ → Out → Res Out (Unit 
 
 -- the atom that is made of the class
 pub record MadeAfter (atom : Env → ℕ → Atom) (k : Counters) (named : Answer) (w : List ℕ) (r : Headed) : Type 0 where
-  pub equal : (env : Env) (c a d : List ℕ) (X : Res Out ℕ) → EnvIn env k w → after named c a d ≡ shown (λ q. q) k env.rooms X → headed r c a d ≡ shownAtom env k (then X (λ q s. ok (some (atom env q)) s))
+  pub equal : (env : Env) (c a d : List ℕ) (X : Res Out ℕ) → EnvIn env k w → after named c a d ≡ shown (λ q. q) k env.rooms X → headed r c a d ≡ shown_atom env k (then X (λ q s. ok (some (atom env q)) s))
   pub good : GoodHeaded r
   pub kept : KeptHeaded k r

@@ -4,11 +4,11 @@ ghost use Rattle.words.specs.Words.{words};
 ghost use Rattle.ir.specs.declared.atom.Atom.TheVariants.{Class};
 ghost use Rattle.rules.specs.Base.{ok, then};
 ghost use Rattle.rules.specs.State.{Env};
-ghost use Rattle.pool.specs.Layout.{conceptAt, poolOf};
+ghost use Rattle.pool.specs.Layout.{concept_at, pool_of};
 ghost use Rattle.tables.specs.Drawn.{after, Sized};
 ghost use Rattle.tables.specs.Good.{GoodAnswer, KeptAnswer};
 ghost use Rattle.hands.specs.Hands.{EnvIn, four};
-ghost use Rattle.leaves.specs.Leaves.{emitNamed, fillerAtom, dropsHead};
+ghost use Rattle.leaves.specs.Leaves.{emit_named, filler_atom, drops_head};
 ghost use Rattle.leaves.specs.Classes.{Restricts};
 ghost use Rattle.leaves.specs.Reading.{Reading};
 ghost use Rattle.leaves.specs.Made.{Small, DidAfter, MadeAfter};
@@ -31,11 +31,11 @@ pub fn emit_named(
     c: u32,
     v: u32,
 ) -> Answer
-    requires { Reading scratch.now k × (c < k.concepts) × Restricts (conceptAt (words scratch.now) c) × GoodAnswer named × KeptAnswer k named × Small named × (n ≤ 256) × (24 * (base + n + 1) ≤ length scratch.now) × Sized (length clauses.old) (length atoms.old) 0 }
+    requires { Reading scratch.now k × (c < k.concepts) × Restricts (concept_at (words scratch.now) c) × GoodAnswer named × KeptAnswer k named × Small named × (n ≤ 256) × (24 * (base + n + 1) ≤ length scratch.now) × Sized (length clauses.old) (length atoms.old) 0 }
     ensures { let w = words scratch.now in
         let old = four w (words clauses.old) (words atoms.old) in
         let new = four w (words clauses.new) (words atoms.new) in
-        ((d : List ℕ) → DidAfter (λ env b q s. emitNamed env (poolOf w k.concepts) v (conceptAt w c) b q s) k named base n (old d) (new d) result) }
+        ((d : List ℕ) → DidAfter (λ env b q s. emit_named env (pool_of w k.concepts) v (concept_at w c) b q s) k named base n (old d) (new d) result) }
 {
     let Answer::Done(l, q) = named else {
         return named;
@@ -49,8 +49,8 @@ pub fn emit_named(
 
 // Whether the head of restriction c over class q is dropped: Min and Max over a data key.
 fn drops_head(scratch: &[u8], k: Counters, c: u32, q: u32) -> bool
-    requires { Reading scratch.now k × (c < k.concepts) × Restricts (conceptAt (words scratch.now) c) }
-    ensures { (env : Env) → EnvIn env k (words scratch.now) → result ≡ dropsHead env (poolOf (words scratch.now) k.concepts) (conceptAt (words scratch.now) c) q }
+    requires { Reading scratch.now k × (c < k.concepts) × Restricts (concept_at (words scratch.now) c) }
+    ensures { (env : Env) → EnvIn env k (words scratch.now) → result ≡ drops_head env (pool_of (words scratch.now) k.concepts) (concept_at (words scratch.now) c) q }
 {
     if concept::kind(scratch, c) == 9 {
         return false;
@@ -71,8 +71,8 @@ pub fn class_atom(k: Counters, named: Answer, v: u32) -> Headed
 
 // The atom of restriction c over the class. k: the counters before the class was named.
 pub fn filler_after(scratch: &[u8], k: Counters, named: Answer, c: u32, v: u32) -> Headed
-    requires { Reading scratch.now k × (c < k.concepts) × Restricts (conceptAt (words scratch.now) c) × GoodAnswer named × KeptAnswer k named × Small named }
-    ensures { MadeAfter (λ env q. fillerAtom env (poolOf (words scratch.now) k.concepts) v (conceptAt (words scratch.now) c) q) k named (words scratch.now) result }
+    requires { Reading scratch.now k × (c < k.concepts) × Restricts (concept_at (words scratch.now) c) × GoodAnswer named × KeptAnswer k named × Small named }
+    ensures { MadeAfter (λ env q. filler_atom env (pool_of (words scratch.now) k.concepts) v (concept_at (words scratch.now) c) q) k named (words scratch.now) result }
 {
     match named {
         Answer::Done(l, q) => Headed::Made(l, disjunct::filler_atom(scratch, k, c, v, q)),

@@ -1,19 +1,19 @@
 // head_atom_for before anything is named.
 ghost use Rattle.std.specs.Prelude.{◌≡◌, [], List, ℕ, ◌+◌, ◌*◌, ◌<◌, ◌≤◌, ◌^◌, length};
 ghost use Rattle.words.specs.Words.{words};
-ghost use Rattle.ir.specs.Scratch.{handsAt, limitsAt};
+ghost use Rattle.ir.specs.Scratch.{hands_at, limits_at};
 ghost use Rattle.ir.specs.Records.{Fits};
 ghost use Rattle.rules.specs.Concept.{Concept};
 ghost use Rattle.rules.specs.Pool.{Pool};
-ghost use Rattle.rules.specs.State.{Env, classIdOf, isDkey};
-ghost use Rattle.pool.specs.Layout.{field, conceptAt, poolOf};
+ghost use Rattle.rules.specs.State.{Env, class_id_of, is_dkey};
+ghost use Rattle.pool.specs.Layout.{field, concept_at, pool_of};
 ghost use Rattle.tables.specs.Drawn.{Sized};
 ghost use Rattle.tables.specs.Good.{Good};
 ghost use Rattle.waiting.specs.Limits.{Behind};
 ghost use Rattle.hands.specs.Hands.{EnvIn, four};
-ghost use Rattle.leaves.specs.Leaves.{negatedOr, noAtom, overTop, disjunctOf, fillerAtom, nameNegated};
+ghost use Rattle.leaves.specs.Leaves.{negated_or, no_atom, over_top, disjunct_of, filler_atom, name_negated};
 ghost use Rattle.leaves.specs.Classes.{Restricts};
-ghost use Rattle.leaves.specs.Reading.{Reading, DisjunctFits, literalIn, LiteralFits};
+ghost use Rattle.leaves.specs.Reading.{Reading, DisjunctFits, literal_in, LiteralFits};
 ghost use Rattle.leaves.specs.Made.{DidAtom};
 
 use crate::leaf::Literal;
@@ -38,7 +38,7 @@ pub enum Disjunct {
 // Of a negation.
 fn excluded(x: Literal) -> Disjunct
     requires { LiteralFits x }
-    ensures value { (env : Env) (p : Pool) → result ≡ negatedOr env p (literalIn x) }
+    ensures value { (env : Env) (p : Pool) → result ≡ negated_or env p (literal_in x) }
     ensures disjunct_fits { (e : Concept) → DisjunctFits e result }
 {
     match x {
@@ -50,7 +50,7 @@ fn excluded(x: Literal) -> Disjunct
 // Whether concept d is a data key.
 fn over_dkey(scratch: &[u8], k: Counters, d: u32) -> bool
     requires { Reading scratch.now k × (d < k.concepts) }
-    ensures { (env : Env) → EnvIn env k (words scratch.now) → result ≡ isDkey env (classIdOf env (conceptAt (words scratch.now) d)) }
+    ensures { (env : Env) → EnvIn env k (words scratch.now) → result ≡ is_dkey env (class_id_of env (concept_at (words scratch.now) d)) }
 {
     match read::class_id_of(scratch, k, d) {
         ClassId::Some(a) => read::is_dkey(scratch, k, a),
@@ -61,7 +61,7 @@ fn over_dkey(scratch: &[u8], k: Counters, d: u32) -> bool
 // Whether Min or Max is no atom of its own: without option 2, at least 0, or over a data key.
 fn no_atom(scratch: &[u8], k: Counters, c: u32) -> bool
     requires { Reading scratch.now k × (c < k.concepts) × (11 ≤ field (words scratch.now) c 0) }
-    ensures { (env : Env) → EnvIn env k (words scratch.now) → result ≡ noAtom env (poolOf (words scratch.now) k.concepts) (conceptAt (words scratch.now) c) }
+    ensures { (env : Env) → EnvIn env k (words scratch.now) → result ≡ no_atom env (pool_of (words scratch.now) k.concepts) (concept_at (words scratch.now) c) }
 {
     if !options::card_disjunct_atoms(k.options) {
         return true;
@@ -75,7 +75,7 @@ fn no_atom(scratch: &[u8], k: Counters, c: u32) -> bool
 // Min or Max over Top, as an atom.
 fn unqualified(scratch: &[u8], k: Counters, c: u32, v: u32) -> Atom
     requires { Reading scratch.now k × (c < k.concepts) × (11 ≤ field (words scratch.now) c 0) }
-    ensures value { (env : Env) → EnvIn env k (words scratch.now) → result ≡ overTop env (poolOf (words scratch.now) k.concepts) v (conceptAt (words scratch.now) c) }
+    ensures value { (env : Env) → EnvIn env k (words scratch.now) → result ≡ over_top env (pool_of (words scratch.now) k.concepts) v (concept_at (words scratch.now) c) }
     ensures fits { Fits result }
 {
     let role = read::canon(scratch, k, c);
@@ -89,8 +89,8 @@ fn unqualified(scratch: &[u8], k: Counters, c: u32, v: u32) -> Atom
 // Min or Max.
 fn counted(scratch: &[u8], k: Counters, c: u32, v: u32) -> Disjunct
     requires { Reading scratch.now k × (c < k.concepts) × (11 ≤ field (words scratch.now) c 0) }
-    ensures value { (env : Env) → EnvIn env k (words scratch.now) → result ≡ disjunctOf env (poolOf (words scratch.now) k.concepts) v (conceptAt (words scratch.now) c) }
-    ensures disjunct_fits { DisjunctFits (conceptAt (words scratch.now) c) result }
+    ensures value { (env : Env) → EnvIn env k (words scratch.now) → result ≡ disjunct_of env (pool_of (words scratch.now) k.concepts) v (concept_at (words scratch.now) c) }
+    ensures disjunct_fits { DisjunctFits (concept_at (words scratch.now) c) result }
 {
     if no_atom(scratch, k, c) {
         return Disjunct::Whole;
@@ -103,8 +103,8 @@ fn counted(scratch: &[u8], k: Counters, c: u32, v: u32) -> Disjunct
 
 pub fn disjunct_of(scratch: &[u8], k: Counters, c: u32, v: u32) -> Disjunct
     requires { Reading scratch.now k × (c < k.concepts) }
-    ensures value { (env : Env) → EnvIn env k (words scratch.now) → result ≡ disjunctOf env (poolOf (words scratch.now) k.concepts) v (conceptAt (words scratch.now) c) }
-    ensures disjunct_fits { DisjunctFits (conceptAt (words scratch.now) c) result }
+    ensures value { (env : Env) → EnvIn env k (words scratch.now) → result ≡ disjunct_of env (pool_of (words scratch.now) k.concepts) v (concept_at (words scratch.now) c) }
+    ensures disjunct_fits { DisjunctFits (concept_at (words scratch.now) c) result }
 {
     match concept::kind(scratch, c) {
         3 => Disjunct::Ready(Atom::Class(concept::number(scratch, c), v)),
@@ -127,10 +127,10 @@ pub fn name_negated(
     a: Atom,
     v: u32,
 ) -> Headed
-    requires { (handsAt ≤ 6 * base) × (24 * (base + 2) ≤ length scratch.old) × Sized (length clauses.old) (length atoms.old) 0 × Good k × (k.next_class ≤ k.visits + 8191) × Fits a × (6 * (base + 2) ≤ limitsAt) }
+    requires { (hands_at ≤ 6 * base) × (24 * (base + 2) ≤ length scratch.old) × Sized (length clauses.old) (length atoms.old) 0 × Good k × (k.next_class ≤ k.visits + 8191) × Fits a × (6 * (base + 2) ≤ limits_at) }
     ensures { let old = four (words scratch.old) (words clauses.old) (words atoms.old) in
         let new = four (words scratch.new) (words clauses.new) (words atoms.new) in
-        ((d : List ℕ) → DidAtom 0 (λ env f s. nameNegated env [] v a s) k base (old d) (new d) result) × Behind (words scratch.old) (words scratch.new) }
+        ((d : List ℕ) → DidAtom 0 (λ env f s. name_negated env [] v a s) k base (old d) (new d) result) × Behind (words scratch.old) (words scratch.new) }
 {
     let q = k.next_class;
     let named = k.fresh_class();
@@ -144,8 +144,8 @@ pub fn name_negated(
 
 // The atom of restriction c over the class q.
 pub fn filler_atom(scratch: &[u8], k: Counters, c: u32, v: u32, q: u32) -> Atom
-    requires { Reading scratch.now k × (c < k.concepts) × Restricts (conceptAt (words scratch.now) c) × (q + 1 < 2 ^ 32) }
-    ensures value { (env : Env) → EnvIn env k (words scratch.now) → result ≡ fillerAtom env (poolOf (words scratch.now) k.concepts) v (conceptAt (words scratch.now) c) q }
+    requires { Reading scratch.now k × (c < k.concepts) × Restricts (concept_at (words scratch.now) c) × (q + 1 < 2 ^ 32) }
+    ensures value { (env : Env) → EnvIn env k (words scratch.now) → result ≡ filler_atom env (pool_of (words scratch.now) k.concepts) v (concept_at (words scratch.now) c) q }
     ensures fits { Fits result }
 {
     let role = read::canon(scratch, k, c);

@@ -1,8 +1,8 @@
 // Which way emit_head goes.
 ghost use Rattle.std.specs.Prelude.{◌≡◌, ◌<◌};
 ghost use Rattle.words.specs.Words.{words};
-ghost use Rattle.pool.specs.Layout.{conceptAt, poolOf};
-ghost use Rattle.leaves.specs.Reading.{Reading, formOf};
+ghost use Rattle.pool.specs.Layout.{concept_at, pool_of};
+ghost use Rattle.leaves.specs.Reading.{Reading, form_of};
 
 use crate::read;
 use ir::counters::Counters;
@@ -20,7 +20,7 @@ pub enum Form {
 
 pub fn form_of(scratch: &[u8], k: Counters, c: u32) -> Form
     requires { Reading scratch.now k × (c < k.concepts) }
-    ensures { result ≡ formOf (poolOf (words scratch.now) k.concepts) (conceptAt (words scratch.now) c) }
+    ensures { result ≡ form_of (pool_of (words scratch.now) k.concepts) (concept_at (words scratch.now) c) }
 {
     let kind = record::kind(scratch, c);
     if kind < 7 {

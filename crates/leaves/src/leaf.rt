@@ -1,16 +1,16 @@
 // emit_head where nothing is named.
 ghost use Rattle.std.specs.Prelude.{◌≡◌, [], ◌+◌, ◌*◌, ◌<◌, ◌≤◌, length};
 ghost use Rattle.words.specs.Words.{words};
-ghost use Rattle.ir.specs.Scratch.{handsAt, limitsAt};
+ghost use Rattle.ir.specs.Scratch.{hands_at, limits_at};
 ghost use Rattle.rules.specs.Pool.{Pool};
 ghost use Rattle.rules.specs.State.{Env};
-ghost use Rattle.pool.specs.Layout.{field, conceptAt, poolOf};
+ghost use Rattle.pool.specs.Layout.{field, concept_at, pool_of};
 ghost use Rattle.tables.specs.Drawn.{Sized};
 ghost use Rattle.tables.specs.Good.{Good};
 ghost use Rattle.waiting.specs.Limits.{Behind};
 ghost use Rattle.hands.specs.Hands.{EnvIn, four, Did};
-ghost use Rattle.leaves.specs.Leaves.{bodyOr, negatedAtom, leafOf, emitLeaf};
-ghost use Rattle.leaves.specs.Reading.{Reading, LeafFits, literalIn, LiteralFits};
+ghost use Rattle.leaves.specs.Leaves.{body_or, negated_atom, leaf_of, emit_leaf};
+ghost use Rattle.leaves.specs.Reading.{Reading, LeafFits, literal_in, LiteralFits};
 
 use crate::read;
 use crate::read::ClassId;
@@ -41,7 +41,7 @@ pub enum Literal {
 // Of the negation of concept d: the atom that joins the body.
 pub fn negated(scratch: &[u8], k: Counters, d: u32, v: u32) -> Literal
     requires { Reading scratch.now k × (d < k.concepts) }
-    ensures result_value { (env : Env) → EnvIn env k (words scratch.now) → literalIn result ≡ negatedAtom env (poolOf (words scratch.now) k.concepts) v (conceptAt (words scratch.now) d) }
+    ensures result_value { (env : Env) → EnvIn env k (words scratch.now) → literal_in result ≡ negated_atom env (pool_of (words scratch.now) k.concepts) v (concept_at (words scratch.now) d) }
     ensures literal_fits { LiteralFits result }
 {
     if concept::kind(scratch, d) == 5 {
@@ -56,7 +56,7 @@ pub fn negated(scratch: &[u8], k: Counters, d: u32, v: u32) -> Literal
 // The atom joins the body; where there is none, deferral 8.
 fn joined(x: Literal) -> Leaf
     requires { LiteralFits x }
-    ensures value { (env : Env) (p : Pool) → result ≡ bodyOr env p (literalIn x) }
+    ensures value { (env : Env) (p : Pool) → result ≡ body_or env p (literal_in x) }
     ensures leaf_fits { LeafFits result }
 {
     match x {
@@ -68,7 +68,7 @@ fn joined(x: Literal) -> Leaf
 // Of Min and Max over Top.
 fn counted(scratch: &[u8], k: Counters, c: u32, v: u32) -> Leaf
     requires { Reading scratch.now k × (c < k.concepts) × (11 ≤ field (words scratch.now) c 0) }
-    ensures value { (env : Env) → EnvIn env k (words scratch.now) → result ≡ leafOf env (poolOf (words scratch.now) k.concepts) v (conceptAt (words scratch.now) c) }
+    ensures value { (env : Env) → EnvIn env k (words scratch.now) → result ≡ leaf_of env (pool_of (words scratch.now) k.concepts) v (concept_at (words scratch.now) c) }
     ensures leaf_fits { LeafFits result }
 {
     let n = concept::number(scratch, c);
@@ -84,7 +84,7 @@ fn counted(scratch: &[u8], k: Counters, c: u32, v: u32) -> Leaf
 
 pub fn leaf_of(scratch: &[u8], k: Counters, c: u32, v: u32) -> Leaf
     requires { Reading scratch.now k × (c < k.concepts) }
-    ensures value { (env : Env) → EnvIn env k (words scratch.now) → result ≡ leafOf env (poolOf (words scratch.now) k.concepts) v (conceptAt (words scratch.now) c) }
+    ensures value { (env : Env) → EnvIn env k (words scratch.now) → result ≡ leaf_of env (pool_of (words scratch.now) k.concepts) v (concept_at (words scratch.now) c) }
     ensures leaf_fits { LeafFits result }
 {
     match concept::kind(scratch, c) {
@@ -110,10 +110,10 @@ pub fn emit_leaf(
     n: u32,
     leaf: Leaf,
 ) -> Answer
-    requires { (n ≤ 256) × (handsAt ≤ 6 * base) × (24 * (base + n + 1) ≤ length scratch.old) × Sized (length clauses.old) (length atoms.old) (length deferrals.old) × Good k × LeafFits leaf × (6 * (base + n + 1) ≤ limitsAt) }
+    requires { (n ≤ 256) × (hands_at ≤ 6 * base) × (24 * (base + n + 1) ≤ length scratch.old) × Sized (length clauses.old) (length atoms.old) (length deferrals.old) × Good k × LeafFits leaf × (6 * (base + n + 1) ≤ limits_at) }
     ensures { let old = four (words scratch.old) (words clauses.old) (words atoms.old) (words deferrals.old) in
         let new = four (words scratch.new) (words clauses.new) (words atoms.new) (words deferrals.new) in
-        Did (λ _. 0) 0 (λ env f b s. emitLeaf env [] b leaf s) k base n old new result × Behind old.scratch new.scratch }
+        Did (λ _. 0) 0 (λ env f b s. emit_leaf env [] b leaf s) k base n old new result × Behind old.scratch new.scratch }
 {
     match leaf {
         Leaf::Nothing => Answer::Done(k, 0),

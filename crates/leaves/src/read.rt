@@ -2,13 +2,13 @@
 ghost use Rattle.std.specs.Prelude.{◌≡◌, ◌+◌, ◌<◌, ◌^◌};
 ghost use Rattle.std.proofs.Math.Option.{some};
 ghost use Rattle.words.specs.Words.{words};
-ghost use Rattle.ir.specs.Roles.{roleOf, roleId};
-ghost use Rattle.rules.specs.State.{Env, canon, classIdOf, isDkey};
-ghost use Rattle.rules.specs.Heads.{isTop};
-ghost use Rattle.pool.specs.Layout.{field, conceptAt};
+ghost use Rattle.ir.specs.Roles.{role_of, role_id};
+ghost use Rattle.rules.specs.State.{Env, canon, class_id_of, is_dkey};
+ghost use Rattle.rules.specs.Heads.{is_top};
+ghost use Rattle.pool.specs.Layout.{field, concept_at};
 ghost use Rattle.hands.specs.Hands.{EnvIn};
 ghost use Rattle.leaves.specs.Reading.{Reading};
-ghost use Rattle.leaves.specs.Classes.{classIn, SmallClass, HasRole, atLeastNone};
+ghost use Rattle.leaves.specs.Classes.{class_in, SmallClass, HasRole, at_least_none};
 
 use ir::counters::Counters;
 use ir::role::Role;
@@ -23,7 +23,7 @@ pub enum ClassId {
 
 pub fn is_top(scratch: &[u8], k: Counters, c: u32) -> bool
     requires { Reading scratch.now k × (c < k.concepts) }
-    ensures { result ≡ isTop (conceptAt (words scratch.now) c) }
+    ensures { result ≡ is_top (concept_at (words scratch.now) c) }
 {
     record::kind(scratch, c) == 1
 }
@@ -31,7 +31,7 @@ pub fn is_top(scratch: &[u8], k: Counters, c: u32) -> bool
 // Whether concept c is Min 0.
 pub fn at_least_none(scratch: &[u8], k: Counters, c: u32) -> bool
     requires { Reading scratch.now k × (c < k.concepts) }
-    ensures { result ≡ atLeastNone (conceptAt (words scratch.now) c) }
+    ensures { result ≡ at_least_none (concept_at (words scratch.now) c) }
 {
     if record::kind(scratch, c) != 11 {
         return false;
@@ -41,7 +41,7 @@ pub fn at_least_none(scratch: &[u8], k: Counters, c: u32) -> bool
 
 pub fn class_id_of(scratch: &[u8], k: Counters, c: u32) -> ClassId
     requires { Reading scratch.now k × (c < k.concepts) }
-    ensures result_value { (env : Env) → EnvIn env k (words scratch.now) → classIn result ≡ classIdOf env (conceptAt (words scratch.now) c) }
+    ensures result_value { (env : Env) → EnvIn env k (words scratch.now) → class_in result ≡ class_id_of env (concept_at (words scratch.now) c) }
     ensures small_class { SmallClass result }
 {
     let kind = record::kind(scratch, c);
@@ -57,7 +57,7 @@ pub fn class_id_of(scratch: &[u8], k: Counters, c: u32) -> ClassId
 // Whether class a is a data key; ids above the declared classes are none.
 pub fn is_dkey(scratch: &[u8], k: Counters, a: u32) -> bool
     requires { Reading scratch.now k }
-    ensures { (env : Env) → EnvIn env k (words scratch.now) → result ≡ isDkey env (some a) }
+    ensures { (env : Env) → EnvIn env k (words scratch.now) → result ≡ is_dkey env (some a) }
 {
     if a < 4096 {
         return ontology::key::is_key(scratch, a);
@@ -67,9 +67,9 @@ pub fn is_dkey(scratch: &[u8], k: Counters, a: u32) -> bool
 
 // The canonical form of the role of concept c, which has one.
 pub fn canon(scratch: &[u8], k: Counters, c: u32) -> Role
-    requires { Reading scratch.now k × (c < k.concepts) × HasRole (conceptAt (words scratch.now) c) }
-    ensures value { (env : Env) → EnvIn env k (words scratch.now) → result ≡ canon env (roleOf (field (words scratch.now) c 1)) }
-    ensures result_bound { roleId result < 2 ^ 31 }
+    requires { Reading scratch.now k × (c < k.concepts) × HasRole (concept_at (words scratch.now) c) }
+    ensures value { (env : Env) → EnvIn env k (words scratch.now) → result ≡ canon env (role_of (field (words scratch.now) c 1)) }
+    ensures result_bound { role_id result < 2 ^ 31 }
 {
     let code = record::role(scratch, c);
     let canon = inverse::canon_role(scratch, code);

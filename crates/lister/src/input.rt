@@ -1,11 +1,11 @@
 // The listing of an input of any length.
 ghost use Rattle.std.specs.Prelude.{◌≡◌, List, ℕ, ◌<◌, ◌≤◌, length};
-ghost use Rattle.rules.specs.Deck.{mostBytes};
-ghost use Rattle.rules.specs.Lister.{listerLengths, listing};
+ghost use Rattle.rules.specs.Deck.{most_bytes};
+ghost use Rattle.rules.specs.Lister.{lister_lengths, listing};
 ghost use Rattle.rows.specs.Rows.{Put};
 ghost use Rattle.clausify.specs.Entry.{lent};
 ghost use Rattle.lister.specs.Cut.{Read};
-ghost use Rattle.lister.specs.Text.{mostText};
+ghost use Rattle.lister.specs.Text.{most_text};
 
 use crate::lines;
 
@@ -19,8 +19,8 @@ pub fn list_input(
     scratch: &mut [u8],
     out: &mut [u8],
 ) -> usize
-    requires most_bytes_in_bounds { (mostBytes < length space.now) × (n ≤ length space.now) }
-    requires scratch_value { (lent clauses.old atoms.old deferrals.old scratch.old ≡ listerLengths) × (mostText ≤ length out.old) }
+    requires most_bytes_in_bounds { (most_bytes < length space.now) × (n ≤ length space.now) }
+    requires scratch_value { (lent clauses.old atoms.old deferrals.old scratch.old ≡ lister_lengths) × (most_text ≤ length out.old) }
     ensures { (input : List ℕ) → Read input space.now n → Put out.old 0 (listing input) out.new result }
 {
     lines::put_listing(&space[..n], clauses, atoms, deferrals, scratch, out)

@@ -2,12 +2,12 @@
 ghost use Rattle.std.specs.Prelude.{◌≡◌, List, [], ◌∷◌, ◌++◌, ◌+◌, ◌≤◌, length};
 ghost use Rattle.words.specs.Words.{words};
 ghost use Rattle.rules.specs.State.{Clause};
-ghost use Rattle.rules.specs.Lister.{fieldsText, clausesText, listerLengths, listing};
+ghost use Rattle.rules.specs.Lister.{fields_text, clauses_text, lister_lengths, listing};
 ghost use Rattle.tables.specs.Tabled.{Tabled};
-ghost use Rattle.rows.specs.Rows.{Put, columnsText};
+ghost use Rattle.rows.specs.Rows.{Put, columns_text};
 ghost use Rattle.listing.specs.Listing.{Listable};
 ghost use Rattle.clausify.specs.Entry.{lent};
-ghost use Rattle.lister.specs.Text.{numbersLine, mostRows, mostText};
+ghost use Rattle.lister.specs.Text.{numbers_line, most_rows, most_text};
 
 use clausify::Reply;
 use statistics::ClauseStats;
@@ -15,7 +15,7 @@ use statistics::ClauseStats;
 // Four numbers of a line.
 fn put_fields(out: &mut [u8], at: usize, a: u32, b: u32, c: u32, d: u32) -> usize
     requires { at + 44 ≤ length out.old }
-    ensures { Put out.old at (columnsText (a ∷ b ∷ c ∷ d ∷ [])) out.new result }
+    ensures { Put out.old at (columns_text (a ∷ b ∷ c ∷ d ∷ [])) out.new result }
 {
     let p = rows::put_field(out, at, a);
     let q = rows::put_field(out, p, b);
@@ -26,7 +26,7 @@ fn put_fields(out: &mut [u8], at: usize, a: u32, b: u32, c: u32, d: u32) -> usiz
 // The statistics in the Rust's order, the fresh ids and the visits.
 fn put_numbers(out: &mut [u8], at: usize, s: ClauseStats, fresh: u32, visits: u32) -> usize
     requires { at + 122 ≤ length out.old }
-    ensures { Put out.old at (fieldsText (numbersLine s fresh visits)) out.new result }
+    ensures { Put out.old at (fields_text (numbers_line s fresh visits)) out.new result }
 {
     let p = put_fields(out, at, 43, s.total, s.horn, s.disjunctive);
     let q = put_fields(
@@ -49,8 +49,8 @@ fn put_accepted(
     visits: u32,
     out: &mut [u8],
 ) -> usize
-    requires { Listable (words clauses.now) (words atoms.now) s.total 0 mostRows × (mostText ≤ length out.old) }
-    ensures { (l : List Clause) → Tabled (words clauses.now) (words atoms.now) s.total l → Put out.old 0 (clausesText 0 l ++ fieldsText (numbersLine s fresh visits)) out.new result }
+    requires { Listable (words clauses.now) (words atoms.now) s.total 0 most_rows × (most_text ≤ length out.old) }
+    ensures { (l : List Clause) → Tabled (words clauses.now) (words atoms.now) s.total l → Put out.old 0 (clauses_text 0 l ++ fields_text (numbers_line s fresh visits)) out.new result }
 {
     let p = listing::put_clauses(clauses, atoms, s.total, out, 0);
     put_numbers(out, p, s, fresh, visits)
@@ -65,7 +65,7 @@ pub fn put_listing(
     scratch: &mut [u8],
     out: &mut [u8],
 ) -> usize
-    requires { (lent clauses.old atoms.old deferrals.old scratch.old ≡ listerLengths) × (mostText ≤ length out.old) }
+    requires { (lent clauses.old atoms.old deferrals.old scratch.old ≡ lister_lengths) × (most_text ≤ length out.old) }
     ensures { Put out.old 0 (listing deck.now) out.new result }
 {
     match clausify::clausify_with_stats(deck, clauses, atoms, deferrals, scratch) {

@@ -9,15 +9,15 @@ mod input;
 mod lines;
 
 ghost use Rattle.std.specs.Prelude.{◌≡◌, ◌+◌, length};
-ghost use Rattle.rules.specs.Deck.{mostBytes};
-ghost use Rattle.rules.specs.Run.{scratchBytes};
-ghost use Rattle.lister.specs.Text.{mostText};
+ghost use Rattle.rules.specs.Deck.{most_bytes};
+ghost use Rattle.rules.specs.Run.{scratch_bytes};
+ghost use Rattle.lister.specs.Text.{most_text};
 
 use std::io;
 
 // Standard input, up to one byte more than a deck may have.
 fn deck_space() -> [u8; 65537]
-    ensures { mostBytes + 1 ≡ length result }
+    ensures { most_bytes + 1 ≡ length result }
 {
     [0; 65537]
 }
@@ -42,14 +42,14 @@ fn deferral_space() -> [u8; 2048]
 }
 
 fn scratch_space() -> [u8; 1572864]
-    ensures { scratchBytes ≡ length result }
+    ensures { scratch_bytes ≡ length result }
 {
     [0; 1572864]
 }
 
 // The longest listing.
 fn text_space() -> [u8; 205946]
-    ensures { mostText ≡ length result }
+    ensures { most_text ≡ length result }
 {
     [0; 205946]
 }

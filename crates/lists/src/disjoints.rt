@@ -1,8 +1,8 @@
 // DisjointClasses: all pairs of a member and a later one.
 ghost use Rattle.std.specs.Prelude.{[], ◌+◌, ◌-◌, ◌<◌, length, get_or};
 ghost use Rattle.words.specs.Words.{words};
-ghost use Rattle.rules.specs.Base.{forEach};
-ghost use Rattle.rules.specs.Axioms.{paired, laterPairs, disjointPair};
+ghost use Rattle.rules.specs.Base.{for_each};
+ghost use Rattle.rules.specs.Axioms.{paired, later_pairs, disjoint_pair};
 ghost use Rattle.pool.specs.Layout.{run};
 ghost use Rattle.tables.specs.Drawn.{Sized};
 ghost use Rattle.hands.specs.Hands.{four};
@@ -29,7 +29,7 @@ fn disjoint_with(
     requires { Clausifying scratch.old k × Listed (words scratch.old) k at count × (i < count) × Sized (length clauses.old) (length atoms.old) (length deferrals.old) }
     ensures fact { let old = four (words scratch.old) (words clauses.old) (words atoms.old) (words deferrals.old) in
         let new = four (words scratch.new) (words clauses.new) (words atoms.new) (words deferrals.new) in
-        Clausified (λ env. forEach (disjointPair env (unencoded env deferred)) (paired (get_or old.scratch (at + i) 0) (run old.scratch (at + i + 1) (count - (i + 1))) [])) k old new result }
+        Clausified (λ env. for_each (disjoint_pair env (unencoded env deferred)) (paired (get_or old.scratch (at + i) 0) (run old.scratch (at + i + 1) (count - (i + 1))) [])) k old new result }
     ensures clausifying_after { ClausifyingAfter scratch.new result }
 {
     let mut l = k;
@@ -64,7 +64,7 @@ pub fn disjoint(
     requires { Clausifying scratch.old k × Listed (words scratch.old) k at count × Sized (length clauses.old) (length atoms.old) (length deferrals.old) }
     ensures fact { let old = four (words scratch.old) (words clauses.old) (words atoms.old) (words deferrals.old) in
         let new = four (words scratch.new) (words clauses.new) (words atoms.new) (words deferrals.new) in
-        Clausified (λ env. forEach (disjointPair env (unencoded env deferred)) (laterPairs (run old.scratch at count))) k old new result }
+        Clausified (λ env. for_each (disjoint_pair env (unencoded env deferred)) (later_pairs (run old.scratch at count))) k old new result }
     ensures clausifying_after { ClausifyingAfter scratch.new result }
 {
     let mut l = k;

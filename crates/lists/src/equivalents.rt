@@ -1,9 +1,9 @@
 // EquivalentClasses: all ordered pairs of different places.
 ghost use Rattle.std.specs.Prelude.{[], ◌+◌, ◌-◌, ◌<◌, length, get_or};
 ghost use Rattle.words.specs.Words.{words};
-ghost use Rattle.rules.specs.Base.{forEach};
+ghost use Rattle.rules.specs.Base.{for_each};
 ghost use Rattle.rules.specs.State.{Env};
-ghost use Rattle.rules.specs.Axioms.{C, numbered, withOthers, orderedPairs, clausifyGci};
+ghost use Rattle.rules.specs.Axioms.{C, numbered, with_others, ordered_pairs, clausify_gci};
 ghost use Rattle.pool.specs.Layout.{run};
 ghost use Rattle.tables.specs.Drawn.{Sized};
 ghost use Rattle.hands.specs.Hands.{four};
@@ -28,7 +28,7 @@ fn equivalent_to(
     requires { Clausifying scratch.old k × Listed (words scratch.old) k at count × (i < count) × Sized (length clauses.old) (length atoms.old) (length deferrals.old) }
     ensures clausified { let old = four (words scratch.old) (words clauses.old) (words atoms.old) (words deferrals.old) in
         let new = four (words scratch.new) (words clauses.new) (words atoms.new) (words deferrals.new) in
-        let rule : Env → C (Unit {0}) = λ env. forEach (λ p. clausifyGci env p.0 p.1) (withOthers (i, get_or old.scratch (at + i) 0) (numbered 0 (run old.scratch at count)) []) in
+        let rule : Env → C (Unit {0}) = λ env. for_each (λ p. clausify_gci env p.0 p.1) (with_others (i, get_or old.scratch (at + i) 0) (numbered 0 (run old.scratch at count)) []) in
         Clausified rule k old new result × Queued rule k old new }
     ensures clausifying_after { ClausifyingAfter scratch.new result }
 {
@@ -65,7 +65,7 @@ pub fn equivalent(
     requires { Clausifying scratch.old k × Listed (words scratch.old) k at count × Sized (length clauses.old) (length atoms.old) (length deferrals.old) }
     ensures clausified { let old = four (words scratch.old) (words clauses.old) (words atoms.old) (words deferrals.old) in
         let new = four (words scratch.new) (words clauses.new) (words atoms.new) (words deferrals.new) in
-        let rule : Env → C (Unit {0}) = λ env. forEach (λ p. clausifyGci env p.0 p.1) (orderedPairs (run old.scratch at count)) in
+        let rule : Env → C (Unit {0}) = λ env. for_each (λ p. clausify_gci env p.0 p.1) (ordered_pairs (run old.scratch at count)) in
         Clausified rule k old new result × Queued rule k old new }
     ensures clausifying_after { ClausifyingAfter scratch.new result }
 {

@@ -1,14 +1,14 @@
 // DisjointObjectProperties: all pairs of a role and a later one that differs from it.
 ghost use Rattle.std.specs.Prelude.{List, [], map, ℕ, ◌+◌, ◌-◌, ◌<◌, length, get_or};
 ghost use Rattle.words.specs.Words.{words};
-ghost use Rattle.rules.specs.Base.{forEach};
-ghost use Rattle.ir.specs.Roles.{roleOf};
-ghost use Rattle.rules.specs.Axioms.{paired, laterPairs};
+ghost use Rattle.rules.specs.Base.{for_each};
+ghost use Rattle.ir.specs.Roles.{role_of};
+ghost use Rattle.rules.specs.Axioms.{paired, later_pairs};
 ghost use Rattle.pool.specs.Layout.{run};
 ghost use Rattle.tables.specs.Drawn.{Sized};
 ghost use Rattle.hands.specs.Hands.{four};
 ghost use Rattle.axioms.specs.Wholes.{Clausifying, ClausifyingAfter, Clausified};
-ghost use Rattle.lists.specs.Listed.{RolesListed, pairDisjoint};
+ghost use Rattle.lists.specs.Listed.{RolesListed, pair_disjoint};
 
 use axioms::roles;
 use ir::answer::Answer;
@@ -28,7 +28,7 @@ fn disjoint_roles_with(
     ensures fact { let w = words scratch.old in
         let old = four w (words clauses.old) (words atoms.old) in
         let new = four (words scratch.new) (words clauses.new) (words atoms.new) in
-        ((d : List ℕ) → Clausified (λ env. forEach (pairDisjoint env) (paired (roleOf (get_or w (at + i) 0)) (map roleOf (run w (at + i + 1) (count - (i + 1)))) [])) k (old d) (new d) result) }
+        ((d : List ℕ) → Clausified (λ env. for_each (pair_disjoint env) (paired (role_of (get_or w (at + i) 0)) (map role_of (run w (at + i + 1) (count - (i + 1)))) [])) k (old d) (new d) result) }
     ensures clausifying_after { ClausifyingAfter scratch.new result }
 {
     let mut l = k;
@@ -64,7 +64,7 @@ pub fn disjoint_roles(
     ensures fact { let w = words scratch.old in
         let old = four w (words clauses.old) (words atoms.old) in
         let new = four (words scratch.new) (words clauses.new) (words atoms.new) in
-        ((d : List ℕ) → Clausified (λ env. forEach (pairDisjoint env) (laterPairs (map roleOf (run w at count)))) k (old d) (new d) result) }
+        ((d : List ℕ) → Clausified (λ env. for_each (pair_disjoint env) (later_pairs (map role_of (run w at count)))) k (old d) (new d) result) }
     ensures clausifying_after { ClausifyingAfter scratch.new result }
 {
     let mut l = k;

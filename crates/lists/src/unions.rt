@@ -1,9 +1,9 @@
 // DisjointUnion: pairs, members, covering.
 ghost use Rattle.std.specs.Prelude.{◌+◌, ◌<◌, ◌^◌, length};
 ghost use Rattle.words.specs.Words.{words};
-ghost use Rattle.rules.specs.Base.{forEach};
+ghost use Rattle.rules.specs.Base.{for_each};
 ghost use Rattle.rules.specs.Concept.{DisjointUnion};
-ghost use Rattle.rules.specs.Axioms.{unionMember, clausifyAxiom};
+ghost use Rattle.rules.specs.Axioms.{union_member, clausify_axiom};
 ghost use Rattle.pool.specs.Layout.{run};
 ghost use Rattle.tables.specs.Drawn.{Sized};
 ghost use Rattle.hands.specs.Hands.{four};
@@ -29,7 +29,7 @@ fn union_members(
     requires { Clausifying scratch.old k × Listed (words scratch.old) k at count × (class + 1 < 2 ^ 32) × Sized (length clauses.old) (length atoms.old) (length deferrals.old) }
     ensures fact { let old = four (words scratch.old) (words clauses.old) (words atoms.old) (words deferrals.old) in
         let new = four (words scratch.new) (words clauses.new) (words atoms.new) (words deferrals.new) in
-        Clausified (λ env. forEach (unionMember env class) (run old.scratch at count)) k old new result }
+        Clausified (λ env. for_each (union_member env class) (run old.scratch at count)) k old new result }
     ensures clausifying_after { ClausifyingAfter scratch.new result }
 {
     let mut l = k;
@@ -63,7 +63,7 @@ pub fn union(
     requires { Clausifying scratch.old k × Listed (words scratch.old) k at count × (class + 1 < 2 ^ 32) × Sized (length clauses.old) (length atoms.old) (length deferrals.old) }
     ensures fact { let old = four (words scratch.old) (words clauses.old) (words atoms.old) (words deferrals.old) in
         let new = four (words scratch.new) (words clauses.new) (words atoms.new) (words deferrals.new) in
-        Clausified (λ env. clausifyAxiom env (DisjointUnion class (run old.scratch at count))) k old new result }
+        Clausified (λ env. clausify_axiom env (DisjointUnion class (run old.scratch at count))) k old new result }
     ensures clausifying_after { ClausifyingAfter scratch.new result }
 {
     match disjoints::disjoint(scratch, clauses, atoms, deferrals, k, at, count, false) {

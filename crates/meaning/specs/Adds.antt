@@ -12,15 +12,15 @@ use Rattle.rules.specs.Concept.{Concept}
 use Rattle.rules.specs.Concept.{Top, Bot, Atomic, Nominal, SelfRestriction, Not, And, Or, Some, All, Min, Max}
 use Rattle.rules.specs.Pool.{Pool, at}
 use Rattle.rules.specs.State.{Clause, Limit, Env, Out, canon}
-use Rattle.rules.specs.Heads.{emitBy}
+use Rattle.rules.specs.Heads.{emit_by}
 use Rattle.rules.specs.Post.{Post}
 use Rattle.rules.specs.Invariants.{Each, Bounds, Bounded, Wf, QualifierIn}
-use Rattle.rules.specs.Semantics.{Interpretation, withClasses, related, atomHolds, conceptMeans, meaningAt, meaningsFrom, means}
-use Rattle.rules.specs.EachLaws.{each-append, each-left, each-right}
+use Rattle.rules.specs.Semantics.{Interpretation, with_classes, related, atom_holds, concept_means, meaning_at, meanings_from, means}
+use Rattle.rules.specs.EachLaws.{each_append, each_left, each_right}
 use Rattle.meaning.specs.Choices.{Choice, Follows}
-use Rattle.rules.specs.PoolLaws.{grown-refl}
-use Rattle.meaning.specs.Tracks.{Track, track-refl, track-trans}
-use Rattle.meaning.specs.Valuations.{Valuation, Agree, agree-refl, agree-trans, AtomUnder, ClauseUnder, each-of, clause-under-more, follow-agree}
+use Rattle.rules.specs.PoolLaws.{grown_refl}
+use Rattle.meaning.specs.Tracks.{Track, track_refl, track_trans}
+use Rattle.meaning.specs.Valuations.{Valuation, Agree, agree_refl, agree_trans, AtomUnder, ClauseUnder, each_of_lem, clause_under_more, follow_agree}
 
 -- ---- an atom's variables are below n
 abbrev pub VarsUnder : ℕ → Atom → Type 0
@@ -47,7 +47,7 @@ Fine base c = Each (FineAtom base) c.head
 -- the pool is well formed
 pub record Setting (I : Interpretation) (B : Bounds) (env : Env) (base : ℕ) : Type 0 where
   pub classes : B.classes ≤ base
-  pub individuals : (i : ℕ) → i < B.individuals → env.nominalBase + i < base
+  pub individuals : (i : ℕ) → i < B.individuals → env.nominal_base + i < base
   pub keeps : (r : Role) (x y : ℕ) → x < I.size → y < I.size → related I (canon env r) x y ≡ related I r x y
 
 -- the classes that a record names
@@ -65,70 +65,70 @@ NamesIn B (All _ _) = Unit {0}
 NamesIn B (Min _ _ _) = Unit {0}
 NamesIn B (Max _ _ _) = Unit {0}
 
-names-of : (B : Bounds) (n : ℕ) (e : Concept) → Bounded B n e → NamesIn B e
-names-of B n Top b = tt
-names-of B n Bot b = tt
-names-of B n (Atomic a) b = b
-names-of B n (Nominal _) b = tt
-names-of B n (SelfRestriction _) b = tt
-names-of B n (Not _) b = tt
-names-of B n (And _) b = tt
-names-of B n (Or _) b = tt
-names-of B n (Some _ _) b = tt
-names-of B n (All _ _) b = tt
-names-of B n (Min _ _ _) b = tt
-names-of B n (Max _ _ _) b = tt
+names_of : (B : Bounds) (n : ℕ) (e : Concept) → Bounded B n e → NamesIn B e
+names_of B n Top b = tt
+names_of B n Bot b = tt
+names_of B n (Atomic a) b = b
+names_of B n (Nominal _) b = tt
+names_of B n (SelfRestriction _) b = tt
+names_of B n (Not _) b = tt
+names_of B n (And _) b = tt
+names_of B n (Or _) b = tt
+names_of B n (Some _ _) b = tt
+names_of B n (All _ _) b = tt
+names_of B n (Min _ _ _) b = tt
+names_of B n (Max _ _ _) b = tt
 
-pub names-in : (B : Bounds) (p : Pool) (n : ℕ) → ((c : ℕ) → c < length p → Bounded B (n + c) (at p c)) → Each (NamesIn B) p
-names-in B [] n w = tt
-names-in B (e ∷ p) n w =
-    (names-of B (n + 0) e (w 0 (omega arith)), names-in B p (suc n) (λ c h. let q : n + suc c ≡ suc n + c = omega arith in rw q at (w (suc c) (omega arith))))
+pub names_in_lem : (B : Bounds) (p : Pool) (n : ℕ) → ((c : ℕ) → c < length p → Bounded B (n + c) (at p c)) → Each (NamesIn B) p
+names_in_lem B [] n w = tt
+names_in_lem B (e ∷ p) n w =
+    (names_of B (n + 0) e (w 0 (omega arith)), names_in_lem B p (suc n) (λ c h. let q : n + suc c ≡ suc n + c = omega arith in rw q at (w (suc c) (omega arith))))
 
 -- the class of an individual holds that individual alone
 pub record Alone (I : Interpretation) (B : Bounds) (env : Env) (k : Valuation) : Type 0 where
-  pub alone : (i x : ℕ) → i < B.individuals → x < I.size → k (env.nominalBase + i) x ≡ eqb x (I.individual i)
+  pub alone : (i x : ℕ) → i < B.individuals → x < I.size → k (env.nominal_base + i) x ≡ eqb x (I.individual i)
 
 module _ (I : Interpretation) (B : Bounds) (env : Env) (base : ℕ) (S : Setting I B env base) where
-  pub alone-agree : {n : ℕ} {k l : Valuation} → base ≤ n → Agree n k l → Alone I B env k → Alone I B env l
-  alone-agree h a m = record { alone = λ i x b u. let q = S.individuals i b in ap (λ f. f x) (sym (a.same (env.nominalBase + i) (omega arith))) ∙ m.alone i x b u }
+  pub alone_agree : {n : ℕ} {k l : Valuation} → base ≤ n → Agree n k l → Alone I B env k → Alone I B env l
+  alone_agree h a m = record { alone = λ i x b u. let q = S.individuals i b in ap (λ f. f x) (sym (a.same (env.nominal_base + i) (omega arith))) ∙ m.alone i x b u }
 
   -- a concept's meaning rests on the classes below base
-  concept-agree : {n : ℕ} {k l : Valuation} → base ≤ n → Agree n k l → (f : ℕ → ℕ → Bool) (e : Concept) → NamesIn B e → conceptMeans (withClasses I k) f e ≡ conceptMeans (withClasses I l) f e
-  concept-agree h a f Top d = refl
-  concept-agree h a f Bot d = refl
-  concept-agree h a f (Atomic c) d = let q = S.classes in a.same c (omega arith)
-  concept-agree h a f (Nominal _) d = refl
-  concept-agree h a f (SelfRestriction _) d = refl
-  concept-agree h a f (Not _) d = refl
-  concept-agree h a f (And _) d = refl
-  concept-agree h a f (Or _) d = refl
-  concept-agree h a f (Some _ _) d = refl
-  concept-agree h a f (All _ _) d = refl
-  concept-agree h a f (Min _ _ _) d = refl
-  concept-agree h a f (Max _ _ _) d = refl
+  concept_agree : {n : ℕ} {k l : Valuation} → base ≤ n → Agree n k l → (f : ℕ → ℕ → Bool) (e : Concept) → NamesIn B e → concept_means (with_classes I k) f e ≡ concept_means (with_classes I l) f e
+  concept_agree h a f Top d = refl
+  concept_agree h a f Bot d = refl
+  concept_agree h a f (Atomic c) d = let q = S.classes in a.same c (omega arith)
+  concept_agree h a f (Nominal _) d = refl
+  concept_agree h a f (SelfRestriction _) d = refl
+  concept_agree h a f (Not _) d = refl
+  concept_agree h a f (And _) d = refl
+  concept_agree h a f (Or _) d = refl
+  concept_agree h a f (Some _ _) d = refl
+  concept_agree h a f (All _ _) d = refl
+  concept_agree h a f (Min _ _ _) d = refl
+  concept_agree h a f (Max _ _ _) d = refl
 
-  meanings-agree : {n : ℕ} {k l : Valuation} → base ≤ n → Agree n k l → (ms : List (ℕ → Bool)) (p : Pool) → Each (NamesIn B) p → meaningsFrom (withClasses I k) ms p ≡ meaningsFrom (withClasses I l) ms p
-  unfolding meaningsFrom
-  meanings-agree h a ms [] d = refl
-  meanings-agree {k} {l} h a ms (e ∷ p) d =
-      ap (λ f. meaningsFrom (withClasses I k) (ms ++ (f ∷ [])) p) (concept-agree h a (meaningAt ms) e d.0)
-      ∙ meanings-agree h a (ms ++ (conceptMeans (withClasses I l) (meaningAt ms) e ∷ [])) p d.1
+  meanings_agree : {n : ℕ} {k l : Valuation} → base ≤ n → Agree n k l → (ms : List (ℕ → Bool)) (p : Pool) → Each (NamesIn B) p → meanings_from (with_classes I k) ms p ≡ meanings_from (with_classes I l) ms p
+  unfolding meanings_from
+  meanings_agree h a ms [] d = refl
+  meanings_agree {k} {l} h a ms (e ∷ p) d =
+      ap (λ f. meanings_from (with_classes I k) (ms ++ (f ∷ [])) p) (concept_agree h a (meaning_at ms) e d.0)
+      ∙ meanings_agree h a (ms ++ (concept_means (with_classes I l) (meaning_at ms) e ∷ [])) p d.1
 
-  pub means-agree : {n : ℕ} {k l : Valuation} → base ≤ n → Agree n k l → (p : Pool) → Wf B p → means (withClasses I k) p ≡ means (withClasses I l) p
+  pub means_agree : {n : ℕ} {k l : Valuation} → base ≤ n → Agree n k l → (p : Pool) → Wf B p → means (with_classes I k) p ≡ means (with_classes I l) p
   unfolding means
-  means-agree h a p w = ap meaningAt (meanings-agree h a [] p (names-in B p 0 (λ c h. let q : 0 + c ≡ c = omega arith in rw q (w c h))))
+  means_agree h a p w = ap meaning_at (meanings_agree h a [] p (names_in_lem B p 0 (λ c h. let q : 0 + c ≡ c = omega arith in rw q (w c h))))
 
   -- ---- the limits that wait
   module _ (p : Pool) (wf : Wf B p) where
     -- the filler is inside its name
     abbrev pub Inside : Valuation → Limit → Type 0
-    Inside k w = (x : ℕ) → x < I.size → means (withClasses I k) p w.filler x ≡ true → k w.name x ≡ true
+    Inside k w = (x : ℕ) → x < I.size → means (with_classes I k) p w.filler x ≡ true → k w.name x ≡ true
 
-    pub insides-agree : {n : ℕ} {k l : Valuation} → base ≤ n → Agree n k l → (ws : List Limit) → Each (λ w. w.name < n) ws → Each (Inside k) ws → Each (Inside l) ws
-    insides-agree h a [] u i = tt
-    insides-agree h a (w ∷ ws) u i = (
-      λ x s e. ap (λ f. f x) (sym (a.same w.name u.0)) ∙ i.0 x s (ap (λ m. m w.filler x) (means-agree h a p wf) ∙ e),
-      insides-agree h a ws u.1 i.1,
+    pub insides_agree : {n : ℕ} {k l : Valuation} → base ≤ n → Agree n k l → (ws : List Limit) → Each (λ w. w.name < n) ws → Each (Inside k) ws → Each (Inside l) ws
+    insides_agree h a [] u i = tt
+    insides_agree h a (w ∷ ws) u i = (
+      λ x s e. ap (λ f. f x) (sym (a.same w.name u.0)) ∙ i.0 x s (ap (λ m. m w.filler x) (means_agree h a p wf) ∙ e),
+      insides_agree h a ws u.1 i.1,
     )
 
   module _ (p : Pool) (wf : Wf B p) where
@@ -137,16 +137,16 @@ module _ (I : Interpretation) (B : Bounds) (env : Env) (base : ℕ) (S : Setting
     pub record Adds (s : Out) (H G C : Valuation → Type 0) (t : Out) : Type 0 where
       pub new : List Clause
       pub grown : t.clauses ≡ s.clauses ++ new
-      pub fresh : s.nextFresh ≤ t.nextFresh
-      pub var : s.nextVar ≤ t.nextVar
+      pub fresh : s.next_fresh ≤ t.next_fresh
+      pub var : s.next_var ≤ t.next_var
       pub defers : length s.deferrals ≤ length t.deferrals
-      pub under : Each (ClauseUnder t.nextFresh) new
+      pub under : Each (ClauseUnder t.next_fresh) new
       pub waiting : List Limit
       pub waits : t.limits ≡ s.limits ++ waiting
-      pub named : Each (λ w. w.name < t.nextFresh) waiting
+      pub named : Each (λ w. w.name < t.next_fresh) waiting
       pub held : Each (λ w. w.filler < length p) waiting
-      pub gets : (k : Valuation) → Alone I B env k → H k → (l : Valuation) × Agree s.nextFresh k l × Each (Follows (withClasses I l)) new × Each (Inside p wf l) waiting × G l
-      pub says : (k : Valuation) → Alone I B env k → Each (Follows (withClasses I k)) new → Each (Inside p wf k) waiting → (env.equalNames ≡ false → Each (Fine base) new) → env.dkeyClasses ≡ []
+      pub gets : (k : Valuation) → Alone I B env k → H k → (l : Valuation) × Agree s.next_fresh k l × Each (Follows (with_classes I l)) new × Each (Inside p wf l) waiting × G l
+      pub says : (k : Valuation) → Alone I B env k → Each (Follows (with_classes I k)) new → Each (Inside p wf k) waiting → (env.equal_names ≡ false → Each (Fine base) new) → env.dkey_classes ≡ []
           → length t.deferrals ≡ length s.deferrals → C k
       pub track : Track env p s t waiting
 
@@ -155,21 +155,21 @@ module _ (I : Interpretation) (B : Bounds) (env : Env) (base : ℕ) (S : Setting
     stay s g c = record {
       new = [];
       grown = sym (append-nil s.clauses);
-      fresh = le_refl s.nextFresh;
-      var = le_refl s.nextVar;
+      fresh = le_refl s.next_fresh;
+      var = le_refl s.next_var;
       defers = le_refl (length s.deferrals);
       under = tt;
       waiting = [];
       waits = sym (append-nil s.limits);
       named = tt;
       held = tt;
-      gets = λ k m h. (k, agree-refl s.nextFresh k, tt, tt, g k m h);
+      gets = λ k m h. (k, agree_refl s.next_fresh k, tt, tt, g k m h);
       says = λ k m _ _ _ _ _. c k m;
-      track = track-refl env p s;
+      track = track_refl env p s;
     }
 
-    pub adds-map : {s t : Out} {H G C H' G' C' : Valuation → Type 0} → ((k : Valuation) → H' k → H k) → ((k : Valuation) → G k → G' k) → ((k : Valuation) → C k → C' k) → Adds s H G C t → Adds s H' G' C' t
-    adds-map hh gg cc' A = record {
+    pub adds_map : {s t : Out} {H G C H' G' C' : Valuation → Type 0} → ((k : Valuation) → H' k → H k) → ((k : Valuation) → G k → G' k) → ((k : Valuation) → C k → C' k) → Adds s H G C t → Adds s H' G' C' t
+    adds_map hh gg cc' A = record {
       new = A.new;
       grown = A.grown;
       fresh = A.fresh;
@@ -186,10 +186,10 @@ module _ (I : Interpretation) (B : Bounds) (env : Env) (base : ℕ) (S : Setting
     }
 
     -- one rule after another
-    pub seq : {s s₁ s₂ : Out} {H₁ G₁ C₁ H₂ G₂ C₂ H G C : Valuation → Type 0} → base ≤ s.nextFresh → Adds s H₁ G₁ C₁ s₁ → Adds s₁ H₂ G₂ C₂ s₂
+    pub seq : {s s₁ s₂ : Out} {H₁ G₁ C₁ H₂ G₂ C₂ H G C : Valuation → Type 0} → base ≤ s.next_fresh → Adds s H₁ G₁ C₁ s₁ → Adds s₁ H₂ G₂ C₂ s₂
         → ((k : Valuation) → H k → H₁ k)
-        → ((k l : Valuation) → H k → Agree s.nextFresh k l → Alone I B env l → G₁ l → H₂ l)
-        → ((k l : Valuation) → Agree s₁.nextFresh k l → G₁ k → G₂ l → G l)
+        → ((k l : Valuation) → H k → Agree s.next_fresh k l → Alone I B env l → G₁ l → H₂ l)
+        → ((k l : Valuation) → Agree s₁.next_fresh k l → G₁ k → G₂ l → G l)
         → ((k : Valuation) → Alone I B env k → C₁ k → C₂ k → C k)
         → Adds s H G C s₂
     seq {s} {s₁} {s₂} b A D hh mid gg cc' = record {
@@ -198,38 +198,38 @@ module _ (I : Interpretation) (B : Bounds) (env : Env) (base : ℕ) (S : Setting
       fresh = omega (arith, A.fresh, D.fresh);
       var = omega (arith, A.var, D.var);
       defers = omega (arith, A.defers, D.defers);
-      under = each-append (ClauseUnder s₂.nextFresh) A.new D.new (each-of (clause-under-more D.fresh) A.new A.under) D.under;
+      under = each_append (ClauseUnder s₂.next_fresh) A.new D.new (each_of_lem (clause_under_more D.fresh) A.new A.under) D.under;
       waiting = A.waiting ++ D.waiting;
       waits = D.waits ∙ ap (λ z. z ++ D.waiting) A.waits ∙ append_assoc s.limits A.waiting D.waiting;
-      named = each-append (λ w. w.name < s₂.nextFresh) A.waiting D.waiting (each-of (λ w h. omega (arith, D.fresh)) A.waiting A.named) D.named;
-      held = each-append (λ w. w.filler < length p) A.waiting D.waiting A.held D.held;
+      named = each_append (λ w. w.name < s₂.next_fresh) A.waiting D.waiting (each_of_lem (λ w h. omega (arith, D.fresh)) A.waiting A.named) D.named;
+      held = each_append (λ w. w.filler < length p) A.waiting D.waiting A.held D.held;
       gets = λ k m h.
           let t = A.gets k m (hh k h) in
-          let m₁ : Alone I B env t.0 = alone-agree b t.1 m in
+          let m₁ : Alone I B env t.0 = alone_agree b t.1 m in
           let u = D.gets t.0 m₁ (mid k t.0 h t.1 m₁ t.4) in (
             u.0,
-            agree-trans A.fresh t.1 u.1,
-            each-append (Follows (withClasses I u.0)) A.new D.new (follow-agree I u.1 A.new A.under t.2) u.2,
-            each-append (Inside p wf u.0) A.waiting D.waiting (insides-agree p wf (omega (arith, A.fresh)) u.1 A.waiting A.named t.3) u.3,
+            agree_trans A.fresh t.1 u.1,
+            each_append (Follows (with_classes I u.0)) A.new D.new (follow_agree I u.1 A.new A.under t.2) u.2,
+            each_append (Inside p wf u.0) A.waiting D.waiting (insides_agree p wf (omega (arith, A.fresh)) u.1 A.waiting A.named t.3) u.3,
             gg t.0 u.0 u.1 t.4 u.4,
           );
       says = λ k m f w n q d.
-          cc' k m (A.says k m (each-left (Follows (withClasses I k)) A.new D.new f) (each-left (Inside p wf k) A.waiting D.waiting w) (λ e. each-left (Fine base) A.new D.new (n e)) q (omega (arith, A.defers, D.defers)))
-          (D.says k m (each-right (Follows (withClasses I k)) A.new D.new f) (each-right (Inside p wf k) A.waiting D.waiting w) (λ e. each-right (Fine base) A.new D.new (n e)) q (omega (arith, A.defers, D.defers)));
-      track = track-trans env (grown-refl p) A.track D.track;
+          cc' k m (A.says k m (each_left (Follows (with_classes I k)) A.new D.new f) (each_left (Inside p wf k) A.waiting D.waiting w) (λ e. each_left (Fine base) A.new D.new (n e)) q (omega (arith, A.defers, D.defers)))
+          (D.says k m (each_right (Follows (with_classes I k)) A.new D.new f) (each_right (Inside p wf k) A.waiting D.waiting w) (λ e. each_right (Fine base) A.new D.new (n e)) q (omega (arith, A.defers, D.defers)));
+      track = track_trans env (grown_refl p) A.track D.track;
     }
 
     -- ---- heads: what emit_head is handed, and what a body and a head concept say
     pub record Pre (s : Out) (b : List Atom) (v : ℕ) : Type 0 where
-      pub above : base ≤ s.nextFresh
-      pub root : 0 < s.nextVar
-      pub var : v < s.nextVar
-      pub under : Each (AtomUnder s.nextFresh) b
-      pub vars : Each (VarsUnder s.nextVar) b
+      pub above : base ≤ s.next_fresh
+      pub root : 0 < s.next_var
+      pub var : v < s.next_var
+      pub under : Each (AtomUnder s.next_fresh) b
+      pub vars : Each (VarsUnder s.next_var) b
 
     -- wherever the body holds, the concept holds at the variable
     abbrev pub Gives : List Atom → ℕ → ℕ → Valuation → Type 0
-    Gives b c v k = (f : ℕ → ℕ) → Choice I f → all (atomHolds (withClasses I k) f) b ≡ true → means (withClasses I k) p c (f v) ≡ true
+    Gives b c v k = (f : ℕ → ℕ) → Choice I f → all (atom_holds (with_classes I k) f) b ≡ true → means (with_classes I k) p c (f v) ≡ true
 
     abbrev pub Nothing : Valuation → Type 0
     Nothing k = Unit {0}
@@ -237,4 +237,4 @@ module _ (I : Interpretation) (B : Bounds) (env : Env) (base : ℕ) (S : Setting
     -- both halves of emit_head
     abbrev pub EmitMeans : Type 0
     EmitMeans = (f : ℕ) (b : List Atom) (c v : ℕ) (s : Out) → c < length p → c < f → Pre s b v
-        → Post (λ _ t. Adds s (Gives b c v) Nothing (Gives b c v) t) (emitBy env p f b c v s)
+        → Post (λ _ t. Adds s (Gives b c v) Nothing (Gives b c v) t) (emit_by env p f b c v s)

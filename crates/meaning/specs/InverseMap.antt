@@ -8,46 +8,46 @@ use mathlib.Core.List.{List, [], ◌∷◌}
 use Rattle.std.proofs.Math.Option.{Option, none, some}
 use Rattle.std.proofs.Math.Dec.{eqb}
 use Rattle.ir.specs.Pick.{pick}
-use Rattle.ir.specs.Roles.{roleId, flipped, flip-flip}
+use Rattle.ir.specs.Roles.{role_id, flipped, flip_flip}
 use Rattle.ir.specs.declared.role.Role.{Role}
 use Rattle.ir.specs.declared.role.Role.TheVariants.{Named, Inverse}
 use Rattle.rules.specs.Base.{all}
 use Rattle.rules.specs.Concept.{Axiom}
 use Rattle.rules.specs.Concept.{SubClassOf, EquivalentClasses, DisjointClasses, DisjointUnion, ObjectPropertyDomain, ObjectPropertyRange, SubChain, TransitiveRole, IrreflexiveRole, AsymmetricRole, DisjointObjectProperties, InverseObjectProperties, SubObjectPropertyOf, EquivalentObjectProperties, ReflexiveRole, ClassAssertion}
 use Rattle.rules.specs.Pool.{Pool}
-use Rattle.rules.specs.Inverse.{Entry, InverseCanon, lookup, skipped, declared, inverseOf, buildFrom, buildInverseCanon, canonOf, canonRole}
+use Rattle.rules.specs.Inverse.{Entry, InverseCanon, lookup, skipped, declared, inverse_of, build_from, build_inverse_canon, canon_of, canon_role}
 use Rattle.rules.specs.State.{Env, canon}
 use Rattle.rules.specs.Invariants.{Each}
-use Rattle.rules.specs.Semantics.{Interpretation, related, everyPair, sameTruth, satisfied}
-use Rattle.rules.specs.Statements.{isInverseAxiom}
-use Rattle.meaning.specs.Truth.{same-truth, elements-all, all-each}
+use Rattle.rules.specs.Semantics.{Interpretation, related, every_pair, same_truth, satisfied}
+use Rattle.rules.specs.Statements.{is_inverse_axiom}
+use Rattle.meaning.specs.Truth.{same_truth_lem, elements_all, all_each}
 
 -- a test over the pairs of elements, at one of them
-pub every-pair : (I : Interpretation) (f : ℕ → ℕ → Bool) → everyPair I f ≡ true → (x y : ℕ) → x < I.size → y < I.size → f x y ≡ true
-every-pair I f h x y u v = elements-all I.size (f x) (elements-all I.size _ h x u) y v
+pub every_pair_lem : (I : Interpretation) (f : ℕ → ℕ → Bool) → every_pair I f ≡ true → (x y : ℕ) → x < I.size → y < I.size → f x y ≡ true
+every_pair_lem I f h x y u v = elements_all I.size (f x) (elements_all I.size _ h x u) y v
 
 -- P of either list is P of the one picked
-pub each-pick : {A : Type 0} (P : A → Type 0) (b : Bool) (k l : List A) → Each P k → Each P l → Each P (pick b k l)
-each-pick P true k l u v = u
-each-pick P false k l u v = v
+pub each_pick : {A : Type 0} (P : A → Type 0) (b : Bool) (k l : List A) → Each P k → Each P l → Each P (pick b k l)
+each_pick P true k l u v = u
+each_pick P false k l u v = v
 
 -- ---- the map turns with the role
-turn-of : (r : Role) (o : Option Role) → canonOf (flipped r) o ≡ flipped (canonOf r o)
-turn-of (Named i) none = refl
-turn-of (Named i) (some q) = refl
-turn-of (Inverse i) none = refl
-turn-of (Inverse i) (some q) = sym (flip-flip q)
+turn_of : (r : Role) (o : Option Role) → canon_of (flipped r) o ≡ flipped (canon_of r o)
+turn_of (Named i) none = refl
+turn_of (Named i) (some q) = refl
+turn_of (Inverse i) none = refl
+turn_of (Inverse i) (some q) = sym (flip_flip q)
 
-pub canon-turns : (m : InverseCanon) (r : Role) → canonRole m (flipped r) ≡ flipped (canonRole m r)
-unfolding canonRole
-canon-turns m (Named i) = turn-of (Named i) (lookup m i)
-canon-turns m (Inverse i) = turn-of (Inverse i) (lookup m i)
+pub canon_turns : (m : InverseCanon) (r : Role) → canon_role m (flipped r) ≡ flipped (canon_role m r)
+unfolding canon_role
+canon_turns m (Named i) = turn_of (Named i) (lookup m i)
+canon_turns m (Inverse i) = turn_of (Inverse i) (lookup m i)
 
 module _ (I : Interpretation) where
   -- an inverse's pairs are turned
-  pub flip-turns : (r : Role) (x y : ℕ) → related I (flipped r) x y ≡ related I r y x
-  flip-turns (Named i) x y = refl
-  flip-turns (Inverse i) x y = refl
+  pub flip_turns : (r : Role) (x y : ℕ) → related I (flipped r) x y ≡ related I r y x
+  flip_turns (Named i) x y = refl
+  flip_turns (Inverse i) x y = refl
 
   -- two roles have the same pairs of elements
   abbrev pub SamePairs : Role → Role → Type 0
@@ -61,60 +61,60 @@ module _ (I : Interpretation) where
   KeptFor k (some q) = SamePairs q (Named k)
 
   -- ---- what a map of kept entries answers
-  lookup-kept : (m : InverseCanon) (k : ℕ) → Each Kept m → KeptFor k (lookup m k)
+  lookup_kept : (m : InverseCanon) (k : ℕ) → Each Kept m → KeptFor k (lookup m k)
   unfolding lookup
-  lookup-kept [] k u = tt
-  lookup-kept (e ∷ m) k u = go (eqb e.key k) refl (lookup-kept m k u.1)
+  lookup_kept [] k u = tt
+  lookup_kept (e ∷ m) k u = go (eqb e.key k) refl (lookup_kept m k u.1)
     where
       go : (b : Bool) → eqb e.key k ≡ b → KeptFor k (lookup m k) → KeptFor k (pick b (some e.value) (lookup m k))
       go true h v = rw (← (eqb-true e.key k h)) u.0
       go false h v = v
 
-  of-kept : (r : Role) (o : Option Role) → KeptFor (roleId r) o → SamePairs (canonOf r o) r
-  of-kept r none u x y a b = refl
-  of-kept (Named i) (some q) u x y a b = u x y a b
-  of-kept (Inverse i) (some q) u x y a b = flip-turns q x y ∙ u y x b a
+  of_kept : (r : Role) (o : Option Role) → KeptFor (role_id r) o → SamePairs (canon_of r o) r
+  of_kept r none u x y a b = refl
+  of_kept (Named i) (some q) u x y a b = u x y a b
+  of_kept (Inverse i) (some q) u x y a b = flip_turns q x y ∙ u y x b a
 
-  map-keeps : (m : InverseCanon) → Each Kept m → (r : Role) → SamePairs (canonRole m r) r
-  unfolding canonRole
-  map-keeps m u r = of-kept r (lookup m (roleId r)) (lookup-kept m (roleId r) u)
+  map_keeps : (m : InverseCanon) → Each Kept m → (r : Role) → SamePairs (canon_role m r) r
+  unfolding canon_role
+  map_keeps m u r = of_kept r (lookup m (role_id r)) (lookup_kept m (role_id r) u)
 
   -- ---- every entry of the map is kept
-  declared-kept : (p : Pool) (m : InverseCanon) (r s : Role) → Each Kept m → satisfied I p (InverseObjectProperties r s) ≡ true → Each Kept (declared m r s)
-  declared-kept p m (Named i) (Named j) u h =
-      each-pick Kept (skipped m (Named i) (Named j)) m (record { key = j; value = Inverse i } ∷ m) u
-      ((λ x y a b. same-truth _ _ (every-pair I (λ x y. sameTruth (I.role i x y) (I.role j y x)) h y x b a)), u)
-  declared-kept p m (Named i) (Inverse j) u h = u
-  declared-kept p m (Inverse i) s u h = u
+  declared_kept : (p : Pool) (m : InverseCanon) (r s : Role) → Each Kept m → satisfied I p (InverseObjectProperties r s) ≡ true → Each Kept (declared m r s)
+  declared_kept p m (Named i) (Named j) u h =
+      each_pick Kept (skipped m (Named i) (Named j)) m (record { key = j; value = Inverse i } ∷ m) u
+      ((λ x y a b. same_truth_lem _ _ (every_pair_lem I (λ x y. same_truth (I.role i x y) (I.role j y x)) h y x b a)), u)
+  declared_kept p m (Named i) (Inverse j) u h = u
+  declared_kept p m (Inverse i) s u h = u
 
-  axiom-kept : (p : Pool) (m : InverseCanon) (a : Axiom) → Each Kept m → not (isInverseAxiom a) || satisfied I p a ≡ true → Each Kept (inverseOf m a)
-  axiom-kept p m (SubClassOf _ _) u h = u
-  axiom-kept p m (EquivalentClasses _) u h = u
-  axiom-kept p m (DisjointClasses _) u h = u
-  axiom-kept p m (DisjointUnion _ _) u h = u
-  axiom-kept p m (ObjectPropertyDomain _ _) u h = u
-  axiom-kept p m (ObjectPropertyRange _ _) u h = u
-  axiom-kept p m (SubChain _ _) u h = u
-  axiom-kept p m (TransitiveRole _) u h = u
-  axiom-kept p m (IrreflexiveRole _) u h = u
-  axiom-kept p m (AsymmetricRole _) u h = u
-  axiom-kept p m (DisjointObjectProperties _) u h = u
-  axiom-kept p m (InverseObjectProperties r s) u h = declared-kept p m r s u h
-  axiom-kept p m (SubObjectPropertyOf _ _) u h = u
-  axiom-kept p m (EquivalentObjectProperties _) u h = u
-  axiom-kept p m (ReflexiveRole _) u h = u
-  axiom-kept p m (ClassAssertion _ _) u h = u
+  axiom_kept : (p : Pool) (m : InverseCanon) (a : Axiom) → Each Kept m → not (is_inverse_axiom a) || satisfied I p a ≡ true → Each Kept (inverse_of m a)
+  axiom_kept p m (SubClassOf _ _) u h = u
+  axiom_kept p m (EquivalentClasses _) u h = u
+  axiom_kept p m (DisjointClasses _) u h = u
+  axiom_kept p m (DisjointUnion _ _) u h = u
+  axiom_kept p m (ObjectPropertyDomain _ _) u h = u
+  axiom_kept p m (ObjectPropertyRange _ _) u h = u
+  axiom_kept p m (SubChain _ _) u h = u
+  axiom_kept p m (TransitiveRole _) u h = u
+  axiom_kept p m (IrreflexiveRole _) u h = u
+  axiom_kept p m (AsymmetricRole _) u h = u
+  axiom_kept p m (DisjointObjectProperties _) u h = u
+  axiom_kept p m (InverseObjectProperties r s) u h = declared_kept p m r s u h
+  axiom_kept p m (SubObjectPropertyOf _ _) u h = u
+  axiom_kept p m (EquivalentObjectProperties _) u h = u
+  axiom_kept p m (ReflexiveRole _) u h = u
+  axiom_kept p m (ClassAssertion _ _) u h = u
 
-  build-kept : (p : Pool) (m : InverseCanon) (axioms : List Axiom) → Each Kept m → Each (λ a. not (isInverseAxiom a) || satisfied I p a ≡ true) axioms → Each Kept (buildFrom m axioms)
-  unfolding buildFrom
-  build-kept p m [] u h = u
-  build-kept p m (a ∷ l) u h = build-kept p (inverseOf m a) l (axiom-kept p m a u h.0) h.1
+  build_kept : (p : Pool) (m : InverseCanon) (axioms : List Axiom) → Each Kept m → Each (λ a. not (is_inverse_axiom a) || satisfied I p a ≡ true) axioms → Each Kept (build_from m axioms)
+  unfolding build_from
+  build_kept p m [] u h = u
+  build_kept p m (a ∷ l) u h = build_kept p (inverse_of m a) l (axiom_kept p m a u h.0) h.1
 
   -- the pool is not read
-  pub canon-keeps : (p : Pool) (axioms : List Axiom) → all (λ a. not (isInverseAxiom a) || satisfied I p a) axioms ≡ true
-      → (r : Role) (x y : ℕ) → x < I.size → y < I.size → related I (canonRole (buildInverseCanon axioms) r) x y ≡ related I r x y
-  canon-keeps p axioms h = map-keeps (buildInverseCanon axioms) (build-kept p [] axioms tt (all-each _ axioms h))
+  pub canon_keeps : (p : Pool) (axioms : List Axiom) → all (λ a. not (is_inverse_axiom a) || satisfied I p a) axioms ≡ true
+      → (r : Role) (x y : ℕ) → x < I.size → y < I.size → related I (canon_role (build_inverse_canon axioms) r) x y ≡ related I r x y
+  canon_keeps p axioms h = map_keeps (build_inverse_canon axioms) (build_kept p [] axioms tt (all_each _ axioms h))
 
-  pub env-keeps : (env : Env) (p : Pool) (axioms : List Axiom) → env.inverseCanon ≡ buildInverseCanon axioms → all (λ a. not (isInverseAxiom a) || satisfied I p a) axioms ≡ true
+  pub env_keeps : (env : Env) (p : Pool) (axioms : List Axiom) → env.inverse_canon ≡ build_inverse_canon axioms → all (λ a. not (is_inverse_axiom a) || satisfied I p a) axioms ≡ true
       → (r : Role) → SamePairs (canon env r) r
-  env-keeps env p axioms e h r = rw e (canon-keeps p axioms h r)
+  env_keeps env p axioms e h r = rw e (canon_keeps p axioms h r)

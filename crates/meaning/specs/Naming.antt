@@ -7,113 +7,113 @@ use Rattle.std.proofs.lemmas.Bool.{false≢true}
 use mathlib.Core.List.{List, [], ◌∷◌, ◌++◌, append-nil, append_assoc}
 use Rattle.std.proofs.Math.Option.{Option, none, some}
 use Rattle.ir.specs.Pick.{pick}
-use Rattle.ir.specs.Records.{sameAtom}
-use Rattle.ir.specs.RecordLaws.{same-atom}
+use Rattle.ir.specs.Records.{same_atom}
+use Rattle.ir.specs.RecordLaws.{same_atom_lem}
 use Rattle.ir.specs.declared.atom.Atom.{Atom}
-use Rattle.rules.specs.Reflexive.{sameAtoms}
-use Rattle.rules.specs.Branches.{Branch, Naming, branchName, memoOf, nameOrNew, nameOf, branchClause}
+use Rattle.rules.specs.Reflexive.{same_atoms}
+use Rattle.rules.specs.Branches.{Branch, Naming, branch_name, memo_of, name_or_new, name_of, branch_clause}
 use Rattle.rules.specs.Post.{Post, give}
 use Rattle.rules.specs.Invariants.{Each}
-use Rattle.rules.specs.Semantics.{Interpretation, withClasses}
-use Rattle.rules.specs.EachLaws.{each-left}
-use Rattle.meaning.specs.Truth.{or-none, and-left, and-right}
+use Rattle.rules.specs.Semantics.{Interpretation, with_classes}
+use Rattle.rules.specs.EachLaws.{each_left}
+use Rattle.meaning.specs.Truth.{or_none, and_left, and_right}
 use Rattle.meaning.specs.Choices.{Follows}
-use Rattle.meaning.specs.Valuations.{Valuation, Agree, agree-refl, agree-trans, AtomUnder}
-use Rattle.meaning.specs.Matching.{matches, matches-has, matches-agree}
-use Rattle.meaning.specs.Grouping.{Given, nothing, given, given-map}
+use Rattle.meaning.specs.Valuations.{Valuation, Agree, agree_refl, agree_trans, AtomUnder}
+use Rattle.meaning.specs.Matching.{matches, matches_has, matches_agree}
+use Rattle.meaning.specs.Grouping.{Given, nothing, given, given_map}
 
-abbrev pub branchOf : List Atom → ℕ → Branch
-branchOf b e = record { body = b; name = e }
+abbrev pub branch_of : List Atom → ℕ → Branch
+branch_of b e = record { body = b; name = e }
 
 -- ---- the names of a list rise from n and stay below m, and each body's classes are below its name
 abbrev pub Chain : ℕ → List Branch → ℕ → Type 0
 Chain n [] m = n ≤ m
 Chain n (b ∷ l) m = (n ≤ b.name) × Each (AtomUnder b.name) b.body × Chain (suc b.name) l m
 
-chain-last : (n m : ℕ) (l : List Branch) (b : List Atom) → Chain n l m → Each (AtomUnder m) b → Chain n (l ++ (branchOf b m ∷ [])) (m + 1)
-chain-last n m [] b c u = (c, u, omega arith)
-chain-last n m (a ∷ l) b c u = (c.0, c.1, chain-last (suc a.name) m l b c.2 u)
+chain_last : (n m : ℕ) (l : List Branch) (b : List Atom) → Chain n l m → Each (AtomUnder m) b → Chain n (l ++ (branch_of b m ∷ [])) (m + 1)
+chain_last n m [] b c u = (c, u, omega arith)
+chain_last n m (a ∷ l) b c u = (c.0, c.1, chain_last (suc a.name) m l b c.2 u)
 
-chain-below : (n m : ℕ) (l : List Branch) → Chain n l m → n ≤ m
-chain-below n m [] c = c
-chain-below n m (a ∷ l) c = let h = chain-below (suc a.name) m l c.2 in let d = c.0 in omega arith
+chain_below : (n m : ℕ) (l : List Branch) → Chain n l m → n ≤ m
+chain_below n m [] c = c
+chain_below n m (a ∷ l) c = let h = chain_below (suc a.name) m l c.2 in let d = c.0 in omega arith
 
-pub chain-names : (n m : ℕ) (l : List Branch) → Chain n l m → Each (λ b. b.name < m) l
-chain-names n m [] c = tt
-chain-names n m (a ∷ l) c = (chain-below (suc a.name) m l c.2, chain-names (suc a.name) m l c.2)
+pub chain_names : (n m : ℕ) (l : List Branch) → Chain n l m → Each (λ b. b.name < m) l
+chain_names n m [] c = tt
+chain_names n m (a ∷ l) c = (chain_below (suc a.name) m l c.2, chain_names (suc a.name) m l c.2)
 
-pub chain-bodies : (n m : ℕ) (l : List Branch) → Chain n l m → Each (λ b. Each (AtomUnder b.name) b.body) l
-chain-bodies n m [] c = tt
-chain-bodies n m (a ∷ l) c = (c.1, chain-bodies (suc a.name) m l c.2)
+pub chain_bodies : (n m : ℕ) (l : List Branch) → Chain n l m → Each (λ b. Each (AtomUnder b.name) b.body) l
+chain_bodies n m [] c = tt
+chain_bodies n m (a ∷ l) c = (c.1, chain_bodies (suc a.name) m l c.2)
 
 -- ---- a branch among others
 abbrev pub Among : Branch → List Branch → Type 0
 Among b [] = ⊥
 Among b (c ∷ l) = (c ≡ b) ⊎ Among b l
 
-pub among-each : (P : Branch → Type 0) (b : Branch) (l : List Branch) → Each P l → Among b l → P b
-among-each P b [] e i = absurd i
-among-each P b (c ∷ l) e (inl q) = subst P q e.0
-among-each P b (c ∷ l) e (inr i) = among-each P b l e.1 i
+pub among_each : (P : Branch → Type 0) (b : Branch) (l : List Branch) → Each P l → Among b l → P b
+among_each P b [] e i = absurd i
+among_each P b (c ∷ l) e (inl q) = subst P q e.0
+among_each P b (c ∷ l) e (inr i) = among_each P b l e.1 i
 
-among-last : (b : Branch) (l : List Branch) → Among b (l ++ (b ∷ []))
-among-last b [] = inl refl
-among-last b (c ∷ l) = inr (among-last b l)
+among_last : (b : Branch) (l : List Branch) → Among b (l ++ (b ∷ []))
+among_last b [] = inl refl
+among_last b (c ∷ l) = inr (among_last b l)
 
 -- ---- from one state to a later one: names are only added
 pub record Step (base : ℕ) (w u : Naming) : Type 0 where
   pub new : List Branch
   pub grown : u.named ≡ w.named ++ new
-  pub fresh : w.nextFresh ≤ u.nextFresh
-  pub chain : Chain base u.named u.nextFresh
+  pub fresh : w.next_fresh ≤ u.next_fresh
+  pub chain : Chain base u.named u.next_fresh
 
-pub step-refl : {base : ℕ} (w : Naming) → Chain base w.named w.nextFresh → Step base w w
-step-refl w c = record { new = []; grown = sym (append-nil w.named); fresh = le_refl w.nextFresh; chain = c }
+pub step_refl : {base : ℕ} (w : Naming) → Chain base w.named w.next_fresh → Step base w w
+step_refl w c = record { new = []; grown = sym (append-nil w.named); fresh = le_refl w.next_fresh; chain = c }
 
-pub step-trans : {base : ℕ} {w u z : Naming} → Step base w u → Step base u z → Step base w z
-step-trans {w = w} s t = record {
+pub step_trans : {base : ℕ} {w u z : Naming} → Step base w u → Step base u z → Step base w z
+step_trans {w = w} s t = record {
   new = s.new ++ t.new;
   grown = t.grown ∙ ap (λ l. l ++ t.new) s.grown ∙ append_assoc w.named s.new t.new;
   fresh = omega (arith, s.fresh, t.fresh);
   chain = t.chain;
 }
 
-pub step-each : {base : ℕ} {w u : Naming} (P : Branch → Type 0) → Step base w u → Each P u.named → Each P w.named
-step-each {w = w} P s e = each-left P w.named s.new (subst (Each P) s.grown e)
+pub step_each : {base : ℕ} {w u : Naming} (P : Branch → Type 0) → Step base w u → Each P u.named → Each P w.named
+step_each {w = w} P s e = each_left P w.named s.new (subst (Each P) s.grown e)
 
 -- ---- the name of a body
-same-atoms : (l m : List Atom) → sameAtoms l m ≡ true → l ≡ m
-unfolding sameAtoms
-same-atoms [] [] h = refl
-same-atoms [] (b ∷ m) h = absurd (false≢true h)
-same-atoms (a ∷ l) [] h = absurd (false≢true h)
-same-atoms (a ∷ l) (b ∷ m) h = ap (λ z. z ∷ l) (same-atom a b (and-left (sameAtom a b) (sameAtoms l m) h)) ∙ ap (λ z. b ∷ z) (same-atoms l m (and-right (sameAtom a b) (sameAtoms l m) h))
+same_atoms_lem : (l m : List Atom) → same_atoms l m ≡ true → l ≡ m
+unfolding same_atoms
+same_atoms_lem [] [] h = refl
+same_atoms_lem [] (b ∷ m) h = absurd (false≢true h)
+same_atoms_lem (a ∷ l) [] h = absurd (false≢true h)
+same_atoms_lem (a ∷ l) (b ∷ m) h = ap (λ z. z ∷ l) (same_atom_lem a b (and_left (same_atom a b) (same_atoms l m) h)) ∙ ap (λ z. b ∷ z) (same_atoms_lem l m (and_right (same_atom a b) (same_atoms l m) h))
 
-memo-among : (l : List Branch) (b : List Atom) → Given (λ e. Among (branchOf b e) l) (memoOf l b)
-unfolding memoOf
-memo-among [] b = nothing
-memo-among (c ∷ l) b = go (sameAtoms c.body b) (same-atoms c.body b) (memo-among l b)
+memo_among : (l : List Branch) (b : List Atom) → Given (λ e. Among (branch_of b e) l) (memo_of l b)
+unfolding memo_of
+memo_among [] b = nothing
+memo_among (c ∷ l) b = go (same_atoms c.body b) (same_atoms_lem c.body b) (memo_among l b)
   where
-    go : (t : Bool) → (t ≡ true → c.body ≡ b) → Given (λ e. Among (branchOf b e) l) (memoOf l b) → Given (λ e. Among (branchOf b e) (c ∷ l)) (branchName c (memoOf l b) t)
-    go true q r = given (inl (ap (λ z. branchOf z c.name) (q refl)))
-    go false q r = given-map (λ e i. inr i) r
+    go : (t : Bool) → (t ≡ true → c.body ≡ b) → Given (λ e. Among (branch_of b e) l) (memo_of l b) → Given (λ e. Among (branch_of b e) (c ∷ l)) (branch_name c (memo_of l b) t)
+    go true q r = given (inl (ap (λ z. branch_of z c.name) (q refl)))
+    go false q r = given_map (λ e i. inr i) r
 
 pub record IsName (base : ℕ) (w : Naming) (b : List Atom) (e : ℕ) (u : Naming) : Type 0 where
   pub step : Step base w u
-  pub among : Among (branchOf b e) u.named
+  pub among : Among (branch_of b e) u.named
 
-pub name-below : {base : ℕ} {w u : Naming} {b : List Atom} {e : ℕ} → IsName base w b e u → e < u.nextFresh
-name-below {base} {u = u} {b = b} {e = e} h = among-each (λ z. z.name < u.nextFresh) (branchOf b e) u.named (chain-names base u.nextFresh u.named h.step.chain) h.among
+pub name_below : {base : ℕ} {w u : Naming} {b : List Atom} {e : ℕ} → IsName base w b e u → e < u.next_fresh
+name_below {base} {u = u} {b = b} {e = e} h = among_each (λ z. z.name < u.next_fresh) (branch_of b e) u.named (chain_names base u.next_fresh u.named h.step.chain) h.among
 
-pub name-of : (base : ℕ) (w : Naming) (b : List Atom) → Chain base w.named w.nextFresh → Each (AtomUnder w.nextFresh) b → Post (IsName base w b) (nameOf b w)
-unfolding nameOf
-name-of base w b c u = go (memoOf w.named b) (memo-among w.named b)
+pub name_of_lem : (base : ℕ) (w : Naming) (b : List Atom) → Chain base w.named w.next_fresh → Each (AtomUnder w.next_fresh) b → Post (IsName base w b) (name_of b w)
+unfolding name_of
+name_of_lem base w b c u = go (memo_of w.named b) (memo_among w.named b)
   where
-    go : (o : Option ℕ) → Given (λ e. Among (branchOf b e) w.named) o → Post (IsName base w b) (nameOrNew b w o)
-    go (some e) (given i) = give (record { step = step-refl w c; among = i })
+    go : (o : Option ℕ) → Given (λ e. Among (branch_of b e) w.named) o → Post (IsName base w b) (name_or_new b w o)
+    go (some e) (given i) = give (record { step = step_refl w c; among = i })
     go none nothing = give (record {
-      step = record { new = branchOf b w.nextFresh ∷ []; grown = refl; fresh = omega arith; chain = chain-last base w.nextFresh w.named b c u };
-      among = among-last (branchOf b w.nextFresh) w.named;
+      step = record { new = branch_of b w.next_fresh ∷ []; grown = refl; fresh = omega arith; chain = chain_last base w.next_fresh w.named b c u };
+      among = among_last (branch_of b w.next_fresh) w.named;
     })
 
 -- ---- the sets of the names
@@ -121,39 +121,39 @@ module _ (I : Interpretation) where
   abbrev pub Right : Valuation → Branch → Type 0
   Right k b = k b.name ≡ matches I k b.body
 
-  pub right-follows : (k : Valuation) (b : Branch) → Right k b → Follows (withClasses I k) (branchClause b)
-  right-follows k b r = record { follows = λ f c h. or-none (k b.name (f 0)) ∙ ap (λ s. s (f 0)) r ∙ matches-has I k b.body f c h }
+  pub right_follows : (k : Valuation) (b : Branch) → Right k b → Follows (with_classes I k) (branch_clause b)
+  right_follows k b r = record { follows = λ f c h. or_none (k b.name (f 0)) ∙ ap (λ s. s (f 0)) r ∙ matches_has I k b.body f c h }
 
   -- a set for one class
   abbrev put : Valuation → ℕ → (ℕ → Bool) → Valuation
   put k n s c = pick (eqb c n) s (k c)
 
-  put-at : (k : Valuation) (n : ℕ) (s : ℕ → Bool) → put k n s n ≡ s
-  put-at k n s = rw (eq-eqb n n refl)
+  put_at_lem : (k : Valuation) (n : ℕ) (s : ℕ → Bool) → put k n s n ≡ s
+  put_at_lem k n s = rw (eq-eqb n n refl)
 
-  put-below : (k : Valuation) (n : ℕ) (s : ℕ → Bool) → Agree n k (put k n s)
-  put-below k n s = record { same = λ c h. rw (ne_eqb c n (λ q. absurd (omega arith))) }
+  put_below : (k : Valuation) (n : ℕ) (s : ℕ → Bool) → Agree n k (put k n s)
+  put_below k n s = record { same = λ c h. rw (ne_eqb c n (λ q. absurd (omega arith))) }
 
   -- each name in turn
   unfoldable pub filled : Valuation → List Branch → Valuation
   filled k [] = k
   filled k (b ∷ l) = filled (put k b.name (matches I k b.body)) l
 
-  pub filled-agrees : (n m : ℕ) (l : List Branch) → Chain n l m → (k : Valuation) → Agree n k (filled k l)
+  pub filled_agrees : (n m : ℕ) (l : List Branch) → Chain n l m → (k : Valuation) → Agree n k (filled k l)
   unfolding filled
-  filled-agrees n m [] c k = agree-refl n k
-  filled-agrees n m (b ∷ l) c k =
+  filled_agrees n m [] c k = agree_refl n k
+  filled_agrees n m (b ∷ l) c k =
       let s = matches I k b.body in
-      let a = filled-agrees (suc b.name) m l c.2 (put k b.name s) in
-      record { same = λ v h. let d = c.0 in (put-below k b.name s).same v (omega arith) ∙ a.same v (omega arith) }
+      let a = filled_agrees (suc b.name) m l c.2 (put k b.name s) in
+      record { same = λ v h. let d = c.0 in (put_below k b.name s).same v (omega arith) ∙ a.same v (omega arith) }
 
-  pub filled-right : (n m : ℕ) (l : List Branch) → Chain n l m → (k : Valuation) → Each (Right (filled k l)) l
+  pub filled_right : (n m : ℕ) (l : List Branch) → Chain n l m → (k : Valuation) → Each (Right (filled k l)) l
   unfolding filled
-  filled-right n m [] c k = tt
-  filled-right n m (b ∷ l) c k =
+  filled_right n m [] c k = tt
+  filled_right n m (b ∷ l) c k =
       let s = matches I k b.body in
-      let a : Agree (suc b.name) (put k b.name s) (filled (put k b.name s) l) = filled-agrees (suc b.name) m l c.2 (put k b.name s) in (
-        sym (a.same b.name (le_refl (suc b.name))) ∙ put-at k b.name s
-            ∙ matches-agree I (agree-trans (omega arith) (put-below k b.name s) a) b.body c.1,
-        filled-right (suc b.name) m l c.2 (put k b.name s),
+      let a : Agree (suc b.name) (put k b.name s) (filled (put k b.name s) l) = filled_agrees (suc b.name) m l c.2 (put k b.name s) in (
+        sym (a.same b.name (le_refl (suc b.name))) ∙ put_at_lem k b.name s
+            ∙ matches_agree I (agree_trans (omega arith) (put_below k b.name s) a) b.body c.1,
+        filled_right (suc b.name) m l c.2 (put k b.name s),
       )

@@ -3,27 +3,27 @@ use Rattle.std.specs.Prelude.{◌≡◌, true, List, [], ◌∷◌, ℕ}
 use Rattle.rules.specs.Base.{all}
 use Rattle.rules.specs.Concept.{Axiom}
 use Rattle.rules.specs.Pool.{Pool}
-use Rattle.rules.specs.Inverse.{buildInverseCanon}
+use Rattle.rules.specs.Inverse.{build_inverse_canon}
 use Rattle.rules.specs.State.{Env, Out}
-use Rattle.rules.specs.Reflexive.{reflexiveRoleIds}
-use Rattle.rules.specs.Run.{reflexivePasses}
-use Rattle.rules.specs.Post.{Post, post-then, post-map, give}
+use Rattle.rules.specs.Reflexive.{reflexive_role_ids}
+use Rattle.rules.specs.Run.{reflexive_passes}
+use Rattle.rules.specs.Post.{Post, post_then, post_map, give}
 use Rattle.rules.specs.Invariants.{Each}
-use Rattle.rules.specs.Semantics.{Interpretation, withClasses, satisfied}
+use Rattle.rules.specs.Semantics.{Interpretation, with_classes, satisfied}
 use Rattle.meaning.specs.Choices.{Follows}
 use Rattle.meaning.specs.Valuations.{Valuation}
-use Rattle.meaning.specs.ReflexiveSet.{own-reflexive}
-use Rattle.rules.specs.Added.{added-none}
-use Rattle.meaning.specs.Passes.{Due, PassMeans, pass-then, due-means}
-use Rattle.meaning.specs.Unfolding.{unfold-means}
-use Rattle.meaning.specs.Loops.{loops-means}
+use Rattle.meaning.specs.ReflexiveSet.{own_reflexive}
+use Rattle.rules.specs.Added.{added_none}
+use Rattle.meaning.specs.Passes.{Due, PassMeans, pass_then, due_means}
+use Rattle.meaning.specs.Unfolding.{unfold_means}
+use Rattle.meaning.specs.Loops.{loops_means}
 
-pub passes-mean : (env : Env) (set : List ℕ) (s : Out) → Post (λ _ t. PassMeans set s t) (reflexivePasses env set s)
-passes-mean env [] s = give (due-means [] env s s (added-none env (Due [] s.clauses) s))
-passes-mean env (r ∷ set) s = post-then (unfold-means env (r ∷ set) s) (λ _ t A. post-map (loops-means env (r ∷ set) t) (λ _ u D. pass-then (r ∷ set) A D))
+pub passes_mean : (env : Env) (set : List ℕ) (s : Out) → Post (λ _ t. PassMeans set s t) (reflexive_passes env set s)
+passes_mean env [] s = give (due_means [] env s s (added_none env (Due [] s.clauses) s))
+passes_mean env (r ∷ set) s = post_then (unfold_means env (r ∷ set) s) (λ _ t A. post_map (loops_means env (r ∷ set) t) (λ _ u D. pass_then (r ∷ set) A D))
 
 -- over the axioms that the map of inverses is made of, where they are satisfied
-pub own-follow : (I : Interpretation) (env : Env) (p : Pool) (axioms : List Axiom) → env.inverseCanon ≡ buildInverseCanon axioms → all (satisfied I p) axioms ≡ true
-    → (s t : Out) → PassMeans (reflexiveRoleIds env axioms) s t
-    → (k : Valuation) → Each (Follows (withClasses I k)) s.clauses → Each (Follows (withClasses I k)) t.clauses
-own-follow I env p axioms e h s t A = A.follow I (own-reflexive I env p axioms e h)
+pub own_follow : (I : Interpretation) (env : Env) (p : Pool) (axioms : List Axiom) → env.inverse_canon ≡ build_inverse_canon axioms → all (satisfied I p) axioms ≡ true
+    → (s t : Out) → PassMeans (reflexive_role_ids env axioms) s t
+    → (k : Valuation) → Each (Follows (with_classes I k)) s.clauses → Each (Follows (with_classes I k)) t.clauses
+own_follow I env p axioms e h s t A = A.follow I (own_reflexive I env p axioms e h)

@@ -8,7 +8,7 @@ use Rattle.std.proofs.lemmas.Bool.{false≢true}
 use mathlib.Core.List.{List, [], ◌∷◌, map}
 use Prim.Native.Nat.{ℕ, zero, suc, ◌<◌}
 use Rattle.ir.specs.Pick.{pick}
-use Rattle.ir.specs.Roles.{roleId}
+use Rattle.ir.specs.Roles.{role_id}
 use Rattle.ir.specs.declared.role.Role.{Role}
 use Rattle.ir.specs.declared.role.Role.TheVariants.{Named, Inverse}
 use Rattle.rules.specs.Base.{all, contains}
@@ -16,20 +16,20 @@ use Rattle.rules.specs.Concept.{Axiom}
 use Rattle.rules.specs.Concept.{SubClassOf, EquivalentClasses, DisjointClasses, DisjointUnion, ObjectPropertyDomain, ObjectPropertyRange, SubChain, TransitiveRole, IrreflexiveRole, AsymmetricRole, DisjointObjectProperties, InverseObjectProperties, SubObjectPropertyOf, EquivalentObjectProperties, ReflexiveRole, ClassAssertion}
 use Rattle.rules.specs.Pool.{Pool}
 use Rattle.rules.specs.State.{Env, canon}
-use Rattle.rules.specs.Inverse.{buildInverseCanon}
-use Rattle.rules.specs.Axioms.{paired, laterPairs}
-use Rattle.rules.specs.Reflexive.{inserted, canonId, declaredReflexive, reflexiveFrom, edgeTo, edgesFrom, edgesAmong, roleEdges, allEdges, round, settled, closed, reflexiveRoleIds}
+use Rattle.rules.specs.Inverse.{build_inverse_canon}
+use Rattle.rules.specs.Axioms.{paired, later_pairs}
+use Rattle.rules.specs.Reflexive.{inserted, canon_id, declared_reflexive, reflexive_from, edge_to, edges_from, edges_among, role_edges, all_edges, round, settled, closed, reflexive_role_ids}
 use Rattle.rules.specs.Invariants.{Each}
-use Rattle.rules.specs.Semantics.{Interpretation, related, implies, sameTruth, satisfied}
-use Rattle.rules.specs.Statements.{isInverseAxiom}
-use Rattle.rules.specs.EachLaws.{each-append}
-use Rattle.meaning.specs.Truth.{and-left, and-right, implies-elim, same-truth, elements-all, all-each, all-some}
-use Rattle.meaning.specs.InverseMap.{SamePairs, every-pair, each-pick, env-keeps}
+use Rattle.rules.specs.Semantics.{Interpretation, related, implies, same_truth, satisfied}
+use Rattle.rules.specs.Statements.{is_inverse_axiom}
+use Rattle.rules.specs.EachLaws.{each_append}
+use Rattle.meaning.specs.Truth.{and_left, and_right, implies_elim, same_truth_lem, elements_all, all_each, all_some}
+use Rattle.meaning.specs.InverseMap.{SamePairs, every_pair_lem, each_pick, env_keeps}
 
 -- what holds of each holds of one that is contained
-pub each-contains : (P : ℕ → Type 0) (l : List ℕ) (n : ℕ) → Each P l → contains l n ≡ true → P n
-each-contains P [] n u h = absurd (false≢true h)
-each-contains P (a ∷ l) n u h = go (eqb n a) refl (each-contains P l n u.1) h
+pub each_contains : (P : ℕ → Type 0) (l : List ℕ) (n : ℕ) → Each P l → contains l n ≡ true → P n
+each_contains P [] n u h = absurd (false≢true h)
+each_contains P (a ∷ l) n u h = go (eqb n a) refl (each_contains P l n u.1) h
   where
     go : (b : Bool) → eqb n a ≡ b → (contains l n ≡ true → P n) → b || contains l n ≡ true → P n
     go true e r k = rw (eqb-true n a e) u.0
@@ -40,31 +40,31 @@ module _ (I : Interpretation) where
   abbrev pub Reflexive : ℕ → Type 0
   Reflexive i = (x : ℕ) → x < I.size → I.role i x x ≡ true
 
-  pub self-pair : (r : Role) (x : ℕ) → I.role (roleId r) x x ≡ related I r x x
-  self-pair (Named i) x = refl
-  self-pair (Inverse i) x = refl
+  pub self_pair : (r : Role) (x : ℕ) → I.role (role_id r) x x ≡ related I r x x
+  self_pair (Named i) x = refl
+  self_pair (Inverse i) x = refl
 
-  inserted-reflexive : (set : List ℕ) (n : ℕ) → Each Reflexive set → Reflexive n → Each Reflexive (inserted set n)
-  inserted-reflexive set n u h = each-pick Reflexive (contains set n) set (n ∷ set) u (h, u)
+  inserted_reflexive : (set : List ℕ) (n : ℕ) → Each Reflexive set → Reflexive n → Each Reflexive (inserted set n)
+  inserted_reflexive set n u h = each_pick Reflexive (contains set n) set (n ∷ set) u (h, u)
 
   -- ---- rounds over edges that keep it
   abbrev Edge : ℕ × ℕ → Type 0
   Edge e = Reflexive e.0 → Reflexive e.1
 
-  round-reflexive : (edges : List (ℕ × ℕ)) (set : List ℕ) → Each Edge edges → Each Reflexive set → Each Reflexive (round edges set)
+  round_reflexive : (edges : List (ℕ × ℕ)) (set : List ℕ) → Each Edge edges → Each Reflexive set → Each Reflexive (round edges set)
   unfolding round
-  round-reflexive [] set k u = u
-  round-reflexive (e ∷ l) set k u = round-reflexive l (pick (contains set e.0) (inserted set e.1) set) k.1 (go (contains set e.0) refl)
+  round_reflexive [] set k u = u
+  round_reflexive (e ∷ l) set k u = round_reflexive l (pick (contains set e.0) (inserted set e.1) set) k.1 (go (contains set e.0) refl)
     where
       go : (b : Bool) → contains set e.0 ≡ b → Each Reflexive (pick b (inserted set e.1) set)
-      go true h = inserted-reflexive set e.1 u (k.0 (each-contains Reflexive set e.0 u h))
+      go true h = inserted_reflexive set e.1 u (k.0 (each_contains Reflexive set e.0 u h))
       go false h = u
 
-  closed-reflexive : (f : ℕ) (edges : List (ℕ × ℕ)) (set : List ℕ) → Each Edge edges → Each Reflexive set → Each Reflexive (closed f edges set)
+  closed_reflexive : (f : ℕ) (edges : List (ℕ × ℕ)) (set : List ℕ) → Each Edge edges → Each Reflexive set → Each Reflexive (closed f edges set)
   unfolding closed
-  closed-reflexive zero edges set k u = u
-  closed-reflexive (suc f) edges set k u =
-      go (eqb (length set) (length (round edges set))) (closed-reflexive f edges (round edges set) k (round-reflexive edges set k u))
+  closed_reflexive zero edges set k u = u
+  closed_reflexive (suc f) edges set k u =
+      go (eqb (length set) (length (round edges set))) (closed_reflexive f edges (round edges set) k (round_reflexive edges set k u))
     where
       go : (b : Bool) → Each Reflexive (closed f edges (round edges set)) → Each Reflexive (settled (λ z. closed f edges z) set (round edges set) b)
       go true v = u
@@ -72,109 +72,109 @@ module _ (I : Interpretation) where
 
   -- ---- the axioms, by mapped ids
   module _ (env : Env) (keeps : (r : Role) → SamePairs I (canon env r) r) (p : Pool) where
-    mapped-self : (r : Role) (x : ℕ) → x < I.size → I.role (canonId env r) x x ≡ related I r x x
-    mapped-self r x h = self-pair (canon env r) x ∙ keeps r x x h h
+    mapped_self : (r : Role) (x : ℕ) → x < I.size → I.role (canon_id env r) x x ≡ related I r x x
+    mapped_self r x h = self_pair (canon env r) x ∙ keeps r x x h h
 
-    declared-reflexive : (set : List ℕ) (a : Axiom) → Each Reflexive set → satisfied I p a ≡ true → Each Reflexive (declaredReflexive env set a)
-    declared-reflexive set (SubClassOf _ _) u h = u
-    declared-reflexive set (EquivalentClasses _) u h = u
-    declared-reflexive set (DisjointClasses _) u h = u
-    declared-reflexive set (DisjointUnion _ _) u h = u
-    declared-reflexive set (ObjectPropertyDomain _ _) u h = u
-    declared-reflexive set (ObjectPropertyRange _ _) u h = u
-    declared-reflexive set (SubChain _ _) u h = u
-    declared-reflexive set (TransitiveRole _) u h = u
-    declared-reflexive set (IrreflexiveRole _) u h = u
-    declared-reflexive set (AsymmetricRole _) u h = u
-    declared-reflexive set (DisjointObjectProperties _) u h = u
-    declared-reflexive set (InverseObjectProperties _ _) u h = u
-    declared-reflexive set (SubObjectPropertyOf _ _) u h = u
-    declared-reflexive set (EquivalentObjectProperties _) u h = u
-    declared-reflexive set (ReflexiveRole r) u h =
-        inserted-reflexive set (canonId env r) u (λ x l. mapped-self r x l ∙ elements-all I.size (λ x. related I r x x) h x l)
-    declared-reflexive set (ClassAssertion _ _) u h = u
+    declared_reflexive_lem : (set : List ℕ) (a : Axiom) → Each Reflexive set → satisfied I p a ≡ true → Each Reflexive (declared_reflexive env set a)
+    declared_reflexive_lem set (SubClassOf _ _) u h = u
+    declared_reflexive_lem set (EquivalentClasses _) u h = u
+    declared_reflexive_lem set (DisjointClasses _) u h = u
+    declared_reflexive_lem set (DisjointUnion _ _) u h = u
+    declared_reflexive_lem set (ObjectPropertyDomain _ _) u h = u
+    declared_reflexive_lem set (ObjectPropertyRange _ _) u h = u
+    declared_reflexive_lem set (SubChain _ _) u h = u
+    declared_reflexive_lem set (TransitiveRole _) u h = u
+    declared_reflexive_lem set (IrreflexiveRole _) u h = u
+    declared_reflexive_lem set (AsymmetricRole _) u h = u
+    declared_reflexive_lem set (DisjointObjectProperties _) u h = u
+    declared_reflexive_lem set (InverseObjectProperties _ _) u h = u
+    declared_reflexive_lem set (SubObjectPropertyOf _ _) u h = u
+    declared_reflexive_lem set (EquivalentObjectProperties _) u h = u
+    declared_reflexive_lem set (ReflexiveRole r) u h =
+        inserted_reflexive set (canon_id env r) u (λ x l. mapped_self r x l ∙ elements_all I.size (λ x. related I r x x) h x l)
+    declared_reflexive_lem set (ClassAssertion _ _) u h = u
 
-    from-reflexive : (set : List ℕ) (axioms : List Axiom) → Each Reflexive set → Each (λ a. satisfied I p a ≡ true) axioms → Each Reflexive (reflexiveFrom env set axioms)
-    unfolding reflexiveFrom
-    from-reflexive set [] u h = u
-    from-reflexive set (a ∷ l) u h = from-reflexive (declaredReflexive env set a) l (declared-reflexive set a u h.0) h.1
+    from_reflexive : (set : List ℕ) (axioms : List Axiom) → Each Reflexive set → Each (λ a. satisfied I p a ≡ true) axioms → Each Reflexive (reflexive_from env set axioms)
+    unfolding reflexive_from
+    from_reflexive set [] u h = u
+    from_reflexive set (a ∷ l) u h = from_reflexive (declared_reflexive env set a) l (declared_reflexive_lem set a u h.0) h.1
 
     -- ids whose self-pairs are those of v
     abbrev Alike : (ℕ → Bool) → ℕ → Type 0
     Alike v i = (x : ℕ) → x < I.size → I.role i x x ≡ v x
 
-    edges-from : (v : ℕ → Bool) (a : ℕ) (l : List ℕ) → Alike v a → Each (Alike v) l → Each Edge (edgesFrom env a l)
-    unfolding edgesFrom
-    edges-from v a [] h u = tt
-    edges-from v a (b ∷ l) h u = go (eqb a b) (edges-from v a l h u.1)
+    edges_from_lem : (v : ℕ → Bool) (a : ℕ) (l : List ℕ) → Alike v a → Each (Alike v) l → Each Edge (edges_from env a l)
+    unfolding edges_from
+    edges_from_lem v a [] h u = tt
+    edges_from_lem v a (b ∷ l) h u = go (eqb a b) (edges_from_lem v a l h u.1)
       where
-        go : (t : Bool) → Each Edge (edgesFrom env a l) → Each Edge (edgeTo env a b (edgesFrom env a l) t)
+        go : (t : Bool) → Each Edge (edges_from env a l) → Each Edge (edge_to env a b (edges_from env a l) t)
         go true r = r
         go false r = ((λ e x k. u.0 x k ∙ sym (h x k) ∙ e x k), r)
 
-    edges-among : (v : ℕ → Bool) (k l : List ℕ) → Each (Alike v) k → Each (Alike v) l → Each Edge (edgesAmong env k l)
-    unfolding edgesAmong
-    edges-among v [] l t u = tt
-    edges-among v (a ∷ k) l t u = each-append Edge (edgesFrom env a l) (edgesAmong env k l) (edges-from v a l t.0 u) (edges-among v k l t.1 u)
+    edges_among_lem : (v : ℕ → Bool) (k l : List ℕ) → Each (Alike v) k → Each (Alike v) l → Each Edge (edges_among env k l)
+    unfolding edges_among
+    edges_among_lem v [] l t u = tt
+    edges_among_lem v (a ∷ k) l t u = each_append Edge (edges_from env a l) (edges_among env k l) (edges_from_lem v a l t.0 u) (edges_among_lem v k l t.1 u)
 
     -- the roles after r in an equivalence
-    sameSelf : ℕ → Role × Role → Bool
-    sameSelf x q = sameTruth (related I q.0 x x) (related I q.1 x x)
+    same_self : ℕ → Role × Role → Bool
+    same_self x q = same_truth (related I q.0 x x) (related I q.1 x x)
 
-    alike-after : (r : Role) (l : List Role) (rest : List (Role × Role)) → ((x : ℕ) → x < I.size → all (sameSelf x) (paired r l rest) ≡ true)
-        → Each (Alike (λ x. related I r x x)) (map (canonId env) l)
-    unfolding paired sameSelf
-    alike-after r [] rest h = tt
-    alike-after r (s ∷ l) rest h = (
-      (λ x k. mapped-self s x k ∙ sym (same-truth (related I r x x) (related I s x x) (and-left _ (all (sameSelf x) (paired r l rest)) (h x k)))),
-      alike-after r l rest (λ x k. and-right (sameSelf x (r, s)) (all (sameSelf x) (paired r l rest)) (h x k)),
+    alike_after : (r : Role) (l : List Role) (rest : List (Role × Role)) → ((x : ℕ) → x < I.size → all (same_self x) (paired r l rest) ≡ true)
+        → Each (Alike (λ x. related I r x x)) (map (canon_id env) l)
+    unfolding paired same_self
+    alike_after r [] rest h = tt
+    alike_after r (s ∷ l) rest h = (
+      (λ x k. mapped_self s x k ∙ sym (same_truth_lem (related I r x x) (related I s x x) (and_left _ (all (same_self x) (paired r l rest)) (h x k)))),
+      alike_after r l rest (λ x k. and_right (same_self x (r, s)) (all (same_self x) (paired r l rest)) (h x k)),
     )
 
-    equivalent-edges : (l : List Role) → satisfied I p (EquivalentObjectProperties l) ≡ true → Each Edge (edgesAmong env (map (canonId env) l) (map (canonId env) l))
-    unfolding edgesAmong laterPairs sameSelf
-    equivalent-edges [] h = tt
-    equivalent-edges (r ∷ l) h =
-        let u : Each (Alike (λ x. related I r x x)) (map (canonId env) (r ∷ l)) =
-        (mapped-self r, alike-after r l (laterPairs l) (λ x k. every-pair I (λ x y. all (λ q. sameTruth (related I q.0 x y) (related I q.1 x y)) (laterPairs (r ∷ l))) h x x k k)) in
-        edges-among (λ x. related I r x x) (map (canonId env) (r ∷ l)) (map (canonId env) (r ∷ l)) u u
+    equivalent_edges : (l : List Role) → satisfied I p (EquivalentObjectProperties l) ≡ true → Each Edge (edges_among env (map (canon_id env) l) (map (canon_id env) l))
+    unfolding edges_among later_pairs same_self
+    equivalent_edges [] h = tt
+    equivalent_edges (r ∷ l) h =
+        let u : Each (Alike (λ x. related I r x x)) (map (canon_id env) (r ∷ l)) =
+        (mapped_self r, alike_after r l (later_pairs l) (λ x k. every_pair_lem I (λ x y. all (λ q. same_truth (related I q.0 x y) (related I q.1 x y)) (later_pairs (r ∷ l))) h x x k k)) in
+        edges_among_lem (λ x. related I r x x) (map (canon_id env) (r ∷ l)) (map (canon_id env) (r ∷ l)) u u
 
-    axiom-edges : (a : Axiom) → satisfied I p a ≡ true → Each Edge (roleEdges env a)
-    axiom-edges (SubClassOf _ _) h = tt
-    axiom-edges (EquivalentClasses _) h = tt
-    axiom-edges (DisjointClasses _) h = tt
-    axiom-edges (DisjointUnion _ _) h = tt
-    axiom-edges (ObjectPropertyDomain _ _) h = tt
-    axiom-edges (ObjectPropertyRange _ _) h = tt
-    axiom-edges (SubChain _ _) h = tt
-    axiom-edges (TransitiveRole _) h = tt
-    axiom-edges (IrreflexiveRole _) h = tt
-    axiom-edges (AsymmetricRole _) h = tt
-    axiom-edges (DisjointObjectProperties _) h = tt
-    axiom-edges (InverseObjectProperties _ _) h = tt
-    axiom-edges (SubObjectPropertyOf r s) h = (
-      (λ e x k. mapped-self s x k
-          ∙ implies-elim (related I r x x) (related I s x x) (every-pair I (λ x y. implies (related I r x y) (related I s x y)) h x x k k) (sym (mapped-self r x k) ∙ e x k)),
+    axiom_edges_lem : (a : Axiom) → satisfied I p a ≡ true → Each Edge (role_edges env a)
+    axiom_edges_lem (SubClassOf _ _) h = tt
+    axiom_edges_lem (EquivalentClasses _) h = tt
+    axiom_edges_lem (DisjointClasses _) h = tt
+    axiom_edges_lem (DisjointUnion _ _) h = tt
+    axiom_edges_lem (ObjectPropertyDomain _ _) h = tt
+    axiom_edges_lem (ObjectPropertyRange _ _) h = tt
+    axiom_edges_lem (SubChain _ _) h = tt
+    axiom_edges_lem (TransitiveRole _) h = tt
+    axiom_edges_lem (IrreflexiveRole _) h = tt
+    axiom_edges_lem (AsymmetricRole _) h = tt
+    axiom_edges_lem (DisjointObjectProperties _) h = tt
+    axiom_edges_lem (InverseObjectProperties _ _) h = tt
+    axiom_edges_lem (SubObjectPropertyOf r s) h = (
+      (λ e x k. mapped_self s x k
+          ∙ implies_elim (related I r x x) (related I s x x) (every_pair_lem I (λ x y. implies (related I r x y) (related I s x y)) h x x k k) (sym (mapped_self r x k) ∙ e x k)),
       tt,
     )
-    axiom-edges (EquivalentObjectProperties l) h = equivalent-edges l h
-    axiom-edges (ReflexiveRole _) h = tt
-    axiom-edges (ClassAssertion _ _) h = tt
+    axiom_edges_lem (EquivalentObjectProperties l) h = equivalent_edges l h
+    axiom_edges_lem (ReflexiveRole _) h = tt
+    axiom_edges_lem (ClassAssertion _ _) h = tt
 
-    all-edges : (axioms : List Axiom) → Each (λ a. satisfied I p a ≡ true) axioms → Each Edge (allEdges env axioms)
-    unfolding allEdges
-    all-edges [] h = tt
-    all-edges (a ∷ l) h = each-append Edge (roleEdges env a) (allEdges env l) (axiom-edges a h.0) (all-edges l h.1)
+    all_edges_lem : (axioms : List Axiom) → Each (λ a. satisfied I p a ≡ true) axioms → Each Edge (all_edges env axioms)
+    unfolding all_edges
+    all_edges_lem [] h = tt
+    all_edges_lem (a ∷ l) h = each_append Edge (role_edges env a) (all_edges env l) (axiom_edges_lem a h.0) (all_edges_lem l h.1)
 
-    pub set-reflexive : (axioms : List Axiom) → all (satisfied I p) axioms ≡ true → Each Reflexive (reflexiveRoleIds env axioms)
-    unfolding reflexiveRoleIds
-    set-reflexive axioms h =
-        let u = all-each (satisfied I p) axioms h in
-        closed-reflexive (suc (length (allEdges env axioms))) (allEdges env axioms) (reflexiveFrom env [] axioms) (all-edges axioms u) (from-reflexive [] axioms tt u)
+    pub set_reflexive : (axioms : List Axiom) → all (satisfied I p) axioms ≡ true → Each Reflexive (reflexive_role_ids env axioms)
+    unfolding reflexive_role_ids
+    set_reflexive axioms h =
+        let u = all_each (satisfied I p) axioms h in
+        closed_reflexive (suc (length (all_edges env axioms))) (all_edges env axioms) (reflexive_from env [] axioms) (all_edges_lem axioms u) (from_reflexive [] axioms tt u)
 
-    pub ids-reflexive : (axioms : List Axiom) → all (satisfied I p) axioms ≡ true → (i : ℕ) → contains (reflexiveRoleIds env axioms) i ≡ true → Reflexive i
-    ids-reflexive axioms h i = each-contains Reflexive (reflexiveRoleIds env axioms) i (set-reflexive axioms h)
+    pub ids_reflexive : (axioms : List Axiom) → all (satisfied I p) axioms ≡ true → (i : ℕ) → contains (reflexive_role_ids env axioms) i ≡ true → Reflexive i
+    ids_reflexive axioms h i = each_contains Reflexive (reflexive_role_ids env axioms) i (set_reflexive axioms h)
 
   -- with the map that the same axioms make
-  pub own-reflexive : (env : Env) (p : Pool) (axioms : List Axiom) → env.inverseCanon ≡ buildInverseCanon axioms → all (satisfied I p) axioms ≡ true
-      → Each Reflexive (reflexiveRoleIds env axioms)
-  own-reflexive env p axioms e h = set-reflexive env (env-keeps I env p axioms e (all-some isInverseAxiom (satisfied I p) axioms h)) p axioms h
+  pub own_reflexive : (env : Env) (p : Pool) (axioms : List Axiom) → env.inverse_canon ≡ build_inverse_canon axioms → all (satisfied I p) axioms ≡ true
+      → Each Reflexive (reflexive_role_ids env axioms)
+  own_reflexive env p axioms e h = set_reflexive env (env_keeps I env p axioms e (all_some is_inverse_axiom (satisfied I p) axioms h)) p axioms h

@@ -10,14 +10,14 @@ use Rattle.ir.specs.Pick.{pick}
 use Rattle.ir.specs.declared.atom.Atom.{Atom}
 use Rattle.ir.specs.declared.atom.Atom.TheVariants.{Class, Exists, AtMost, AtLeast, Equal, Role as RoleAtom}
 use Rattle.rules.specs.Base.{all, contains}
-use Rattle.rules.specs.Reflexive.{atomsVars}
-use Rattle.rules.specs.Branches.{placeIn, placeOf, metWith, renumberFrom, renumber}
+use Rattle.rules.specs.Reflexive.{atoms_vars}
+use Rattle.rules.specs.Branches.{place_in, place_of, met_with, renumber_from, renumber}
 use Rattle.rules.specs.Invariants.{Each}
-use Rattle.rules.specs.Semantics.{Interpretation, related, atomHolds}
-use Rattle.meaning.specs.Truth.{by-truth}
+use Rattle.rules.specs.Semantics.{Interpretation, related, atom_holds}
+use Rattle.meaning.specs.Truth.{by_truth}
 use Rattle.meaning.specs.Choices.{Choice}
 use Rattle.meaning.specs.Valuations.{AtomUnder}
-use Rattle.meaning.specs.Matching.{contains-here, contains-left, contains-right, contains-both, all-alike}
+use Rattle.meaning.specs.Matching.{contains_here, contains_left, contains_right, contains_both, all_alike}
 
 -- class and role atoms: those that a branch is made of
 abbrev pub IsTree : Atom → Type 0
@@ -29,142 +29,142 @@ IsTree (AtLeast _ _ _ _) = ⊥
 IsTree (Equal _ _) = ⊥
 
 -- ---- places
-place-joined : (met more : List ℕ) (v : ℕ) → contains met v ≡ true → placeOf (met ++ more) v ≡ placeOf met v
-unfolding placeOf
-place-joined [] more v h = absurd (false≢true h)
-place-joined (u ∷ met) more v h =
-    by-truth (eqb u v) (λ e. rw e) (λ e. ap (placeIn (eqb u v)) (place-joined met more v (rw (ne_eqb v u (λ q. eqb-false u v e (sym q))) at h)))
+place_joined : (met more : List ℕ) (v : ℕ) → contains met v ≡ true → place_of (met ++ more) v ≡ place_of met v
+unfolding place_of
+place_joined [] more v h = absurd (false≢true h)
+place_joined (u ∷ met) more v h =
+    by_truth (eqb u v) (λ e. rw e) (λ e. ap (place_in (eqb u v)) (place_joined met more v (rw (ne_eqb v u (λ q. eqb-false u v e (sym q))) at h)))
 
-place-last : (met : List ℕ) (v : ℕ) → placeOf (met ++ (v ∷ [])) v ≡ placeOf met v
-unfolding placeOf
-place-last [] v = rw (eq-eqb v v refl)
-place-last (u ∷ met) v = ap (placeIn (eqb u v)) (place-last met v)
+place_last : (met : List ℕ) (v : ℕ) → place_of (met ++ (v ∷ [])) v ≡ place_of met v
+unfolding place_of
+place_last [] v = rw (eq-eqb v v refl)
+place_last (u ∷ met) v = ap (place_in (eqb u v)) (place_last met v)
 
-place-with : (met : List ℕ) (v : ℕ) → placeOf (metWith met v) v ≡ placeOf met v
-place-with met v = go (contains met v)
+place_with : (met : List ℕ) (v : ℕ) → place_of (met_with met v) v ≡ place_of met v
+place_with met v = go (contains met v)
   where
-    go : (b : Bool) → placeOf (pick b met (met ++ (v ∷ []))) v ≡ placeOf met v
+    go : (b : Bool) → place_of (pick b met (met ++ (v ∷ []))) v ≡ place_of met v
     go true = refl
-    go false = place-last met v
+    go false = place_last met v
 
-at-place : (met : List ℕ) (v d : ℕ) → contains met v ≡ true → get_or met (placeOf met v) d ≡ v
-unfolding placeOf
-at-place [] v d h = absurd (false≢true h)
-at-place (u ∷ met) v d h =
-    by-truth (eqb u v) (λ e. rw e (eqb-true u v e)) (λ e. rw e (at-place met v d (rw (ne_eqb v u (λ q. eqb-false u v e (sym q))) at h)))
+at_place : (met : List ℕ) (v d : ℕ) → contains met v ≡ true → get_or met (place_of met v) d ≡ v
+unfolding place_of
+at_place [] v d h = absurd (false≢true h)
+at_place (u ∷ met) v d h =
+    by_truth (eqb u v) (λ e. rw e (eqb-true u v e)) (λ e. rw e (at_place met v d (rw (ne_eqb v u (λ q. eqb-false u v e (sym q))) at h)))
 
 -- ---- a list of variables met, and a later one: what is met keeps its place
 record Later (met late : List ℕ) : Type 0 where
   has : (v : ℕ) → contains met v ≡ true → contains late v ≡ true
-  place : (v : ℕ) → contains met v ≡ true → placeOf late v ≡ placeOf met v
+  place : (v : ℕ) → contains met v ≡ true → place_of late v ≡ place_of met v
 
-later-trans : {a b c : List ℕ} → Later a b → Later b c → Later a c
-later-trans p q = record { has = λ v h. q.has v (p.has v h); place = λ v h. q.place v (p.has v h) ∙ p.place v h }
+later_trans : {a b c : List ℕ} → Later a b → Later b c → Later a c
+later_trans p q = record { has = λ v h. q.has v (p.has v h); place = λ v h. q.place v (p.has v h) ∙ p.place v h }
 
-later-with : (met : List ℕ) (u : ℕ) → Later met (metWith met u)
-later-with met u = go (contains met u)
+later_with : (met : List ℕ) (u : ℕ) → Later met (met_with met u)
+later_with met u = go (contains met u)
   where
     go : (b : Bool) → Later met (pick b met (met ++ (u ∷ [])))
     go true = record { has = λ v h. h; place = λ v h. refl }
-    go false = record { has = λ v h. contains-left v met (u ∷ []) h; place = λ v h. place-joined met (u ∷ []) v h }
+    go false = record { has = λ v h. contains_left v met (u ∷ []) h; place = λ v h. place_joined met (u ∷ []) v h }
 
-with-has : (met : List ℕ) (u : ℕ) → contains (metWith met u) u ≡ true
-with-has met u = by-truth (contains met u) (λ e. rw e e) (λ e. rw e (contains-right u met (u ∷ []) (contains-here u [])))
+with_has : (met : List ℕ) (u : ℕ) → contains (met_with met u) u ≡ true
+with_has met u = by_truth (contains met u) (λ e. rw e e) (λ e. rw e (contains_right u met (u ∷ []) (contains_here u [])))
 
 -- the variables met when the atoms are done
-unfoldable metAfter : List ℕ → List Atom → List ℕ
-metAfter met [] = met
-metAfter met (Class k v ∷ l) = metAfter (metWith met v) l
-metAfter met (RoleAtom r u v ∷ l) = metAfter (metWith (metWith met u) v) l
-metAfter met (Exists r k v ∷ l) = metAfter met l
-metAfter met (AtMost r q n v ∷ l) = metAfter met l
-metAfter met (AtLeast r q n v ∷ l) = metAfter met l
-metAfter met (Equal u v ∷ l) = metAfter met l
+unfoldable met_after : List ℕ → List Atom → List ℕ
+met_after met [] = met
+met_after met (Class k v ∷ l) = met_after (met_with met v) l
+met_after met (RoleAtom r u v ∷ l) = met_after (met_with (met_with met u) v) l
+met_after met (Exists r k v ∷ l) = met_after met l
+met_after met (AtMost r q n v ∷ l) = met_after met l
+met_after met (AtLeast r q n v ∷ l) = met_after met l
+met_after met (Equal u v ∷ l) = met_after met l
 
-after-later : (met : List ℕ) (l : List Atom) → Later met (metAfter met l)
-unfolding metAfter
-after-later met [] = record { has = λ v h. h; place = λ v h. refl }
-after-later met (Class k v ∷ l) = later-trans (later-with met v) (after-later (metWith met v) l)
-after-later met (RoleAtom r u v ∷ l) = later-trans (later-with met u) (later-trans (later-with (metWith met u) v) (after-later (metWith (metWith met u) v) l))
-after-later met (Exists r k v ∷ l) = after-later met l
-after-later met (AtMost r q n v ∷ l) = after-later met l
-after-later met (AtLeast r q n v ∷ l) = after-later met l
-after-later met (Equal u v ∷ l) = after-later met l
+after_later : (met : List ℕ) (l : List Atom) → Later met (met_after met l)
+unfolding met_after
+after_later met [] = record { has = λ v h. h; place = λ v h. refl }
+after_later met (Class k v ∷ l) = later_trans (later_with met v) (after_later (met_with met v) l)
+after_later met (RoleAtom r u v ∷ l) = later_trans (later_with met u) (later_trans (later_with (met_with met u) v) (after_later (met_with (met_with met u) v) l))
+after_later met (Exists r k v ∷ l) = after_later met l
+after_later met (AtMost r q n v ∷ l) = after_later met l
+after_later met (AtLeast r q n v ∷ l) = after_later met l
+after_later met (Equal u v ∷ l) = after_later met l
 
 -- a variable's place when it is met, and at the end
-met-place : (met late : List ℕ) (v : ℕ) → Later (metWith met v) late → placeOf met v ≡ placeOf late v
-met-place met late v a = sym (a.place v (with-has met v) ∙ place-with met v)
+met_place : (met late : List ℕ) (v : ℕ) → Later (met_with met v) late → place_of met v ≡ place_of late v
+met_place met late v a = sym (a.place v (with_has met v) ∙ place_with met v)
 
 -- every variable is met
-after-has : (met : List ℕ) (l : List Atom) → Each IsTree l → (v : ℕ) → contains (atomsVars l) v ≡ true → contains (metAfter met l) v ≡ true
-unfolding metAfter atomsVars
-after-has met [] t v h = absurd (false≢true h)
-after-has met (Class k u ∷ l) t v h =
-    contains-both v (u ∷ []) (atomsVars l) (λ c. (after-later (metWith met u) l).has v (met-one c)) (λ c. after-has (metWith met u) l t.1 v c) h
+after_has : (met : List ℕ) (l : List Atom) → Each IsTree l → (v : ℕ) → contains (atoms_vars l) v ≡ true → contains (met_after met l) v ≡ true
+unfolding met_after atoms_vars
+after_has met [] t v h = absurd (false≢true h)
+after_has met (Class k u ∷ l) t v h =
+    contains_both v (u ∷ []) (atoms_vars l) (λ c. (after_later (met_with met u) l).has v (met_one c)) (λ c. after_has (met_with met u) l t.1 v c) h
   where
-    met-one : contains (u ∷ []) v ≡ true → contains (metWith met u) v ≡ true
-    met-one c = by-truth (eqb v u) (λ e. rw (eqb-true v u e) (with-has met u)) (λ e. absurd (false≢true (rw e at c)))
-after-has met (RoleAtom r u w ∷ l) t v h =
-    contains-both v (u ∷ w ∷ []) (atomsVars l) (λ c. (after-later (metWith (metWith met u) w) l).has v (met-two c)) (λ c. after-has (metWith (metWith met u) w) l t.1 v c) h
+    met_one : contains (u ∷ []) v ≡ true → contains (met_with met u) v ≡ true
+    met_one c = by_truth (eqb v u) (λ e. rw (eqb-true v u e) (with_has met u)) (λ e. absurd (false≢true (rw e at c)))
+after_has met (RoleAtom r u w ∷ l) t v h =
+    contains_both v (u ∷ w ∷ []) (atoms_vars l) (λ c. (after_later (met_with (met_with met u) w) l).has v (met_two c)) (λ c. after_has (met_with (met_with met u) w) l t.1 v c) h
   where
-    met-two : contains (u ∷ w ∷ []) v ≡ true → contains (metWith (metWith met u) w) v ≡ true
-    met-two c =
-        by-truth (eqb v u) (λ e. (later-with (metWith met u) w).has v (rw (eqb-true v u e) (with-has met u)))
-        (λ e. by-truth (eqb v w) (λ d. rw (eqb-true v w d) (with-has (metWith met u) w)) (λ d. absurd (false≢true (rw (e, d) at c))))
-after-has met (Exists r k u ∷ l) t v h = absurd t.0
-after-has met (AtMost r q n u ∷ l) t v h = absurd t.0
-after-has met (AtLeast r q n u ∷ l) t v h = absurd t.0
-after-has met (Equal u w ∷ l) t v h = absurd t.0
+    met_two : contains (u ∷ w ∷ []) v ≡ true → contains (met_with (met_with met u) w) v ≡ true
+    met_two c =
+        by_truth (eqb v u) (λ e. (later_with (met_with met u) w).has v (rw (eqb-true v u e) (with_has met u)))
+        (λ e. by_truth (eqb v w) (λ d. rw (eqb-true v w d) (with_has (met_with met u) w)) (λ d. absurd (false≢true (rw (e, d) at c))))
+after_has met (Exists r k u ∷ l) t v h = absurd t.0
+after_has met (AtMost r q n u ∷ l) t v h = absurd t.0
+after_has met (AtLeast r q n u ∷ l) t v h = absurd t.0
+after_has met (Equal u w ∷ l) t v h = absurd t.0
 
 -- ---- a choice for the renumbered body, read through the places
 module _ (I : Interpretation) where
-  renumbered-holds : (g : ℕ → ℕ) (met : List ℕ) (l : List Atom) → Each IsTree l
-      → all (atomHolds I g) (renumberFrom met l) ≡ all (atomHolds I (λ v. g (placeOf (metAfter met l) v))) l
-  unfolding renumberFrom metAfter
-  renumbered-holds g met [] t = refl
-  renumbered-holds g met (Class k v ∷ l) t =
-      ap₂ ◌&&◌ (ap (λ z. I.class k (g z)) (met-place met (metAfter (metWith met v) l) v (after-later (metWith met v) l))) (renumbered-holds g (metWith met v) l t.1)
-  renumbered-holds g met (RoleAtom r u v ∷ l) t =
-      let late : Later (metWith (metWith met u) v) (metAfter (metWith (metWith met u) v) l) = after-later (metWith (metWith met u) v) l in
-      ap₂ ◌&&◌ (ap₂ (λ y z. related I r (g y) (g z)) (met-place met (metAfter (metWith (metWith met u) v) l) u (later-trans (later-with (metWith met u) v) late))
-      (met-place (metWith met u) (metAfter (metWith (metWith met u) v) l) v late)) (renumbered-holds g (metWith (metWith met u) v) l t.1)
-  renumbered-holds g met (Exists r k v ∷ l) t = absurd t.0
-  renumbered-holds g met (AtMost r q n v ∷ l) t = absurd t.0
-  renumbered-holds g met (AtLeast r q n v ∷ l) t = absurd t.0
-  renumbered-holds g met (Equal u v ∷ l) t = absurd t.0
+  renumbered_holds : (g : ℕ → ℕ) (met : List ℕ) (l : List Atom) → Each IsTree l
+      → all (atom_holds I g) (renumber_from met l) ≡ all (atom_holds I (λ v. g (place_of (met_after met l) v))) l
+  unfolding renumber_from met_after
+  renumbered_holds g met [] t = refl
+  renumbered_holds g met (Class k v ∷ l) t =
+      ap₂ ◌&&◌ (ap (λ z. I.class k (g z)) (met_place met (met_after (met_with met v) l) v (after_later (met_with met v) l))) (renumbered_holds g (met_with met v) l t.1)
+  renumbered_holds g met (RoleAtom r u v ∷ l) t =
+      let late : Later (met_with (met_with met u) v) (met_after (met_with (met_with met u) v) l) = after_later (met_with (met_with met u) v) l in
+      ap₂ ◌&&◌ (ap₂ (λ y z. related I r (g y) (g z)) (met_place met (met_after (met_with (met_with met u) v) l) u (later_trans (later_with (met_with met u) v) late))
+      (met_place (met_with met u) (met_after (met_with (met_with met u) v) l) v late)) (renumbered_holds g (met_with (met_with met u) v) l t.1)
+  renumbered_holds g met (Exists r k v ∷ l) t = absurd t.0
+  renumbered_holds g met (AtMost r q n v ∷ l) t = absurd t.0
+  renumbered_holds g met (AtLeast r q n v ∷ l) t = absurd t.0
+  renumbered_holds g met (Equal u v ∷ l) t = absurd t.0
 
   module _ (l : List Atom) (root : ℕ) (t : Each IsTree l) where
-    met-all : List ℕ
-    met-all = metAfter (root ∷ []) l
+    met_all : List ℕ
+    met_all = met_after (root ∷ []) l
 
-    root-place : placeOf met-all root ≡ 0
-    unfolding met-all placeOf
-    root-place = (after-later (root ∷ []) l).place root (contains-here root []) ∙ rw (eq-eqb root root refl)
+    root_place : place_of met_all root ≡ 0
+    unfolding met_all place_of
+    root_place = (after_later (root ∷ []) l).place root (contains_here root []) ∙ rw (eq-eqb root root refl)
 
     -- where the body holds, the renumbered one does, with X for the root
-    pub renumber-says : (f : ℕ → ℕ) → Choice I f → all (atomHolds I f) l ≡ true → (g : ℕ → ℕ) × Choice I g × (g 0 ≡ f root) × (all (atomHolds I g) (renumber l root) ≡ true)
-    unfolding met-all
-    renumber-says f c h = (
-      λ n. f (get_or met-all n root),
-      λ n. c (get_or met-all n root),
-      ap (λ z. f (get_or met-all z root)) (sym root-place) ∙ ap f (at-place met-all root root ((after-later (root ∷ []) l).has root (contains-here root []))),
-      renumbered-holds (λ n. f (get_or met-all n root)) (root ∷ []) l t
-          ∙ all-alike I (λ v. f (get_or met-all (placeOf met-all v) root)) f l (λ v e. ap f (at-place met-all v root (after-has (root ∷ []) l t v e)))
+    pub renumber_says : (f : ℕ → ℕ) → Choice I f → all (atom_holds I f) l ≡ true → (g : ℕ → ℕ) × Choice I g × (g 0 ≡ f root) × (all (atom_holds I g) (renumber l root) ≡ true)
+    unfolding met_all
+    renumber_says f c h = (
+      λ n. f (get_or met_all n root),
+      λ n. c (get_or met_all n root),
+      ap (λ z. f (get_or met_all z root)) (sym root_place) ∙ ap f (at_place met_all root root ((after_later (root ∷ []) l).has root (contains_here root []))),
+      renumbered_holds (λ n. f (get_or met_all n root)) (root ∷ []) l t
+          ∙ all_alike I (λ v. f (get_or met_all (place_of met_all v) root)) f l (λ v e. ap f (at_place met_all v root (after_has (root ∷ []) l t v e)))
           ∙ h,
     )
 
     -- and the other way
-    pub renumber-gets : (g : ℕ → ℕ) → Choice I g → all (atomHolds I g) (renumber l root) ≡ true → (f : ℕ → ℕ) × Choice I f × (f root ≡ g 0) × (all (atomHolds I f) l ≡ true)
-    unfolding met-all
-    renumber-gets g c h = (λ v. g (placeOf met-all v), λ v. c (placeOf met-all v), ap g root-place, sym (renumbered-holds g (root ∷ []) l t) ∙ h)
+    pub renumber_gets : (g : ℕ → ℕ) → Choice I g → all (atom_holds I g) (renumber l root) ≡ true → (f : ℕ → ℕ) × Choice I f × (f root ≡ g 0) × (all (atom_holds I f) l ≡ true)
+    unfolding met_all
+    renumber_gets g c h = (λ v. g (place_of met_all v), λ v. c (place_of met_all v), ap g root_place, sym (renumbered_holds g (root ∷ []) l t) ∙ h)
 
 -- ---- renumbering keeps the classes
-pub renumber-under : (n : ℕ) (met : List ℕ) (l : List Atom) → Each (AtomUnder n) l → Each (AtomUnder n) (renumberFrom met l)
-unfolding renumberFrom
-renumber-under n met [] u = tt
-renumber-under n met (Class k v ∷ l) u = (u.0, renumber-under n (metWith met v) l u.1)
-renumber-under n met (RoleAtom r x v ∷ l) u = (tt, renumber-under n (metWith (metWith met x) v) l u.1)
-renumber-under n met (Exists r k v ∷ l) u = (u.0, renumber-under n met l u.1)
-renumber-under n met (AtMost r q m v ∷ l) u = (u.0, renumber-under n met l u.1)
-renumber-under n met (AtLeast r q m v ∷ l) u = (u.0, renumber-under n met l u.1)
-renumber-under n met (Equal x v ∷ l) u = (tt, renumber-under n met l u.1)
+pub renumber_under : (n : ℕ) (met : List ℕ) (l : List Atom) → Each (AtomUnder n) l → Each (AtomUnder n) (renumber_from met l)
+unfolding renumber_from
+renumber_under n met [] u = tt
+renumber_under n met (Class k v ∷ l) u = (u.0, renumber_under n (met_with met v) l u.1)
+renumber_under n met (RoleAtom r x v ∷ l) u = (tt, renumber_under n (met_with (met_with met x) v) l u.1)
+renumber_under n met (Exists r k v ∷ l) u = (u.0, renumber_under n met l u.1)
+renumber_under n met (AtMost r q m v ∷ l) u = (u.0, renumber_under n met l u.1)
+renumber_under n met (AtLeast r q m v ∷ l) u = (u.0, renumber_under n met l u.1)
+renumber_under n met (Equal x v ∷ l) u = (tt, renumber_under n met l u.1)

@@ -5,9 +5,9 @@ use Rattle.ir.specs.declared.atom.Atom.{Atom}
 use Rattle.rules.specs.Base.{Res, ok, refused}
 use Rattle.rules.specs.Branches as Rules
 use Rattle.rules.specs.Invariants.{Each}
-use Rattle.branches.specs.Layout.{mostNamed, namedEnd, bodyAt, copyAt, keepAt, renumberedAt}
+use Rattle.branches.specs.Layout.{most_named, named_end, body_at, copy_at, keep_at, renumbered_at}
 use Rattle.branches.specs.Wide.{AtomsAre}
-use Rattle.branches.specs.Memo.{Tame, namedWords, NamedHeld}
+use Rattle.branches.specs.Memo.{Tame, named_words, NamedHeld}
 use Rattle.branches.specs.declared.memo.Naming.{Naming}
 use Rattle.naming.specs.declared.name.Reduced.{Reduced}
 use Rattle.naming.specs.declared.name.Reduced.TheVariants as Reduceds
@@ -31,11 +31,11 @@ ReducedBy w base count l kept s (ok (some b) z) (Reduceds.To m n) = To w base co
 ReducedBy w base count l kept s (ok (some b) z) Reduceds.None = ⊥
 ReducedBy w base count l kept s (ok none z) (Reduceds.To m n) = ⊥
 ReducedBy w base count l kept s (ok none z) Reduceds.None = Not w base count l kept z s
-ReducedBy w base count l kept s (ok o z) (Reduceds.Refused x) = (x ≡ 12) × (mostNamed < length (namedWords z.named))
+ReducedBy w base count l kept s (ok o z) (Reduceds.Refused x) = (x ≡ 12) × (most_named < length (named_words z.named))
 ReducedBy w base count l kept s (refused k) r = ⊥
 
 -- the atoms beside these, and the variables to keep, are as they were
 pub record OnlyNames (base count : ℕ) (w w' : List ℕ) : Type 0 where
-  pub before : (j : ℕ) → namedEnd ≤ j → j < 6 * base → get_or w' j 0 ≡ get_or w j 0
-  pub between : (j : ℕ) → 6 * (base + count) ≤ j → j < 6 * copyAt → get_or w' j 0 ≡ get_or w j 0
-  pub keep : (j : ℕ) → keepAt ≤ j → j < renumberedAt → get_or w' j 0 ≡ get_or w j 0
+  pub before : (j : ℕ) → named_end ≤ j → j < 6 * base → get_or w' j 0 ≡ get_or w j 0
+  pub between : (j : ℕ) → 6 * (base + count) ≤ j → j < 6 * copy_at → get_or w' j 0 ≡ get_or w j 0
+  pub keep : (j : ℕ) → keep_at ≤ j → j < renumbered_at → get_or w' j 0 ≡ get_or w j 0

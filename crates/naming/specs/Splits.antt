@@ -4,15 +4,15 @@ use Rattle.std.proofs.Math.Option.{Option}
 use Rattle.ir.specs.declared.atom.Atom.{Atom}
 use Rattle.ir.specs.declared.atom.Atom.TheVariants.{Class}
 use Rattle.rules.specs.Base.{Res, ok, refused, ◌>>=◌, return}
-use Rattle.rules.specs.Branches.{Groups, W, maxBodyVars, bodyVarCountFrom, splitGroup, nameGroup, nameGroups, nameBy}
+use Rattle.rules.specs.Branches.{Groups, W, max_body_vars, body_var_count_from, split_group, name_group, name_groups, name_by}
 use Rattle.rules.specs.Branches as Rules
 use Rattle.rules.specs.Run.{flat}
 use Rattle.rules.specs.Invariants.{Each}
 use Rattle.tables.specs.TabledLaws.{At}
-use Rattle.branches.specs.Layout.{mostNamed, bodyAt, copyAt}
-use Rattle.branches.specs.Memo.{Tame, namedWords, NamedHeld}
-use Rattle.branches.specs.Edges.{edgesOf, innerOf}
-use Rattle.branches.specs.Grouped.{Arranged, allOf}
+use Rattle.branches.specs.Layout.{most_named, body_at, copy_at}
+use Rattle.branches.specs.Memo.{Tame, named_words, NamedHeld}
+use Rattle.branches.specs.Edges.{edges_of, inner_of}
+use Rattle.branches.specs.Grouped.{Arranged, all_of}
 use Rattle.naming.specs.Names.{To}
 use Rattle.branches.specs.declared.memo.Naming.{Naming}
 use Rattle.branches.specs.declared.memo.Name.{Name}
@@ -24,11 +24,11 @@ use Rattle.naming.specs.declared.name.Turned.TheVariants as Turneds
 
 -- no room for the branches of the rule's state
 abbrev pub Full : ℕ → Rules.Naming → Type 0
-Full x z = (x ≡ 12) × (mostNamed < length (namedWords z.named))
+Full x z = (x ≡ 12) × (most_named < length (named_words z.named))
 
 -- ---- a child split one level down
-unfoldable pub splitRule : ℕ → List Atom → ℕ → ℕ → W (List Atom)
-splitRule f l root t = splitGroup (λ a b c. nameBy f a b c) l (edgesOf root t l) (innerOf root t l) root t (ltb maxBodyVars (bodyVarCountFrom l root))
+unfoldable pub split_rule : ℕ → List Atom → ℕ → ℕ → W (List Atom)
+split_rule f l root t = split_group (λ a b c. name_by f a b c) l (edges_of root t l) (inner_of root t l) root t (ltb max_body_vars (body_var_count_from l root))
 
 abbrev pub SplitBy : (w : List ℕ) → (base count : ℕ) → Naming → Res Rules.Naming (List Atom) → Reduced → Type 0
 SplitBy w base count s (ok b z) (Reduceds.To m n) = To w base count b z s m n
@@ -37,8 +37,8 @@ SplitBy w base count s (ok b z) (Reduceds.Refused x) = Full x z
 SplitBy w base count s (refused k) r = ⊥
 
 -- ---- a child's name
-unfoldable pub groupRule : ℕ → List Atom → ℕ → ℕ → W Atom
-groupRule f l root t = nameGroup (λ a b c. nameBy f a b c) root t l
+unfoldable pub group_rule : ℕ → List Atom → ℕ → ℕ → W Atom
+group_rule f l root t = name_group (λ a b c. name_by f a b c) root t l
 
 pub record Called (w : List ℕ) (root : ℕ) (s : Naming) (a : Atom) (z : Rules.Naming) (m : Naming) (e : ℕ) : Type 0 where
   pub is : a ≡ Class e root
@@ -52,9 +52,9 @@ CalledBy w root s (ok a z) (Names.Refused x) = Full x z
 CalledBy w root s (refused k) r = ⊥
 
 -- ---- one child: the atoms that it becomes, and whether one is named then
-abbrev pub childOf : ℕ → ℕ → ℕ → List Atom → Bool → Bool → W (List Atom × Bool)
-childOf f root t group any true = return (group, any)
-childOf f root t group any false = groupRule f group root t >>= (λ a. return (a ∷ [], true))
+abbrev pub child_of : ℕ → ℕ → ℕ → List Atom → Bool → Bool → W (List Atom × Bool)
+child_of f root t group any true = return (group, any)
+child_of f root t group any false = group_rule f group root t >>= (λ a. return (a ∷ [], true))
 
 -- before a child of c atoms: the result stands from record base to q, the child's atoms from p on, then the others'
 pub record Standing (w : List ℕ) (base count q p c : ℕ) (result group rest : List Atom) (s : Naming) (z : Rules.Naming) : Type 0 where
@@ -63,15 +63,15 @@ pub record Standing (w : List ℕ) (base count q p c : ℕ) (result group rest :
   pub filled : 1 ≤ c
   pub below : q ≤ p
   pub all : p + c + length rest ≡ base + count
-  pub low : bodyAt ≤ base
-  pub high : base + count ≤ copyAt
+  pub low : body_at ≤ base
+  pub high : base + count ≤ copy_at
   pub few : count ≤ 256
   pub done : At w (6 * base) (flat result)
   pub child : At w (6 * p) (flat group)
   pub left : At w (6 * (p + c)) (flat rest)
-  pub tameDone : Each Tame result
-  pub tameChild : Each Tame group
-  pub tameLeft : Each Tame rest
+  pub tame_done : Each Tame result
+  pub tame_child : Each Tame group
+  pub tame_left : Each Tame rest
   pub held : NamedHeld w s z
   pub first : s.first ≤ 1100000
 
@@ -102,8 +102,8 @@ TurnedBy w base q p result rest s (ok o z) (Turneds.Refused x) = Full x z
 TurnedBy w base q p result rest s (refused k) r = ⊥
 
 -- ---- the children
-unfoldable pub groupsRule : ℕ → ℕ → List ℕ → Groups → W (Option (List Atom))
-groupsRule f root kept g = nameGroups (λ a b c. nameBy f a b c) root kept g.groups g.rootAtoms false
+unfoldable pub groups_rule : ℕ → ℕ → List ℕ → Groups → W (Option (List Atom))
+groups_rule f root kept g = name_groups (λ a b c. name_by f a b c) root kept g.groups g.root_atoms false
 
 -- each has an atom
 abbrev pub Filled : List (ℕ × List Atom) → Type 0
@@ -111,7 +111,7 @@ Filled l = Each (λ (g : ℕ × List Atom). 1 ≤ length g.1) l
 
 pub record Laid (w tops counts : List ℕ) (base count : ℕ) (g : Groups) (r : ℕ) : Type 0 where
   pub arranged : Arranged w tops counts base count g r
-  pub tame : Each Tame (g.rootAtoms ++ allOf g.groups)
+  pub tame : Each Tame (g.root_atoms ++ all_of g.groups)
   pub filled : Filled g.groups
 
 pub record LaidThere (w tops counts : List ℕ) (base count r : ℕ) : Type 0 where

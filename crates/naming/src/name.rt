@@ -2,15 +2,15 @@
 ghost use Rattle.std.specs.Prelude.{List, ◌++◌, ℕ, ◌+◌, ◌*◌, ◌<◌, ◌≤◌, length};
 ghost use Rattle.words.specs.Words.{words};
 ghost use Rattle.ir.specs.declared.atom.Atom.{Atom};
-ghost use Rattle.rules.specs.Branches.{Groups, nameBy, mentions};
+ghost use Rattle.rules.specs.Branches.{Groups, name_by, mentions};
 ghost use Rattle.rules.specs.Branches as Rules;
-ghost use Rattle.branches.specs.Layout.{bodyAt, copyAt, workWords};
+ghost use Rattle.branches.specs.Layout.{body_at, copy_at, work_words};
 ghost use Rattle.branches.specs.Wide.{AtomsAre};
 ghost use Rattle.branches.specs.Memo.{TameThere, NamedHeld, NamedThere};
 ghost use Rattle.branches.specs.Edges.{KeepIs};
-ghost use Rattle.branches.specs.Grouped.{allOf};
+ghost use Rattle.branches.specs.Grouped.{all_of};
 ghost use Rattle.naming.specs.Names.{ReducedBy, OnlyNames};
-ghost use Rattle.naming.specs.Splits.{SplitBy, CalledBy, TurnedBy, Standing, StandingThere, Laid, LaidThere, splitRule, groupRule, groupsRule, childOf};
+ghost use Rattle.naming.specs.Splits.{SplitBy, CalledBy, TurnedBy, Standing, StandingThere, Laid, LaidThere, split_rule, group_rule, groups_rule, child_of};
 
 use branches::memo::{Name, Naming};
 use branches::{edges, memo, vars};
@@ -36,8 +36,8 @@ enum Turned {
 // A child over the cap is first split one level down.
 #[cycle(name_branches_name_group_name_groups_split_group_turn)]
 fn split_group(scratch: &mut [u8], s: Naming, base: usize, count: u32, root: u32, t: u32) -> Reduced
-    requires { TameThere (words scratch.old) base count × (count ≤ 256) × (bodyAt ≤ base) × (base + count ≤ copyAt) × NamedThere (words scratch.old) s × (s.first ≤ 1100000) × (4 * workWords ≤ length scratch.old) }
-    ensures split_by { (l : List Atom) (z : Rules.Naming) (f : ℕ) → AtomsAre (words scratch.old) base count l → NamedHeld (words scratch.old) s z → count ≤ f → SplitBy (words scratch.new) base count s (splitRule f l root t z) result }
+    requires { TameThere (words scratch.old) base count × (count ≤ 256) × (body_at ≤ base) × (base + count ≤ copy_at) × NamedThere (words scratch.old) s × (s.first ≤ 1100000) × (4 * work_words ≤ length scratch.old) }
+    ensures split_by { (l : List Atom) (z : Rules.Naming) (f : ℕ) → AtomsAre (words scratch.old) base count l → NamedHeld (words scratch.old) s z → count ≤ f → SplitBy (words scratch.new) base count s (split_rule f l root t z) result }
     ensures only_names { OnlyNames base count (words scratch.old) (words scratch.new) }
 {
     let from = 24 * base;
@@ -63,8 +63,8 @@ fn split_group(scratch: &mut [u8], s: Naming, base: usize, count: u32, root: u32
 // The name of a child and what is below it.
 #[cycle(name_branches_name_group_name_groups_split_group_turn)]
 fn name_group(scratch: &mut [u8], s: Naming, base: usize, count: u32, root: u32, t: u32) -> Name
-    requires { TameThere (words scratch.old) base count × (count ≤ 256) × (bodyAt ≤ base) × (base + count ≤ copyAt) × NamedThere (words scratch.old) s × (s.first ≤ 1100000) × (4 * workWords ≤ length scratch.old) }
-    ensures called_by { (l : List Atom) (z : Rules.Naming) (f : ℕ) → AtomsAre (words scratch.old) base count l → NamedHeld (words scratch.old) s z → count ≤ f → CalledBy (words scratch.new) root s (groupRule f l root t z) result }
+    requires { TameThere (words scratch.old) base count × (count ≤ 256) × (body_at ≤ base) × (base + count ≤ copy_at) × NamedThere (words scratch.old) s × (s.first ≤ 1100000) × (4 * work_words ≤ length scratch.old) }
+    ensures called_by { (l : List Atom) (z : Rules.Naming) (f : ℕ) → AtomsAre (words scratch.old) base count l → NamedHeld (words scratch.old) s z → count ≤ f → CalledBy (words scratch.new) root s (group_rule f l root t z) result }
     ensures only_names { OnlyNames base count (words scratch.old) (words scratch.new) }
 {
     match split_group(scratch, s, base, count, root, t) {
@@ -87,8 +87,8 @@ fn turn(
     t: u32,
     keep: u32,
 ) -> Turned
-    requires { StandingThere (words scratch.old) q p c s × (keep ≤ 512) × (4 * workWords ≤ length scratch.old) }
-    ensures fact { (base count : ℕ) (made group rest : List Atom) (z : Rules.Naming) (kept : List ℕ) (f : ℕ) → Standing (words scratch.old) base count q p c made group rest s z → KeepIs (words scratch.old) keep kept → c ≤ f → TurnedBy (words scratch.new) base q (p + c) made rest s (childOf f root t group any (mentions kept group) z) result }
+    requires { StandingThere (words scratch.old) q p c s × (keep ≤ 512) × (4 * work_words ≤ length scratch.old) }
+    ensures fact { (base count : ℕ) (made group rest : List Atom) (z : Rules.Naming) (kept : List ℕ) (f : ℕ) → Standing (words scratch.old) base count q p c made group rest s z → KeepIs (words scratch.old) keep kept → c ≤ f → TurnedBy (words scratch.new) base q (p + c) made rest s (child_of f root t group any (mentions kept group) z) result }
     ensures fact_2 { (base count : ℕ) (made group rest : List Atom) (z : Rules.Naming) → Standing (words scratch.old) base count q p c made group rest s z → OnlyNames base count (words scratch.old) (words scratch.new) }
 {
     if edges::mentions_kept(scratch, keep, p, c) {
@@ -117,8 +117,8 @@ fn name_groups(
     root: u32,
     keep: u32,
 ) -> Reduced
-    requires { LaidThere (words scratch.old) tops.now counts.now base count groups × (groups ≤ length tops.now) × (groups ≤ length counts.now) × (count ≤ 256) × (bodyAt ≤ base) × (base + count ≤ copyAt) × NamedThere (words scratch.old) s × (s.first ≤ 1100000) × (keep ≤ 512) × (4 * workWords ≤ length scratch.old) }
-    ensures reduced_by { (g : Groups) (z : Rules.Naming) (kept : List ℕ) (f : ℕ) → Laid (words scratch.old) tops.now counts.now base count g groups → NamedHeld (words scratch.old) s z → KeepIs (words scratch.old) keep kept → count ≤ f → ReducedBy (words scratch.new) base count (g.rootAtoms ++ allOf g.groups) kept s (groupsRule f root kept g z) result }
+    requires { LaidThere (words scratch.old) tops.now counts.now base count groups × (groups ≤ length tops.now) × (groups ≤ length counts.now) × (count ≤ 256) × (body_at ≤ base) × (base + count ≤ copy_at) × NamedThere (words scratch.old) s × (s.first ≤ 1100000) × (keep ≤ 512) × (4 * work_words ≤ length scratch.old) }
+    ensures reduced_by { (g : Groups) (z : Rules.Naming) (kept : List ℕ) (f : ℕ) → Laid (words scratch.old) tops.now counts.now base count g groups → NamedHeld (words scratch.old) s z → KeepIs (words scratch.old) keep kept → count ≤ f → ReducedBy (words scratch.new) base count (g.root_atoms ++ all_of g.groups) kept s (groups_rule f root kept g z) result }
     ensures only_names { OnlyNames base count (words scratch.old) (words scratch.new) }
 {
     let mut m = s;
@@ -157,8 +157,8 @@ pub fn name_branches(
     root: u32,
     keep: u32,
 ) -> Reduced
-    requires { TameThere (words scratch.old) base count × (count ≤ 256) × (bodyAt ≤ base) × (base + count ≤ copyAt) × NamedThere (words scratch.old) s × (s.first ≤ 1100000) × (keep ≤ 512) × (4 * workWords ≤ length scratch.old) }
-    ensures reduced_by { (l : List Atom) (z : Rules.Naming) (kept : List ℕ) (f : ℕ) → AtomsAre (words scratch.old) base count l → NamedHeld (words scratch.old) s z → KeepIs (words scratch.old) keep kept → count < f → ReducedBy (words scratch.new) base count l kept s (nameBy f l root kept z) result }
+    requires { TameThere (words scratch.old) base count × (count ≤ 256) × (body_at ≤ base) × (base + count ≤ copy_at) × NamedThere (words scratch.old) s × (s.first ≤ 1100000) × (keep ≤ 512) × (4 * work_words ≤ length scratch.old) }
+    ensures reduced_by { (l : List Atom) (z : Rules.Naming) (kept : List ℕ) (f : ℕ) → AtomsAre (words scratch.old) base count l → NamedHeld (words scratch.old) s z → KeepIs (words scratch.old) keep kept → count < f → ReducedBy (words scratch.new) base count l kept s (name_by f l root kept z) result }
     ensures only_names { OnlyNames base count (words scratch.old) (words scratch.new) }
 {
     let n = tree::tree(scratch, base, count as usize, root);

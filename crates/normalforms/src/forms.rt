@@ -1,14 +1,14 @@
 // The text of a deck's normal form.
 ghost use Rattle.std.specs.Prelude.{◌*◌, ◌≤◌, length};
 ghost use Rattle.words.specs.Words.{words};
-ghost use Rattle.ir.specs.Scratch.{handsAt};
-ghost use Rattle.rules.specs.Deck.{readDeck};
-ghost use Rattle.rules.specs.Run.{nnfAxioms};
-ghost use Rattle.ontology.specs.Layout.{axiomsOf};
-ghost use Rattle.rebuilding.specs.States.{stateOf};
+ghost use Rattle.ir.specs.Scratch.{hands_at};
+ghost use Rattle.rules.specs.Deck.{read_deck};
+ghost use Rattle.rules.specs.Run.{nnf_axioms};
+ghost use Rattle.ontology.specs.Layout.{axioms_of};
+ghost use Rattle.rebuilding.specs.States.{state_of};
 ghost use Rattle.normalize.specs.Axioms.{NormalizingAxioms};
 ghost use Rattle.rows.specs.Rows.{Put};
-ghost use Rattle.normalforms.specs.Forms.{linedText, formsText, mostText};
+ghost use Rattle.normalforms.specs.Forms.{lined_text, forms_text, most_text};
 
 use crate::lines;
 use ir::answer::Lined;
@@ -19,9 +19,9 @@ use ontology::load::Loaded;
 
 // Of a deck that was read.
 fn put_normalized(scratch: &mut [u8], k: Counters, n: u32, out: &mut [u8]) -> usize
-    requires { NormalizingAxioms scratch.old k n × (k.line ≤ 65536) × (mostText ≤ length out.old) }
-    ensures put { Put out.old 0 (linedText (nnfAxioms k.line (axiomsOf (words scratch.old) n) (stateOf k (words scratch.old)))) out.new result }
-    ensures upper_bound { result ≤ mostText }
+    requires { NormalizingAxioms scratch.old k n × (k.line ≤ 65536) × (most_text ≤ length out.old) }
+    ensures put { Put out.old 0 (lined_text (nnf_axioms k.line (axioms_of (words scratch.old) n) (state_of k (words scratch.old)))) out.new result }
+    ensures upper_bound { result ≤ most_text }
 {
     match forms::nnf_axioms(scratch, k, n, k.line) {
         Lined::Finished(v) => lines::put_normal(scratch, v, n, out),
@@ -31,9 +31,9 @@ fn put_normalized(scratch: &mut [u8], k: Counters, n: u32, out: &mut [u8]) -> us
 
 // From byte 0 on; where it ends.
 pub fn put_forms(deck: &[u8], scratch: &mut [u8], out: &mut [u8]) -> usize
-    requires { (4 * handsAt ≤ length scratch.old) × (mostText ≤ length out.old) }
-    ensures put { Put out.old 0 (formsText (readDeck deck.now)) out.new result }
-    ensures upper_bound { result ≤ mostText }
+    requires { (4 * hands_at ≤ length scratch.old) × (most_text ≤ length out.old) }
+    ensures put { Put out.old 0 (forms_text (read_deck deck.now)) out.new result }
+    ensures upper_bound { result ≤ most_text }
 {
     match load::load(deck, scratch, 1000000) {
         Loaded::Accepted(k, n) => put_normalized(scratch, k, n, out),

@@ -1,13 +1,13 @@
 // The text of a pool and of axioms.
 ghost use Rattle.std.specs.Prelude.{◌+◌, ◌*◌, ◌≤◌, ◌<◌, ◌≡◌, true, false, length};
 ghost use Rattle.words.specs.Words.{words};
-ghost use Rattle.ir.specs.Scratch.{linesAt};
-ghost use Rattle.rules.specs.Lister.{fieldsText};
-ghost use Rattle.pool.specs.Layout.{isList, field, conceptAt, poolOf};
+ghost use Rattle.ir.specs.Scratch.{lines_at};
+ghost use Rattle.rules.specs.Lister.{fields_text};
+ghost use Rattle.pool.specs.Layout.{is_list, field, concept_at, pool_of};
 ghost use Rattle.pool.specs.Held.{Ready};
-ghost use Rattle.ontology.specs.Layout.{axiomRow, axiomsOf, AxiomsHeld};
+ghost use Rattle.ontology.specs.Layout.{axiom_row, axioms_of, AxiomsHeld};
 ghost use Rattle.rows.specs.Rows.{Put};
-ghost use Rattle.normalforms.specs.Forms.{conceptLine, conceptsText, axiomsText, normalText, refusalText, mostText};
+ghost use Rattle.normalforms.specs.Forms.{concept_line, concepts_text, axioms_text, normal_text, refusal_text, most_text};
 
 use ir::counters::Counters;
 use ir::scratch::NUMBERS;
@@ -17,7 +17,7 @@ use pool::record;
 
 // And or Or.
 fn is_list(kind: u32) -> bool
-    ensures { result ≡ isList kind }
+    ensures { result ≡ is_list kind }
 {
     if kind == AND {
         return true;
@@ -27,8 +27,8 @@ fn is_list(kind: u32) -> bool
 
 // And or Or, at concept c.
 fn put_list(scratch: &[u8], k: Counters, c: u32, out: &mut [u8], at: usize) -> usize
-    requires { Ready scratch.now k × (c < k.concepts) × (isList (field (words scratch.now) c 0) ≡ true) × (at + length (fieldsText (conceptLine (conceptAt (words scratch.now) c))) ≤ length out.old) }
-    ensures { Put out.old at (fieldsText (conceptLine (conceptAt (words scratch.now) c))) out.new result }
+    requires { Ready scratch.now k × (c < k.concepts) × (is_list (field (words scratch.now) c 0) ≡ true) × (at + length (fields_text (concept_line (concept_at (words scratch.now) c))) ≤ length out.old) }
+    ensures { Put out.old at (fields_text (concept_line (concept_at (words scratch.now) c))) out.new result }
 {
     let start = MEMBERS + record::child(scratch, c) as usize;
     let count = record::number(scratch, c) as usize;
@@ -39,8 +39,8 @@ fn put_list(scratch: &[u8], k: Counters, c: u32, out: &mut [u8], at: usize) -> u
 
 // Any other concept.
 fn put_record(scratch: &[u8], k: Counters, c: u32, out: &mut [u8], at: usize) -> usize
-    requires { Ready scratch.now k × (c < k.concepts) × (isList (field (words scratch.now) c 0) ≡ false) × (at + 45 ≤ length out.old) }
-    ensures { Put out.old at (fieldsText (conceptLine (conceptAt (words scratch.now) c))) out.new result }
+    requires { Ready scratch.now k × (c < k.concepts) × (is_list (field (words scratch.now) c 0) ≡ false) × (at + 45 ≤ length out.old) }
+    ensures { Put out.old at (fields_text (concept_line (concept_at (words scratch.now) c))) out.new result }
 {
     let kind = record::kind(scratch, c);
     let role = record::role(scratch, c);
@@ -51,8 +51,8 @@ fn put_record(scratch: &[u8], k: Counters, c: u32, out: &mut [u8], at: usize) ->
 
 // Concept c.
 fn put_concept(scratch: &[u8], k: Counters, c: u32, out: &mut [u8], at: usize) -> usize
-    requires { Ready scratch.now k × (c < k.concepts) × (at + length (fieldsText (conceptLine (conceptAt (words scratch.now) c))) ≤ length out.old) }
-    ensures { Put out.old at (fieldsText (conceptLine (conceptAt (words scratch.now) c))) out.new result }
+    requires { Ready scratch.now k × (c < k.concepts) × (at + length (fields_text (concept_line (concept_at (words scratch.now) c))) ≤ length out.old) }
+    ensures { Put out.old at (fields_text (concept_line (concept_at (words scratch.now) c))) out.new result }
 {
     if is_list(record::kind(scratch, c)) {
         return put_list(scratch, k, c, out, at);
@@ -62,8 +62,8 @@ fn put_concept(scratch: &[u8], k: Counters, c: u32, out: &mut [u8], at: usize) -
 
 // All of the pool.
 fn put_concepts(scratch: &[u8], k: Counters, out: &mut [u8], at: usize) -> usize
-    requires { Ready scratch.now k × (at + length (conceptsText (poolOf (words scratch.now) k.concepts)) ≤ length out.old) }
-    ensures { Put out.old at (conceptsText (poolOf (words scratch.now) k.concepts)) out.new result }
+    requires { Ready scratch.now k × (at + length (concepts_text (pool_of (words scratch.now) k.concepts)) ≤ length out.old) }
+    ensures { Put out.old at (concepts_text (pool_of (words scratch.now) k.concepts)) out.new result }
 {
     let mut p = at;
     let mut c: u32 = 0;
@@ -76,8 +76,8 @@ fn put_concepts(scratch: &[u8], k: Counters, out: &mut [u8], at: usize) -> usize
 
 // Axiom i.
 fn put_axiom(scratch: &[u8], n: u32, i: u32, out: &mut [u8], at: usize) -> usize
-    requires { AxiomsHeld (words scratch.now) n × (i < n) × (4 * linesAt ≤ length scratch.now) × (at + length (fieldsText (axiomRow (words scratch.now) i)) ≤ length out.old) }
-    ensures { Put out.old at (fieldsText (axiomRow (words scratch.now) i)) out.new result }
+    requires { AxiomsHeld (words scratch.now) n × (i < n) × (4 * lines_at ≤ length scratch.now) × (at + length (fields_text (axiom_row (words scratch.now) i)) ≤ length out.old) }
+    ensures { Put out.old at (fields_text (axiom_row (words scratch.now) i)) out.new result }
 {
     let start = NUMBERS + axiom::start(scratch, i) as usize;
     let count = axiom::count(scratch, i) as usize;
@@ -87,8 +87,8 @@ fn put_axiom(scratch: &[u8], n: u32, i: u32, out: &mut [u8], at: usize) -> usize
 
 // All axioms.
 fn put_axioms(scratch: &[u8], n: u32, out: &mut [u8], at: usize) -> usize
-    requires { AxiomsHeld (words scratch.now) n × (4 * linesAt ≤ length scratch.now) × (at + length (axiomsText (axiomsOf (words scratch.now) n)) ≤ length out.old) }
-    ensures { Put out.old at (axiomsText (axiomsOf (words scratch.now) n)) out.new result }
+    requires { AxiomsHeld (words scratch.now) n × (4 * lines_at ≤ length scratch.now) × (at + length (axioms_text (axioms_of (words scratch.now) n)) ≤ length out.old) }
+    ensures { Put out.old at (axioms_text (axioms_of (words scratch.now) n)) out.new result }
 {
     let mut p = at;
     let mut i: u32 = 0;
@@ -101,9 +101,9 @@ fn put_axioms(scratch: &[u8], n: u32, out: &mut [u8], at: usize) -> usize
 
 // The pool, the axioms and the sums.
 pub fn put_normal(scratch: &[u8], k: Counters, n: u32, out: &mut [u8]) -> usize
-    requires { Ready scratch.now k × AxiomsHeld (words scratch.now) n × (4 * linesAt ≤ length scratch.now) × (mostText ≤ length out.old) }
-    ensures put { Put out.old 0 (normalText (axiomsOf (words scratch.now) n) (poolOf (words scratch.now) k.concepts) k.visits) out.new result }
-    ensures upper_bound { result ≤ mostText }
+    requires { Ready scratch.now k × AxiomsHeld (words scratch.now) n × (4 * lines_at ≤ length scratch.now) × (most_text ≤ length out.old) }
+    ensures put { Put out.old 0 (normal_text (axioms_of (words scratch.now) n) (pool_of (words scratch.now) k.concepts) k.visits) out.new result }
+    ensures upper_bound { result ≤ most_text }
 {
     let p = put_concepts(scratch, k, out, 0);
     let q = put_axioms(scratch, n, out, p);
@@ -112,9 +112,9 @@ pub fn put_normal(scratch: &[u8], k: Counters, n: u32, out: &mut [u8]) -> usize
 
 // A refusal.
 pub fn put_refusal(out: &mut [u8], number: u32, line: u32) -> usize
-    requires { mostText ≤ length out.old }
-    ensures put { Put out.old 0 (refusalText number line) out.new result }
-    ensures upper_bound { result ≤ mostText }
+    requires { most_text ≤ length out.old }
+    ensures put { Put out.old 0 (refusal_text number line) out.new result }
+    ensures upper_bound { result ≤ most_text }
 {
     rows::put_three(out, 0, 49, number, line)
 }

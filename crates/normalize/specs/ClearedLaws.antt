@@ -4,70 +4,70 @@ use Rattle.std.proofs.Common.{sym, ap, ◌∙◌, arith}
 use Rattle.std.proofs.lemmas.List.{length-replicate, get_or-replicate}
 use Rattle.std.proofs.lemmas.List.Edits.{sets}
 use Rattle.words.specs.Words.{words}
-use Rattle.words.specs.Laws.{length-words}
-use Rattle.words.specs.Runs.{getD-sets-after, getD-sets-before, getD-sets-in}
-use Rattle.ir.specs.Scratch.{numbersAt, linesAt, stackAt, normalFormsAt, handsAt}
+use Rattle.words.specs.Laws.{length_words}
+use Rattle.words.specs.Runs.{get_d_sets_after, get_d_sets_before, get_d_sets_in}
+use Rattle.ir.specs.Scratch.{numbers_at, lines_at, stack_at, normal_forms_at, hands_at}
 use Rattle.ir.specs.declared.counters.Counters.{Counters}
 use Rattle.ir.specs.declared.answer.Lined.{Lined as CodeLined}
-use Rattle.rules.specs.Run.{nnfAxioms}
-use Rattle.pool.specs.Layout.{poolOf}
-use Rattle.ontology.specs.Layout.{axiomsOf}
-use Rattle.rebuilding.specs.States.{stateOf, Kept}
-use Rattle.normalize.specs.Axioms.{afterAxioms, toldLined, HeldLined, NormalizingAxioms}
+use Rattle.rules.specs.Run.{nnf_axioms}
+use Rattle.pool.specs.Layout.{pool_of}
+use Rattle.ontology.specs.Layout.{axioms_of}
+use Rattle.rebuilding.specs.States.{state_of, Kept}
+use Rattle.normalize.specs.Axioms.{after_axioms, told_lined, HeldLined, NormalizingAxioms}
 use Rattle.normalize.specs.Known.{Known}
-use Rattle.normalize.specs.KnownLaws.{known-nothing}
-use Rattle.normalize.specs.KeptLaws.{Under, under-sets}
-use Rattle.ontology.specs.KeptAxioms.{axioms-kept, held-axioms}
+use Rattle.normalize.specs.KnownLaws.{known_nothing}
+use Rattle.normalize.specs.KeptLaws.{Under, under_sets}
+use Rattle.ontology.specs.KeptAxioms.{axioms_kept, held_axioms}
 
-module _ (s s' : List ℕ) (k : Counters) (n : ℕ) (A : NormalizingAxioms s k n) (e : words s' ≡ sets (words s) normalFormsAt (replicate 4096 0)) (l : length s' ≡ length s) where
+module _ (s s' : List ℕ) (k : Counters) (n : ℕ) (A : NormalizingAxioms s k n) (e : words s' ≡ sets (words s) normal_forms_at (replicate 4096 0)) (l : length s' ≡ length s) where
   abbrev zeros : List ℕ
   zeros = replicate 4096 0
 
   long : length zeros ≡ 4096
   long = length-replicate {A = ℕ} 4096 0
 
-  before : (j : ℕ) → j < normalFormsAt → get_or (words s') j 0 ≡ get_or (words s) j 0
-  before j h = rw e (getD-sets-before zeros (words s) normalFormsAt j 0 h)
+  before : (j : ℕ) → j < normal_forms_at → get_or (words s') j 0 ≡ get_or (words s) j 0
+  before j h = rw e (get_d_sets_before zeros (words s) normal_forms_at j 0 h)
 
-  behind : (j : ℕ) → handsAt ≤ j → get_or (words s') j 0 ≡ get_or (words s) j 0
-  behind j h = rw e (getD-sets-after zeros (words s) normalFormsAt j 0 (omega (arith, long)))
+  behind : (j : ℕ) → hands_at ≤ j → get_or (words s') j 0 ≡ get_or (words s) j 0
+  behind j h = rw e (get_d_sets_after zeros (words s) normal_forms_at j 0 (omega (arith, long)))
 
   under : Under (words s) (words s') k.concepts k.members
-  under = rw e (under-sets (words s) k.concepts k.members A.ready.held normalFormsAt (omega arith) zeros)
+  under = rw e (under_sets (words s) k.concepts k.members A.ready.held normal_forms_at (omega arith) zeros)
 
-  axioms : axiomsOf (words s') n ≡ axiomsOf (words s) n
-  axioms = axioms-kept (words s) (words s') n A.held (λ j a b. before j (omega arith))
+  axioms : axioms_of (words s') n ≡ axioms_of (words s) n
+  axioms = axioms_kept (words s) (words s') n A.held (λ j a b. before j (omega arith))
 
-  pub cleared-asks : NormalizingAxioms s' k n
-  cleared-asks = record {
+  pub cleared_asks : NormalizingAxioms s' k n
+  cleared_asks = record {
     bounds = A.bounds;
     ready = record { room = omega (arith, l, A.ready.room); held = under.held };
     wf = rw under.pool A.wf;
-    held = held-axioms (words s) (words s') n A.held (λ j a b. before j (omega arith));
+    held = held_axioms (words s) (words s') n A.held (λ j a b. before j (omega arith));
     inside = rw axioms A.inside;
     space = omega (arith, l, A.space);
   }
 
-  pub cleared-known : Known (words s') k.concepts
-  cleared-known = known-nothing (words s') k.concepts zero-at
+  pub cleared_known : Known (words s') k.concepts
+  cleared_known = known_nothing (words s') k.concepts zero_at
     where
-      zero-in : (i : ℕ) → i < 4096 → get_or (words s') (normalFormsAt + i) 0 ≡ 0
-      zero-in i h =
-          ap (λ (w : List ℕ). get_or w (normalFormsAt + i) 0) e
-          ∙ getD-sets-in zeros (words s) normalFormsAt i 0 (omega (arith, long)) (omega (arith, long, length-words s, A.space))
+      zero_in : (i : ℕ) → i < 4096 → get_or (words s') (normal_forms_at + i) 0 ≡ 0
+      zero_in i h =
+          ap (λ (w : List ℕ). get_or w (normal_forms_at + i) 0) e
+          ∙ get_d_sets_in zeros (words s) normal_forms_at i 0 (omega (arith, long)) (omega (arith, long, length_words s, A.space))
           ∙ get_or-replicate {A = ℕ} 4096 i 0 0 h
 
-      zero-at : (j : ℕ) → normalFormsAt ≤ j → j < normalFormsAt + 4096 → get_or (words s') j 0 ≡ 0
-      zero-at j a b =
-          let o : j ≡ normalFormsAt + (j - normalFormsAt) = omega arith in
-          ap (λ (i : ℕ). get_or (words s') i 0) o ∙ zero-in (j - normalFormsAt) (omega arith)
+      zero_at : (j : ℕ) → normal_forms_at ≤ j → j < normal_forms_at + 4096 → get_or (words s') j 0 ≡ 0
+      zero_at j a b =
+          let o : j ≡ normal_forms_at + (j - normal_forms_at) = omega arith in
+          ap (λ (i : ℕ). get_or (words s') i 0) o ∙ zero_in (j - normal_forms_at) (omega arith)
 
-  pub cleared-did : (r : CodeLined) (line : ℕ) (w : List ℕ) → afterAxioms r (axiomsOf w n) w ≡ toldLined k (nnfAxioms line (axiomsOf (words s') n) (stateOf k (words s')))
-      → afterAxioms r (axiomsOf w n) w ≡ toldLined k (nnfAxioms line (axiomsOf (words s) n) (stateOf k (words s)))
-  cleared-did r line w g = g ∙ rw (axioms, under.pool) refl
+  pub cleared_did : (r : CodeLined) (line : ℕ) (w : List ℕ) → after_axioms r (axioms_of w n) w ≡ told_lined k (nnf_axioms line (axioms_of (words s') n) (state_of k (words s')))
+      → after_axioms r (axioms_of w n) w ≡ told_lined k (nnf_axioms line (axioms_of (words s) n) (state_of k (words s)))
+  cleared_did r line w g = g ∙ rw (axioms, under.pool) refl
 
-  pub cleared-kept : (w : List ℕ) → Kept numbersAt (linesAt - numbersAt) stackAt (words s') w → Kept numbersAt (linesAt - numbersAt) stackAt (words s) w
-  cleared-kept w K = record {
+  pub cleared_kept : (w : List ℕ) → Kept numbers_at (lines_at - numbers_at) stack_at (words s') w → Kept numbers_at (lines_at - numbers_at) stack_at (words s) w
+  cleared_kept w K = record {
     before = λ j a b. K.before j a b ∙ before j (omega arith);
     between = λ j a b. K.between j a b ∙ before j (omega arith);
     behind = λ j a. K.behind j a ∙ behind j a;

@@ -2,8 +2,8 @@
 // 2,048, the visits that made it. Made again, in a pool that has only grown, it takes as many visits and makes nothing.
 ghost use Rattle.std.specs.Prelude.{◌≡◌, ◌+◌, ◌*◌, ◌≤◌, ◌<◌, length, get_or};
 ghost use Rattle.words.specs.Words.{words};
-ghost use Rattle.ir.specs.Scratch.{normalFormsAt, handsAt};
-ghost use Rattle.normalize.specs.Known.{formAt, revisited, keptForm, keptAnswer, MadeSince};
+ghost use Rattle.ir.specs.Scratch.{normal_forms_at, hands_at};
+ghost use Rattle.normalize.specs.Known.{form_at, revisited, kept_form, kept_answer, MadeSince};
 
 use ir::answer::Answer;
 use ir::counters::Counters;
@@ -11,7 +11,7 @@ use ir::scratch::NORMAL_FORMS;
 
 fn place(c: u32, negated: bool) -> usize
     requires { c < 2048 }
-    ensures { result ≡ formAt negated c }
+    ensures { result ≡ form_at negated c }
 {
     let at = NORMAL_FORMS + 2 * (c as usize);
     if negated {
@@ -22,8 +22,8 @@ fn place(c: u32, negated: bool) -> usize
 
 // The word of concept c.
 pub fn form_of(scratch: &[u8], c: u32, negated: bool) -> u32
-    requires { (c < 2048) × (4 * handsAt ≤ length scratch.now) }
-    ensures { result ≡ get_or (words scratch.now) (formAt negated c) 0 }
+    requires { (c < 2048) × (4 * hands_at ≤ length scratch.now) }
+    ensures { result ≡ get_or (words scratch.now) (form_at negated c) 0 }
 {
     words::get_word(scratch, place(c, negated))
 }
@@ -42,8 +42,8 @@ pub fn revisit(mut k: Counters, form: u32) -> Answer
 
 // The word of concept c becomes its normal form i and the v visits; it stays where they are too many for a word.
 fn put_form(scratch: &mut [u8], c: u32, negated: bool, i: u32, v: u32)
-    requires { (c < 2048) × (i < 2048) × (4 * handsAt ≤ length scratch.old) }
-    ensures { words scratch.new ≡ keptForm (words scratch.old) (formAt negated c) i v }
+    requires { (c < 2048) × (i < 2048) × (4 * hands_at ≤ length scratch.old) }
+    ensures { words scratch.new ≡ kept_form (words scratch.old) (form_at negated c) i v }
 {
     if v < 2097152 {
         words::put_word(scratch, place(c, negated), 2048 * v + i);
@@ -52,8 +52,8 @@ fn put_form(scratch: &mut [u8], c: u32, negated: bool, i: u32, v: u32)
 
 // The same of an answer for concept c, before which there were `visits`.
 pub fn keep(scratch: &mut [u8], visits: u32, made: Answer, c: u32, negated: bool)
-    requires { (c < 2048) × (4 * handsAt ≤ length scratch.old) × MadeSince visits made }
-    ensures { words scratch.new ≡ keptAnswer (words scratch.old) (formAt negated c) visits made }
+    requires { (c < 2048) × (4 * hands_at ≤ length scratch.old) × MadeSince visits made }
+    ensures { words scratch.new ≡ kept_answer (words scratch.old) (form_at negated c) visits made }
 {
     match made {
         Answer::Done(k, i) => put_form(scratch, c, negated, i, k.visits - visits),

@@ -1,13 +1,13 @@
 // to_nnf and push_negation_in: one function, which is negated for the second, and its loop over a concept's parts.
 ghost use Rattle.std.specs.Prelude.{◌≡◌, true, false, ℕ, ◌<◌};
 ghost use Rattle.words.specs.Words.{words};
-ghost use Rattle.ir.specs.Scratch.{stackAt};
+ghost use Rattle.ir.specs.Scratch.{stack_at};
 ghost use Rattle.rules.specs.Base.{each};
-ghost use Rattle.rules.specs.Normalize.{toNnf, pushNegationIn};
+ghost use Rattle.rules.specs.Normalize.{to_nnf, push_negation_in};
 ghost use Rattle.pool.specs.Layout.{run};
 ghost use Rattle.pool.specs.Answers.{after, HeldAfter};
-ghost use Rattle.rebuilding.specs.Steps.{nnfBy};
-ghost use Rattle.rebuilding.specs.States.{stateOf, told, afterRun, HeldRun, Kept, Normalizing, NormalizingRun};
+ghost use Rattle.rebuilding.specs.Steps.{nnf_by};
+ghost use Rattle.rebuilding.specs.States.{state_of, told, after_run, HeldRun, Kept, Normalizing, NormalizingRun};
 ghost use Rattle.normalize.specs.Known.{KnownIf, KnownAfter};
 
 use crate::known;
@@ -20,7 +20,7 @@ use rebuilding::{parts, rebuild};
 #[cycle(normal_normal_anew_normal_each)]
 fn normal(scratch: &mut [u8], k: Counters, top: usize, c: u32, negated: bool, memo: bool) -> Answer
     requires { Normalizing scratch.old k top c × KnownIf memo (words scratch.old) k.concepts }
-    ensures by_index { (f : ℕ) → c < f → after result (words scratch.new) ≡ told k (nnfBy negated f c (stateOf k (words scratch.old))) }
+    ensures by_index { (f : ℕ) → c < f → after result (words scratch.new) ≡ told k (nnf_by negated f c (state_of k (words scratch.old))) }
     ensures held_after { HeldAfter result (words scratch.new) }
     ensures kept { Kept top 0 top (words scratch.old) (words scratch.new) }
     ensures known_after { KnownAfter memo result (words scratch.new) }
@@ -48,7 +48,7 @@ fn normal_anew(
     memo: bool,
 ) -> Answer
     requires { Normalizing scratch.old k top c × KnownIf memo (words scratch.old) k.concepts }
-    ensures by_index { (f : ℕ) → c < f → after result (words scratch.new) ≡ told k (nnfBy negated f c (stateOf k (words scratch.old))) }
+    ensures by_index { (f : ℕ) → c < f → after result (words scratch.new) ≡ told k (nnf_by negated f c (state_of k (words scratch.old))) }
     ensures held_after { HeldAfter result (words scratch.new) }
     ensures kept { Kept top 0 top (words scratch.old) (words scratch.new) }
     ensures known_after { KnownAfter memo result (words scratch.new) }
@@ -75,7 +75,7 @@ pub fn normal_each(
     memo: bool,
 ) -> Answer
     requires { NormalizingRun scratch.old k at n top c × KnownIf memo (words scratch.old) k.concepts }
-    ensures by_index { (F : ℕ → ℕ) → ((d : ℕ) → d < c → d < F d) → afterRun result (run (words scratch.new) at n) (words scratch.new) ≡ told k (each (λ d. nnfBy negated (F d) d) (run (words scratch.old) at n) (stateOf k (words scratch.old))) }
+    ensures by_index { (F : ℕ → ℕ) → ((d : ℕ) → d < c → d < F d) → after_run result (run (words scratch.new) at n) (words scratch.new) ≡ told k (each (λ d. nnf_by negated (F d) d) (run (words scratch.old) at n) (state_of k (words scratch.old))) }
     ensures held_run { HeldRun result (words scratch.new) }
     ensures kept { Kept at n top (words scratch.old) (words scratch.new) }
     ensures known_after { KnownAfter memo result (words scratch.new) }
@@ -111,7 +111,7 @@ pub fn normal_run(
     negated: bool,
 ) -> Answer
     requires { NormalizingRun scratch.old k at n top c }
-    ensures by_index { (F : ℕ → ℕ) → ((d : ℕ) → d < c → d < F d) → afterRun result (run (words scratch.new) at n) (words scratch.new) ≡ told k (each (λ d. nnfBy negated (F d) d) (run (words scratch.old) at n) (stateOf k (words scratch.old))) }
+    ensures by_index { (F : ℕ → ℕ) → ((d : ℕ) → d < c → d < F d) → after_run result (run (words scratch.new) at n) (words scratch.new) ≡ told k (each (λ d. nnf_by negated (F d) d) (run (words scratch.old) at n) (state_of k (words scratch.old))) }
     ensures held_run { HeldRun result (words scratch.new) }
     ensures kept { Kept at n top (words scratch.old) (words scratch.new) }
 {
@@ -119,20 +119,20 @@ pub fn normal_run(
 }
 
 pub fn to_nnf(scratch: &mut [u8], k: Counters, c: u32) -> Answer
-    requires { Normalizing scratch.old k stackAt c }
-    ensures by_index { (f : ℕ) → c < f → after result (words scratch.new) ≡ told k (toNnf f c (stateOf k (words scratch.old))) }
+    requires { Normalizing scratch.old k stack_at c }
+    ensures by_index { (f : ℕ) → c < f → after result (words scratch.new) ≡ told k (to_nnf f c (state_of k (words scratch.old))) }
     ensures held_after { HeldAfter result (words scratch.new) }
-    ensures kept { Kept stackAt 0 stackAt (words scratch.old) (words scratch.new) }
+    ensures kept { Kept stack_at 0 stack_at (words scratch.old) (words scratch.new) }
 {
     normal(scratch, k, STACK, c, false, false)
 }
 
 // nnf_complement calls it, with no visit of its own.
 pub fn push_negation_in(scratch: &mut [u8], k: Counters, c: u32) -> Answer
-    requires { Normalizing scratch.old k stackAt c }
-    ensures by_index { (f : ℕ) → c < f → after result (words scratch.new) ≡ told k (pushNegationIn f c (stateOf k (words scratch.old))) }
+    requires { Normalizing scratch.old k stack_at c }
+    ensures by_index { (f : ℕ) → c < f → after result (words scratch.new) ≡ told k (push_negation_in f c (state_of k (words scratch.old))) }
     ensures held_after { HeldAfter result (words scratch.new) }
-    ensures kept { Kept stackAt 0 stackAt (words scratch.old) (words scratch.new) }
+    ensures kept { Kept stack_at 0 stack_at (words scratch.old) (words scratch.new) }
 {
     normal(scratch, k, STACK, c, true, false)
 }

@@ -7,29 +7,29 @@ use borrow.Rule.Slice.PartMut.{mid_of}
 use lib.ListN.{length, get_or, take, drop, length-drop}
 use lib.Seq.{length-take-le}
 use Rattle.words.specs.Words.{words}
-use Rattle.words.specs.Laws.{words-take, words-drop, length-words}
-use Rattle.ir.specs.Scratch.{linesAt, stackAt, handsAt}
-use Rattle.deck.specs.Records.{tableBytes}
-use Rattle.pool.specs.Tabs.{run-part, tab-same}
-use Rattle.ontology.specs.Lines.{Kept, tableWords, tableIn, tableOf}
+use Rattle.words.specs.Laws.{words_take, words_drop, length_words}
+use Rattle.ir.specs.Scratch.{lines_at, stack_at, hands_at}
+use Rattle.deck.specs.Records.{table_bytes}
+use Rattle.pool.specs.Tabs.{run_part, tab_same}
+use Rattle.ontology.specs.Lines.{Kept, table_words, table_in, table_of}
 
 -- the part that is lent
-pub part-long : (s : List ℕ) → 4 * stackAt ≤ length s → length (mid_of 204800 28672 s) ≡ tableBytes
-part-long s h = length-take-le tableBytes (drop (4 * linesAt) s) (simp length-drop (omega arith))
+pub part_long : (s : List ℕ) → 4 * stack_at ≤ length s → length (mid_of 204800 28672 s) ≡ table_bytes
+part_long s h = length-take-le table_bytes (drop (4 * lines_at) s) (simp length-drop (omega arith))
 
-pub part-room : (s : List ℕ) → 4 * handsAt ≤ length s → tableBytes ≤ length (mid_of 204800 28672 s)
-part-room s h = rw (part-long s (omega arith)) (omega arith)
+pub part_room : (s : List ℕ) → 4 * hands_at ≤ length s → table_bytes ≤ length (mid_of 204800 28672 s)
+part_room s h = rw (part_long s (omega arith)) (omega arith)
 
 -- its words
-pub part-words : (s : List ℕ) → 4 * stackAt ≤ length s → words (mid_of 204800 28672 s) ≡ tableOf (words s)
-part-words s h =
-    let l : linesAt + tableWords ≤ length (words s) = rw (length-words s) (omega arith) in
-    words-take tableWords (drop (4 * linesAt) s) ∙ ap (take tableWords) (words-drop linesAt s) ∙ sym (run-part (words s) linesAt tableWords l)
+pub part_words : (s : List ℕ) → 4 * stack_at ≤ length s → words (mid_of 204800 28672 s) ≡ table_of (words s)
+part_words s h =
+    let l : lines_at + table_words ≤ length (words s) = rw (length_words s) (omega arith) in
+    words_take table_words (drop (4 * lines_at) s) ∙ ap (take table_words) (words_drop lines_at s) ∙ sym (run_part (words s) lines_at table_words l)
 
-pub table-words : (s : List ℕ) → 4 * stackAt ≤ length s → words (tableIn s) ≡ tableOf (words s)
-unfolding tableIn
-table-words s h = part-words s h
+pub table_words_lem : (s : List ℕ) → 4 * stack_at ≤ length s → words (table_in s) ≡ table_of (words s)
+unfolding table_in
+table_words_lem s h = part_words s h
 
 -- words that leave it alone
-pub table-kept : (a b : ℕ) (w w' : List ℕ) → a ≤ linesAt → stackAt ≤ b → Kept a b w w' → tableOf w' ≡ tableOf w
-table-kept a b w w' h k K = tab-same (λ j. get_or w' j 0) (λ j. get_or w j 0) linesAt linesAt tableWords (λ i l. K (linesAt + i) (omega arith) (omega arith))
+pub table_kept : (a b : ℕ) (w w' : List ℕ) → a ≤ lines_at → stack_at ≤ b → Kept a b w w' → table_of w' ≡ table_of w
+table_kept a b w w' h k K = tab_same (λ j. get_or w' j 0) (λ j. get_or w j 0) lines_at lines_at table_words (λ i l. K (lines_at + i) (omega arith) (omega arith))

@@ -3,26 +3,26 @@ use Rattle.std.specs.Prelude.{◌≡◌, List, ℕ, length}
 use Rattle.ir.specs.Counts.{counters}
 use Rattle.ir.specs.declared.counters.Counters.{Counters}
 use Rattle.rules.specs.Pool.{members}
-use Rattle.rules.specs.Deck.{Known, Told, fine, refused, axiomLine}
-use Rattle.rules.specs.Run.{firstFresh}
-use Rattle.pool.specs.Layout.{poolOf}
+use Rattle.rules.specs.Deck.{Known, Told, fine, refused, axiom_line}
+use Rattle.rules.specs.Run.{first_fresh}
+use Rattle.pool.specs.Layout.{pool_of}
 use Rattle.pool.specs.Held.{Held}
 use Rattle.ontology.specs.declared.load.Loaded.{Loaded}
 use Rattle.ontology.specs.declared.load.Loaded.TheVariants.{Accepted, Refused}
-use Rattle.ontology.specs.Layout.{axiomsOf, AxiomsHeld, KeysHeld}
+use Rattle.ontology.specs.Layout.{axioms_of, AxiomsHeld, KeysHeld}
 
 -- the counters before the first visit, at the first axiom's line
 abbrev pub begin : Known → ℕ → Counters
-begin d limit = counters 0 limit (length d.concepts) (members d.concepts) 1 (firstFresh d) 0 0 0 (axiomLine d 0) d.header.classes d.header.options
+begin d limit = counters 0 limit (length d.concepts) (members d.concepts) 1 (first_fresh d) 0 0 0 (axiom_line d 0) d.header.classes d.header.options
 
 -- all that is known of a deck, in the words w, with n axioms
 pub record Holds (d : Known) (limit : ℕ) (w : List ℕ) (k : Counters) (n : ℕ) : Type 0 where
   pub counters : k ≡ begin d limit
   pub held : Held w k.concepts k.members
-  pub pool : poolOf w k.concepts ≡ d.concepts
+  pub pool : pool_of w k.concepts ≡ d.concepts
   pub count : n ≡ length d.axioms
   pub lines : AxiomsHeld w n
-  pub axioms : axiomsOf w n ≡ d.axioms
+  pub axioms : axioms_of w n ≡ d.axioms
   pub keys : KeysHeld w d.keys
 
 -- the code's answer beside the reading's

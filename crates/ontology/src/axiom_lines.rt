@@ -1,19 +1,19 @@
 // The axiom lines become axioms: their numbers, one line behind the other.
 ghost use Rattle.std.specs.Prelude.{◌≡◌, ◌+◌, ◌*◌, ◌≤◌, ◌<◌, ℕ, length};
 ghost use Rattle.words.specs.Words.{words};
-ghost use Rattle.ir.specs.Scratch.{axiomsAt, numbersAt, linesAt, stackAt};
-ghost use Rattle.deck.specs.Records.{sum, axiomFields, axiomRowIn, axiomsIn};
-ghost use Rattle.ontology.specs.Layout.{axiomsOf, AxiomsHeld};
-ghost use Rattle.ontology.specs.Lines.{Kept, tableOf, AxiomRead, axiomPut};
+ghost use Rattle.ir.specs.Scratch.{axioms_at, numbers_at, lines_at, stack_at};
+ghost use Rattle.deck.specs.Records.{sum, axiom_fields, axiom_row_in, axioms_in};
+ghost use Rattle.ontology.specs.Layout.{axioms_of, AxiomsHeld};
+ghost use Rattle.ontology.specs.Lines.{Kept, table_of, AxiomRead, axiom_put};
 
 use crate::{lines, row};
 use ir::scratch::{AXIOMS, NUMBERS};
 
 // Axiom line i, whose numbers begin at `at`; where they end.
 fn load_axiom(deck: &[u8], scratch: &mut [u8], i: usize, at: usize) -> usize
-    requires { (4 * stackAt ≤ length scratch.old) × AxiomRead deck.now (tableOf (words scratch.old)) i × (numbersAt + at + axiomFields (tableOf (words scratch.old)) i ≤ linesAt) }
-    ensures value { result ≡ at + axiomFields (tableOf (words scratch.old)) i }
-    ensures scratch_after { words scratch.new ≡ axiomPut (words scratch.old) i at (axiomRowIn deck.now (tableOf (words scratch.old)) i) }
+    requires { (4 * stack_at ≤ length scratch.old) × AxiomRead deck.now (table_of (words scratch.old)) i × (numbers_at + at + axiom_fields (table_of (words scratch.old)) i ≤ lines_at) }
+    ensures value { result ≡ at + axiom_fields (table_of (words scratch.old)) i }
+    ensures scratch_after { words scratch.new ≡ axiom_put (words scratch.old) i at (axiom_row_in deck.now (table_of (words scratch.old)) i) }
 {
     let line = lines::axiom_line(scratch, i);
     let n = line.fields;
@@ -24,10 +24,10 @@ fn load_axiom(deck: &[u8], scratch: &mut [u8], i: usize, at: usize) -> usize
 }
 
 pub fn load_axioms(deck: &[u8], scratch: &mut [u8], axioms: usize)
-    requires { (4 * stackAt ≤ length scratch.old) × ((i : ℕ) → i < axioms → AxiomRead deck.now (tableOf (words scratch.old)) i) × (numbersAt + sum (axiomFields (tableOf (words scratch.old))) axioms ≤ linesAt) }
+    requires { (4 * stack_at ≤ length scratch.old) × ((i : ℕ) → i < axioms → AxiomRead deck.now (table_of (words scratch.old)) i) × (numbers_at + sum (axiom_fields (table_of (words scratch.old))) axioms ≤ lines_at) }
     ensures axioms_held { AxiomsHeld (words scratch.new) axioms }
-    ensures axioms_after { axiomsOf (words scratch.new) axioms ≡ axiomsIn deck.now (tableOf (words scratch.old)) axioms }
-    ensures kept { Kept 0 axiomsAt (words scratch.old) (words scratch.new) }
+    ensures axioms_after { axioms_of (words scratch.new) axioms ≡ axioms_in deck.now (table_of (words scratch.old)) axioms }
+    ensures kept { Kept 0 axioms_at (words scratch.old) (words scratch.new) }
 {
     let mut at: usize = 0;
     let mut i: usize = 0;

@@ -1,8 +1,8 @@
 // The concept lines become the pool's first records.
 ghost use Rattle.std.specs.Prelude.{◌+◌, ◌*◌, ◌≤◌, ◌<◌, ℕ, length};
 ghost use Rattle.words.specs.Words.{words};
-ghost use Rattle.ir.specs.Scratch.{handsAt};
-ghost use Rattle.ontology.specs.Lines.{tableOf, ConceptRead, Pooled};
+ghost use Rattle.ir.specs.Scratch.{hands_at};
+ghost use Rattle.ontology.specs.Lines.{table_of, ConceptRead, Pooled};
 
 use crate::{lines, record, row};
 use ir::counters::Counters;
@@ -11,8 +11,8 @@ use pool::intern;
 
 // Concept line i, behind the i before it.
 fn load_concept(deck: &[u8], scratch: &mut [u8], k: Counters, i: usize) -> Counters
-    requires { (4 * handsAt ≤ length scratch.old) × ConceptRead deck.now (tableOf (words scratch.old)) i × Pooled deck.now (tableOf (words scratch.old)) k i (words scratch.old) (words scratch.old) k }
-    ensures { Pooled deck.now (tableOf (words scratch.old)) k (i + 1) (words scratch.old) (words scratch.new) result }
+    requires { (4 * hands_at ≤ length scratch.old) × ConceptRead deck.now (table_of (words scratch.old)) i × Pooled deck.now (table_of (words scratch.old)) k i (words scratch.old) (words scratch.old) k }
+    ensures { Pooled deck.now (table_of (words scratch.old)) k (i + 1) (words scratch.old) (words scratch.new) result }
 {
     let line = lines::concept_line(scratch, i);
     let n = line.fields;
@@ -23,8 +23,8 @@ fn load_concept(deck: &[u8], scratch: &mut [u8], k: Counters, i: usize) -> Count
 }
 
 pub fn load_concepts(deck: &[u8], scratch: &mut [u8], k: Counters, concepts: usize) -> Counters
-    requires { (4 * handsAt ≤ length scratch.old) × ((i : ℕ) → i < concepts → ConceptRead deck.now (tableOf (words scratch.old)) i) × Pooled deck.now (tableOf (words scratch.old)) k 0 (words scratch.old) (words scratch.old) k }
-    ensures { Pooled deck.now (tableOf (words scratch.old)) k concepts (words scratch.old) (words scratch.new) result }
+    requires { (4 * hands_at ≤ length scratch.old) × ((i : ℕ) → i < concepts → ConceptRead deck.now (table_of (words scratch.old)) i) × Pooled deck.now (table_of (words scratch.old)) k 0 (words scratch.old) (words scratch.old) k }
+    ensures { Pooled deck.now (table_of (words scratch.old)) k concepts (words scratch.old) (words scratch.new) result }
 {
     let mut l = k;
     let mut i: usize = 0;

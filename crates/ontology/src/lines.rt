@@ -1,9 +1,9 @@
 // The reader's table in scratch: where each line of an accepted deck begins and how many numbers it has.
 ghost use Rattle.std.specs.Prelude.{◌≡◌, ◌*◌, ◌≤◌, ◌<◌, length};
 ghost use Rattle.words.specs.Words.{words};
-ghost use Rattle.ir.specs.Scratch.{stackAt};
-ghost use Rattle.rules.specs.Deck.{mostConceptLines, mostAxioms};
-ghost use Rattle.ontology.specs.Lines.{tableOf, conceptLine, axiomLine};
+ghost use Rattle.ir.specs.Scratch.{stack_at};
+ghost use Rattle.rules.specs.Deck.{most_concept_lines, most_axioms};
+ghost use Rattle.ontology.specs.Lines.{table_of, concept_line, axiom_line};
 
 use deck::table;
 
@@ -19,8 +19,8 @@ pub struct Line {
 }
 
 pub fn concept_line(scratch: &[u8], i: usize) -> Line
-    requires { (i < mostConceptLines) × (4 * stackAt ≤ length scratch.now) }
-    ensures { result ≡ conceptLine (tableOf (words scratch.now)) i }
+    requires { (i < most_concept_lines) × (4 * stack_at ≤ length scratch.now) }
+    ensures { result ≡ concept_line (table_of (words scratch.now)) i }
 {
     let begin = table::concept_begin(&scratch[TABLE..TABLE_END], i);
     let fields = table::concept_fields(&scratch[TABLE..TABLE_END], i);
@@ -28,8 +28,8 @@ pub fn concept_line(scratch: &[u8], i: usize) -> Line
 }
 
 pub fn axiom_line(scratch: &[u8], i: usize) -> Line
-    requires { (i < mostAxioms) × (4 * stackAt ≤ length scratch.now) }
-    ensures { result ≡ axiomLine (tableOf (words scratch.now)) i }
+    requires { (i < most_axioms) × (4 * stack_at ≤ length scratch.now) }
+    ensures { result ≡ axiom_line (table_of (words scratch.now)) i }
 {
     let begin = table::axiom_begin(&scratch[TABLE..TABLE_END], i);
     let fields = table::axiom_fields(&scratch[TABLE..TABLE_END], i);

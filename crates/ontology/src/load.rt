@@ -1,9 +1,9 @@
 // The way of a deck's bytes into scratch.
 ghost use Rattle.std.specs.Prelude.{◌≡◌, ◌*◌, ◌≤◌, length};
 ghost use Rattle.words.specs.Words.{words};
-ghost use Rattle.ir.specs.Scratch.{handsAt};
-ghost use Rattle.rules.specs.Deck.{readDeck};
-ghost use Rattle.ontology.specs.Lines.{tableIn, Answered, Accepted, Declared, started};
+ghost use Rattle.ir.specs.Scratch.{hands_at};
+ghost use Rattle.rules.specs.Deck.{read_deck};
+ghost use Rattle.ontology.specs.Lines.{table_in, Answered, Accepted, Declared, started};
 ghost use Rattle.ontology.specs.Loads.{LoadedAs};
 
 use crate::lines::{TABLE, TABLE_END};
@@ -43,8 +43,8 @@ fn begin(st: State, limit: u32) -> Counters
 
 // What the reader kept of a deck becomes records.
 fn load_lines(deck: &[u8], scratch: &mut [u8], st: State, limit: u32) -> Loaded
-    requires { (4 * handsAt ≤ length scratch.old) × Accepted deck.now (tableIn scratch.old) st }
-    ensures { LoadedAs limit (readDeck deck.now) (words scratch.new) result }
+    requires { (4 * hands_at ≤ length scratch.old) × Accepted deck.now (table_in scratch.old) st }
+    ensures { LoadedAs limit (read_deck deck.now) (words scratch.new) result }
 {
     let start = begin(st, limit);
     words::clear_words(scratch, HEADS, POOL - HEADS);
@@ -58,8 +58,8 @@ fn load_lines(deck: &[u8], scratch: &mut [u8], st: State, limit: u32) -> Loaded
 
 // The reader's answer.
 fn load_answer(deck: &[u8], scratch: &mut [u8], answer: Answer, limit: u32) -> Loaded
-    requires { (4 * handsAt ≤ length scratch.old) × Answered deck.now (tableIn scratch.old) answer }
-    ensures { LoadedAs limit (readDeck deck.now) (words scratch.new) result }
+    requires { (4 * hands_at ≤ length scratch.old) × Answered deck.now (table_in scratch.old) answer }
+    ensures { LoadedAs limit (read_deck deck.now) (words scratch.new) result }
 {
     match answer {
         Answer::Accepted(st) => load_lines(deck, scratch, st, limit),
@@ -69,8 +69,8 @@ fn load_answer(deck: &[u8], scratch: &mut [u8], answer: Answer, limit: u32) -> L
 
 // The deck, read and, where it is accepted, in scratch.
 pub fn load(deck: &[u8], scratch: &mut [u8], limit: u32) -> Loaded
-    requires { 4 * handsAt ≤ length scratch.old }
-    ensures { LoadedAs limit (readDeck deck.now) (words scratch.new) result }
+    requires { 4 * hands_at ≤ length scratch.old }
+    ensures { LoadedAs limit (read_deck deck.now) (words scratch.new) result }
 {
     let answer = deck::read(deck, &mut scratch[TABLE..TABLE_END]);
     load_answer(deck, scratch, answer, limit)

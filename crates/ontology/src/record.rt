@@ -1,13 +1,13 @@
 // A concept line's record.
 ghost use Rattle.std.specs.Prelude.{◌≡◌, ◌+◌, ◌*◌, ◌≤◌, ◌<◌, length, get_or};
 ghost use Rattle.words.specs.Words.{words};
-ghost use Rattle.pool.specs.Layout.{recordWords};
-ghost use Rattle.ontology.specs.Lines.{recordFor};
+ghost use Rattle.pool.specs.Layout.{record_words};
+ghost use Rattle.ontology.specs.Lines.{record_for};
 
 use pool::record::Record;
 
 fn record(kind: u32, role: u32, number: u32, child: u32) -> Record
-    ensures { result ≡ recordWords kind role number child }
+    ensures { result ≡ record_words kind role number child }
 {
     Record {
         kind,
@@ -20,7 +20,7 @@ fn record(kind: u32, role: u32, number: u32, child: u32) -> Record
 // Of the line's kind, the three words behind it, and the line's number of numbers.
 fn record_for(kind: u32, a: u32, b: u32, c: u32, n: u32) -> Record
     requires { 0 < n }
-    ensures { result ≡ recordFor kind a b c n }
+    ensures { result ≡ record_for kind a b c n }
 {
     if kind < 3 {
         return record(kind, 0, 0, 0);
@@ -46,7 +46,7 @@ fn record_for(kind: u32, a: u32, b: u32, c: u32, n: u32) -> Record
 // Of the line whose n numbers are the words from `at` on.
 pub fn record_of(scratch: &[u8], at: usize, n: u32) -> Record
     requires { (0 < n) × (4 * (at + 4) ≤ length scratch.now) }
-    ensures { result ≡ recordFor (get_or (words scratch.now) at 0) (get_or (words scratch.now) (at + 1) 0) (get_or (words scratch.now) (at + 2) 0) (get_or (words scratch.now) (at + 3) 0) n }
+    ensures { result ≡ record_for (get_or (words scratch.now) at 0) (get_or (words scratch.now) (at + 1) 0) (get_or (words scratch.now) (at + 2) 0) (get_or (words scratch.now) (at + 3) 0) n }
 {
     let kind = words::get_word(scratch, at);
     let a = words::get_word(scratch, at + 1);

@@ -2,14 +2,14 @@
 ghost use Rattle.std.specs.Prelude.{◌≡◌, ◌+◌, ◌*◌, ◌≤◌, length};
 ghost use Rattle.std.proofs.lemmas.List.Edits.{sets};
 ghost use Rattle.words.specs.Words.{words};
-ghost use Rattle.rules.specs.Text.{mostNumber};
+ghost use Rattle.rules.specs.Text.{most_number};
 ghost use Rattle.rules.specs.Invariants.{Each};
-ghost use Rattle.text.specs.Rows.{rowAt};
+ghost use Rattle.text.specs.Rows.{row_at};
 
 // The n numbers of the line at p become the words from `at` on.
 pub fn put_row(deck: &[u8], p: usize, n: usize, scratch: &mut [u8], at: usize)
-    requires { (p + 11 * n ≤ length deck.now) × (4 * (at + n) ≤ length scratch.old) × Each (λ x. x ≤ mostNumber) (rowAt deck.now p n) }
-    ensures { words scratch.new ≡ sets (words scratch.old) at (rowAt deck.now p n) }
+    requires { (p + 11 * n ≤ length deck.now) × (4 * (at + n) ≤ length scratch.old) × Each (λ x. x ≤ most_number) (row_at deck.now p n) }
+    ensures { words scratch.new ≡ sets (words scratch.old) at (row_at deck.now p n) }
 {
     let mut i: usize = 0;
     while i < n {

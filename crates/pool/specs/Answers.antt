@@ -7,7 +7,7 @@ use Rattle.ir.specs.declared.answer.Answer.TheVariants.{Done, Refused}
 use Rattle.rules.specs.Base.{Res, ok, refused, M}
 use Rattle.rules.specs.Concept.{Concept}
 use Rattle.rules.specs.Pool.{Pool, members}
-use Rattle.pool.specs.Layout.{poolWords, poolOf}
+use Rattle.pool.specs.Layout.{pool_words, pool_of}
 use Rattle.pool.specs.Held.{Held}
 
 -- the counters and the pool
@@ -20,7 +20,7 @@ sized k p = counters k.visits k.limit (length p) (members p) k.next_var k.next_c
 
 -- the code's answer over scratch's words at exit, and a rule's
 abbrev pub after : Answer → List ℕ → Res Drawn ℕ
-after (Done k i) w = ok i (drawn k (poolOf w k.concepts))
+after (Done k i) w = ok i (drawn k (pool_of w k.concepts))
 after (Refused e) w = refused e
 
 abbrev pub shown : Counters → Res Pool ℕ → Res Drawn ℕ
@@ -34,11 +34,11 @@ HeldAfter (Refused e) w = Unit {0}
 
 -- the code did what the rule does
 pub record Interned (k : Counters) (rule : M Pool ℕ) (w w' : List ℕ) (r : Answer) : Type 0 where
-  pub equal : after r w' ≡ shown k (rule (poolOf w k.concepts))
+  pub equal : after r w' ≡ shown k (rule (pool_of w k.concepts))
   pub held : HeldAfter r w'
 
 -- one concept more, of so many list members
 pub record Added (k : Counters) (count : ℕ) (e : Concept) (w w' : List ℕ) : Type 0 where
-  pub pool : poolOf w' (k.concepts + 1) ≡ poolOf w k.concepts ++ (e ∷ [])
+  pub pool : pool_of w' (k.concepts + 1) ≡ pool_of w k.concepts ++ (e ∷ [])
   pub held : Held w' (k.concepts + 1) (k.members + count)
-  pub frame : drop poolWords w' ≡ drop poolWords w
+  pub frame : drop pool_words w' ≡ drop pool_words w

@@ -4,24 +4,24 @@ use Rattle.std.specs.Prelude.{List, [], ◌∷◌, ℕ, zero, suc, ◌+◌, ◌*
 use Rattle.ir.specs.Pick.{pick}
 use Rattle.rules.specs.Concept.{Concept}
 use Rattle.pool.specs.declared.record.Record.{Record}
-use Rattle.pool.specs.Layout.{plain, listed, conceptAt}
+use Rattle.pool.specs.Layout.{plain, listed, concept_at}
 
 abbrev pub mixed : ℕ → ℕ → ℕ
 mixed h x = (31 * h + x) % 2048
 
-unfoldable pub hashBy : ℕ → List ℕ → ℕ
-hashBy h [] = h
-hashBy h (x ∷ l) = hashBy (mixed h x) l
+unfoldable pub hash_by : ℕ → List ℕ → ℕ
+hash_by h [] = h
+hash_by h (x ∷ l) = hash_by (mixed h x) l
 
 -- of a record's four words, and of a concept
-abbrev pub recordHash : Record → ℕ
-recordHash x = mixed (mixed (mixed (mixed 0 x.kind) x.role) x.number) x.child
+abbrev pub record_hash : Record → ℕ
+record_hash x = mixed (mixed (mixed (mixed 0 x.kind) x.role) x.number) x.child
 
-abbrev pub hashOf : Concept → ℕ
-hashOf e = hashBy (recordHash (plain e)) (listed e)
+abbrev pub hash_of : Concept → ℕ
+hash_of e = hash_by (record_hash (plain e)) (listed e)
 
-abbrev pub hashAt : List ℕ → ℕ → ℕ
-hashAt w c = hashOf (conceptAt w c)
+abbrev pub hash_at : List ℕ → ℕ → ℕ
+hash_at w c = hash_of (concept_at w c)
 
 -- one more than the last number below n whose hash is h, or 0
 unfoldable pub last : (ℕ → ℕ) → ℕ → ℕ → ℕ

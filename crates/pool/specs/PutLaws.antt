@@ -7,152 +7,152 @@ use Rattle.std.proofs.Math.ListN.{length}
 use Rattle.std.proofs.lemmas.List.Edits.{sets}
 use Rattle.std.proofs.Math.Seq.{length-sets}
 use Rattle.std.proofs.lemmas.Bool.{eqb-false}
-use Rattle.words.specs.Runs.{getD-sets-after, getD-sets-before, getD-sets-in}
+use Rattle.words.specs.Runs.{get_d_sets_after, get_d_sets_before, get_d_sets_in}
 use Rattle.ir.specs.Pick.{pick}
 use Rattle.rules.specs.Concept.{Concept}
-use Rattle.rules.specs.Pool.{mostConcepts, mostMembers, find, width, members}
-use Rattle.rules.specs.Deck.{partsOf}
+use Rattle.rules.specs.Pool.{most_concepts, most_members, find, width, members}
+use Rattle.rules.specs.Deck.{parts_of}
 use Rattle.rules.specs.Invariants.{Each}
 use Rattle.pool.specs.declared.record.Record.{Record}
-use Rattle.pool.specs.Layout.{poolWords, membersAt, headsAt, tab, run, recordAt, isList, countOf, conceptFrom, conceptAt, poolOf, plain, startsAt, listed, sixOf, conceptPut}
-use Rattle.pool.specs.Index.{hashOf, hashAt, last}
+use Rattle.pool.specs.Layout.{pool_words, members_at, heads_at, tab, run, record_at, is_list, count_of, concept_from, concept_at, pool_of, plain, starts_at, listed, six_of, concept_put}
+use Rattle.pool.specs.Index.{hash_of, hash_at, last}
 use Rattle.pool.specs.Held.{Recorded, Held}
-use Rattle.pool.specs.Tabs.{run-is}
-use Rattle.pool.specs.Shapes.{by-test, plain-back, width-listed, count-plain, from-starts}
-use Rattle.pool.specs.HeldLaws.{pool-snoc, members-next, Same, pool-same, last-kept, recorded-same}
+use Rattle.pool.specs.Tabs.{run_is}
+use Rattle.pool.specs.Shapes.{by_test, plain_back, width_listed, count_plain, from_starts}
+use Rattle.pool.specs.HeldLaws.{pool_snoc, members_next, Same, pool_same, last_kept, recorded_same}
 
 -- a run of stores below a place
-pub drop-sets : (vs l : List ℕ) (i n : ℕ) → i + length vs ≤ n → drop n (sets l i vs) ≡ drop n l
-drop-sets [] l i n h = refl
-drop-sets (a ∷ vs) l i n h = drop-sets vs (set l i a) (suc i) n (omega arith) ∙ drop-set-lt n l i a (omega arith)
+pub drop_sets : (vs l : List ℕ) (i n : ℕ) → i + length vs ≤ n → drop n (sets l i vs) ≡ drop n l
+drop_sets [] l i n h = refl
+drop_sets (a ∷ vs) l i n h = drop_sets vs (set l i a) (suc i) n (omega arith) ∙ drop-set-lt n l i a (omega arith)
 
-last-yes : (H : ℕ → ℕ) (n g : ℕ) → eqb (H n) g ≡ true → suc n ≡ last H (suc n) g
+last_yes : (H : ℕ → ℕ) (n g : ℕ) → eqb (H n) g ≡ true → suc n ≡ last H (suc n) g
 unfolding last
-last-yes H n g a = rw a refl
+last_yes H n g a = rw a refl
 
-last-no : (H : ℕ → ℕ) (n g : ℕ) → eqb (H n) g ≡ false → last H n g ≡ last H (suc n) g
+last_no : (H : ℕ → ℕ) (n g : ℕ) → eqb (H n) g ≡ false → last H n g ≡ last H (suc n) g
 unfolding last
-last-no H n g a = rw a refl
+last_no H n g a = rw a refl
 
-module _ (w : List ℕ) (n m h : ℕ) (e : Concept) (H : Held w n m) (few : n < mostConcepts) (space : m + width e ≤ mostMembers) (small : h < 2048) where
+module _ (w : List ℕ) (n m h : ℕ) (e : Concept) (H : Held w n m) (few : n < most_concepts) (space : m + width e ≤ most_members) (small : h < 2048) where
   abbrev w1 : List ℕ
-  w1 = sets w (membersAt + m) (listed e)
+  w1 = sets w (members_at + m) (listed e)
 
   abbrev w' : List ℕ
-  w' = conceptPut w n m h (plain e) (listed e)
+  w' = concept_put w n m h (plain e) (listed e)
 
   abbrev six : List ℕ
-  six = sixOf (startsAt m (plain e)) (m + countOf (plain e)) (get_or w1 (headsAt + h) 0)
+  six = six_of (starts_at m (plain e)) (m + count_of (plain e)) (get_or w1 (heads_at + h) 0)
 
   long : length w1 ≡ length w
-  long = length-sets w (membersAt + m) (listed e)
+  long = length-sets w (members_at + m) (listed e)
 
   -- words apart from the record and the head are those of w1
-  apart-before : (i : ℕ) → i < 6 * n → get_or w' i 0 ≡ get_or w1 i 0
-  apart-before i l =
-      get_or-set_other (sets w1 (6 * n) six) (headsAt + h) i (n + 1) 0 (λ a. absurd (omega arith))
-      ∙ getD-sets-before six w1 (6 * n) i 0 l
+  apart_before : (i : ℕ) → i < 6 * n → get_or w' i 0 ≡ get_or w1 i 0
+  apart_before i l =
+      get_or-set_other (sets w1 (6 * n) six) (heads_at + h) i (n + 1) 0 (λ a. absurd (omega arith))
+      ∙ get_d_sets_before six w1 (6 * n) i 0 l
 
-  apart-after : (i : ℕ) → membersAt ≤ i → (i ≡ headsAt + h → ⊥) → get_or w' i 0 ≡ get_or w1 i 0
-  apart-after i l d = get_or-set_other (sets w1 (6 * n) six) (headsAt + h) i (n + 1) 0 d ∙ getD-sets-after six w1 (6 * n) i 0 (omega arith)
+  apart_after : (i : ℕ) → members_at ≤ i → (i ≡ heads_at + h → ⊥) → get_or w' i 0 ≡ get_or w1 i 0
+  apart_after i l d = get_or-set_other (sets w1 (6 * n) six) (heads_at + h) i (n + 1) 0 d ∙ get_d_sets_after six w1 (6 * n) i 0 (omega arith)
 
-  record-word : (k : ℕ) → k < 6 → get_or w' (6 * n + k) 0 ≡ get_or six k 0
-  record-word k l =
-      get_or-set_other (sets w1 (6 * n) six) (headsAt + h) (6 * n + k) (n + 1) 0 (λ a. absurd (omega arith))
-      ∙ getD-sets-in six w1 (6 * n) k 0 l (omega (arith, long, H.room))
+  record_word : (k : ℕ) → k < 6 → get_or w' (6 * n + k) 0 ≡ get_or six k 0
+  record_word k l =
+      get_or-set_other (sets w1 (6 * n) six) (heads_at + h) (6 * n + k) (n + 1) 0 (λ a. absurd (omega arith))
+      ∙ get_d_sets_in six w1 (6 * n) k 0 l (omega (arith, long, H.room))
 
-  head-new : get_or w' (headsAt + h) 0 ≡ n + 1
-  head-new = get_or-set_same (sets w1 (6 * n) six) (headsAt + h) (n + 1) 0 (rw (length-sets w1 (6 * n) six, long) (omega (arith, H.room)))
+  head_new : get_or w' (heads_at + h) 0 ≡ n + 1
+  head_new = get_or-set_same (sets w1 (6 * n) six) (heads_at + h) (n + 1) 0 (rw (length-sets w1 (6 * n) six, long) (omega (arith, H.room)))
 
   -- the list
-  low : (i : ℕ) → i < membersAt + m → get_or w1 i 0 ≡ get_or w i 0
-  low i l = getD-sets-before (listed e) w (membersAt + m) i 0 l
+  low : (i : ℕ) → i < members_at + m → get_or w1 i 0 ≡ get_or w i 0
+  low i l = get_d_sets_before (listed e) w (members_at + m) i 0 l
 
-  high : (i : ℕ) → headsAt ≤ i → get_or w1 i 0 ≡ get_or w i 0
-  high i l = getD-sets-after (listed e) w (membersAt + m) i 0 (omega (arith, width-listed e))
+  high : (i : ℕ) → heads_at ≤ i → get_or w1 i 0 ≡ get_or w i 0
+  high i l = get_d_sets_after (listed e) w (members_at + m) i 0 (omega (arith, width_listed e))
 
-  list-word : (i : ℕ) → i < length (listed e) → get_or w' (membersAt + m + i) 0 ≡ get_or (listed e) i 0
-  list-word i l =
-      apart-after (membersAt + m + i) (omega arith) (λ a. absurd (omega (arith, width-listed e)))
-      ∙ getD-sets-in (listed e) w (membersAt + m) i 0 l (omega (arith, width-listed e, H.room))
+  list_word : (i : ℕ) → i < length (listed e) → get_or w' (members_at + m + i) 0 ≡ get_or (listed e) i 0
+  list_word i l =
+      apart_after (members_at + m + i) (omega arith) (λ a. absurd (omega (arith, width_listed e)))
+      ∙ get_d_sets_in (listed e) w (members_at + m) i 0 l (omega (arith, width_listed e, H.room))
 
-  put-same : Same w w' n m
-  put-same = record {
-    records = λ i l. apart-before i l ∙ low i (omega arith);
-    members = λ i l. apart-after (membersAt + i) (omega arith) (λ a. absurd (omega (arith, H.space))) ∙ low (membersAt + i) (omega arith);
+  put_same : Same w w' n m
+  put_same = record {
+    records = λ i l. apart_before i l ∙ low i (omega arith);
+    members = λ i l. apart_after (members_at + i) (omega arith) (λ a. absurd (omega (arith, H.space))) ∙ low (members_at + i) (omega arith);
   }
 
   -- the new record
-  record-new : recordAt w' n ≡ startsAt m (plain e)
-  record-new =
-      let e0 = record-word 0 (omega arith) in
-      let e1 = record-word 1 (omega arith) in
-      let e2 = record-word 2 (omega arith) in
-      let e3 = record-word 3 (omega arith) in
+  record_new : record_at w' n ≡ starts_at m (plain e)
+  record_new =
+      let e0 = record_word 0 (omega arith) in
+      let e1 = record_word 1 (omega arith) in
+      let e2 = record_word 2 (omega arith) in
+      let e3 = record_word 3 (omega arith) in
       rw (e0, e1, e2, e3) refl
 
-  run-new : run w' (membersAt + (startsAt m (plain e)).child) (countOf (plain e)) ≡ listed e
+  run_new : run w' (members_at + (starts_at m (plain e)).child) (count_of (plain e)) ≡ listed e
   unfolding tab
-  run-new =
-      let q : countOf (plain e) ≡ length (listed e) = count-plain e ∙ width-listed e in
-      by-test (isList (plain e).kind)
-      (λ a. let s : (startsAt m (plain e)).child ≡ m = ap (λ (b : Bool). pick b m (plain e).child) a in
-      ap (λ (j : ℕ). run w' (membersAt + j) (countOf (plain e))) s ∙ ap (run w' (membersAt + m)) q ∙ run-is w' (membersAt + m) (listed e) list-word)
+  run_new =
+      let q : count_of (plain e) ≡ length (listed e) = count_plain e ∙ width_listed e in
+      by_test (is_list (plain e).kind)
+      (λ a. let s : (starts_at m (plain e)).child ≡ m = ap (λ (b : Bool). pick b m (plain e).child) a in
+      ap (λ (j : ℕ). run w' (members_at + j) (count_of (plain e))) s ∙ ap (run w' (members_at + m)) q ∙ run_is w' (members_at + m) (listed e) list_word)
       (λ a. rw a refl)
 
-  pub concept-new : conceptAt w' n ≡ e
-  concept-new =
-      ap (λ (x : Record). conceptFrom x (run w' (membersAt + x.child) (countOf x))) record-new
-      ∙ ap (conceptFrom (startsAt m (plain e))) run-new ∙ from-starts m (plain e) (listed e) ∙ plain-back e
+  pub concept_new : concept_at w' n ≡ e
+  concept_new =
+      ap (λ (x : Record). concept_from x (run w' (members_at + x.child) (count_of x))) record_new
+      ∙ ap (concept_from (starts_at m (plain e))) run_new ∙ from_starts m (plain e) (listed e) ∙ plain_back e
 
-  pool-old : poolOf w' n ≡ poolOf w n
-  pool-old = pool-same w w' n m H put-same n (omega arith)
+  pool_old : pool_of w' n ≡ pool_of w n
+  pool_old = pool_same w w' n m H put_same n (omega arith)
 
-  pub pool-put : poolOf w' (suc n) ≡ poolOf w n ++ (e ∷ [])
-  pool-put = pool-snoc w' n ∙ rw (pool-old, concept-new) refl
+  pub pool_put : pool_of w' (suc n) ≡ pool_of w n ++ (e ∷ [])
+  pool_put = pool_snoc w' n ∙ rw (pool_old, concept_new) refl
 
-  members-old : m ≡ members (poolOf w' n)
-  members-old = H.count ∙ ap members (sym pool-old)
+  members_old : m ≡ members (pool_of w' n)
+  members_old = H.count ∙ ap members (sym pool_old)
 
-  members-new : m + width e ≡ members (poolOf w' (suc n))
-  members-new = sym (members-next w' n ∙ rw (← members-old, concept-new) refl)
+  members_new : m + width e ≡ members (pool_of w' (suc n))
+  members_new = sym (members_next w' n ∙ rw (← members_old, concept_new) refl)
 
-  pub frame-put : drop poolWords w' ≡ drop poolWords w
-  frame-put =
-      drop-set-lt poolWords (sets w1 (6 * n) six) (headsAt + h) (n + 1) (omega arith)
-      ∙ drop-sets six w1 (6 * n) poolWords (omega arith)
-      ∙ drop-sets (listed e) w (membersAt + m) poolWords (omega (arith, width-listed e))
+  pub frame_put : drop pool_words w' ≡ drop pool_words w
+  frame_put =
+      drop-set-lt pool_words (sets w1 (6 * n) six) (heads_at + h) (n + 1) (omega arith)
+      ∙ drop_sets six w1 (6 * n) pool_words (omega arith)
+      ∙ drop_sets (listed e) w (members_at + m) pool_words (omega (arith, width_listed e))
 
-  module _ (hash : h ≡ hashOf e) (below : Each (λ d. d < n) (partsOf e)) (new : find e (poolOf w n) ≡ none) where
-    hash-new : h ≡ hashAt w' n
-    hash-new = hash ∙ ap hashOf (sym concept-new)
+  module _ (hash : h ≡ hash_of e) (below : Each (λ d. d < n) (parts_of e)) (new : find e (pool_of w n) ≡ none) where
+    hash_new : h ≡ hash_at w' n
+    hash_new = hash ∙ ap hash_of (sym concept_new)
 
-    last-old : (g : ℕ) → last (hashAt w') n g ≡ last (hashAt w) n g
-    last-old g = last-kept w w' n m H put-same n g (omega arith)
+    last_old : (g : ℕ) → last (hash_at w') n g ≡ last (hash_at w) n g
+    last_old g = last_kept w w' n m H put_same n g (omega arith)
 
-    recorded-new : Recorded w' n
-    recorded-new = record {
-      words = record-new ∙ sym (rw (← members-old, concept-new) refl);
-      used = record-word 4 (omega arith) ∙ ap (λ (k : ℕ). m + k) (count-plain e) ∙ members-new;
-      link = record-word 5 (omega arith) ∙ high (headsAt + h) (omega arith) ∙ H.heads h small ∙ sym (last-old h) ∙ ap (last (hashAt w') n) hash-new;
-      below = rw concept-new below;
-      new = rw (concept-new, pool-old) new;
+    recorded_new : Recorded w' n
+    recorded_new = record {
+      words = record_new ∙ sym (rw (← members_old, concept_new) refl);
+      used = record_word 4 (omega arith) ∙ ap (λ (k : ℕ). m + k) (count_plain e) ∙ members_new;
+      link = record_word 5 (omega arith) ∙ high (heads_at + h) (omega arith) ∙ H.heads h small ∙ sym (last_old h) ∙ ap (last (hash_at w') n) hash_new;
+      below = rw concept_new below;
+      new = rw (concept_new, pool_old) new;
     }
 
-    heads-new : (g : ℕ) → g < 2048 → get_or w' (headsAt + g) 0 ≡ last (hashAt w') (suc n) g
-    heads-new g l = by-test (eqb (hashAt w' n) g)
-        (λ a. let q : g ≡ h = sym (eqb-true (hashAt w' n) g a) ∙ sym hash-new in ap (λ (i : ℕ). get_or w' (headsAt + i) 0) q ∙ head-new ∙ add-one n ∙ last-yes (hashAt w') n g a)
-        (λ a. apart-after (headsAt + g) (omega arith) (λ b. eqb-false (hashAt w' n) g a (let c : h ≡ g = omega arith in sym hash-new ∙ c))
-        ∙ high (headsAt + g) (omega arith) ∙ H.heads g l ∙ sym (last-old g) ∙ last-no (hashAt w') n g a)
+    heads_new : (g : ℕ) → g < 2048 → get_or w' (heads_at + g) 0 ≡ last (hash_at w') (suc n) g
+    heads_new g l = by_test (eqb (hash_at w' n) g)
+        (λ a. let q : g ≡ h = sym (eqb-true (hash_at w' n) g a) ∙ sym hash_new in ap (λ (i : ℕ). get_or w' (heads_at + i) 0) q ∙ head_new ∙ add-one n ∙ last_yes (hash_at w') n g a)
+        (λ a. apart_after (heads_at + g) (omega arith) (λ b. eqb-false (hash_at w' n) g a (let c : h ≡ g = omega arith in sym hash_new ∙ c))
+        ∙ high (heads_at + g) (omega arith) ∙ H.heads g l ∙ sym (last_old g) ∙ last_no (hash_at w') n g a)
 
-    pub held-put : Held w' (suc n) (m + width e)
-    held-put = record {
-      room = rw (length-set (sets w1 (6 * n) six) (headsAt + h) (n + 1), length-sets w1 (6 * n) six, long) H.room;
+    pub held_put : Held w' (suc n) (m + width e)
+    held_put = record {
+      room = rw (length-set (sets w1 (6 * n) six) (heads_at + h) (n + 1), length-sets w1 (6 * n) six, long) H.room;
       few = few;
       space = space;
-      count = members-new;
-      records = λ c l. by-test (ltb c n)
-          (λ a. recorded-same w w' n m H put-same c (ltb-true c n a))
-          (λ a. let b : n ≤ c = ltb-false c n a in let q : n ≡ c = omega arith in subst (λ (i : ℕ). Recorded w' i) q recorded-new);
-      heads = heads-new;
+      count = members_new;
+      records = λ c l. by_test (ltb c n)
+          (λ a. recorded_same w w' n m H put_same c (ltb-true c n a))
+          (λ a. let b : n ≤ c = ltb-false c n a in let q : n ≡ c = omega arith in subst (λ (i : ℕ). Recorded w' i) q recorded_new);
+      heads = heads_new;
     }

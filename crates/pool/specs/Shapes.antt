@@ -2,96 +2,96 @@
 use Rattle.std.specs.Prelude.{◌≡◌, refl, Bool, true, false, List, ℕ, ◌≤◌, length, eqb}
 use Rattle.std.proofs.Common.{sym, ap, ◌∙◌, arith, eqb-true}
 use Rattle.ir.specs.Pick.{pick}
-use Rattle.ir.specs.Roles.{role-code}
+use Rattle.ir.specs.Roles.{role_code_lem}
 use Rattle.rules.specs.Concept.{Concept}
 use Rattle.rules.specs.Concept.{Top, Bot, Atomic, Nominal, SelfRestriction, Not, And, Or, Some, All, Min, Max}
 use Rattle.rules.specs.Pool.{width}
 use Rattle.pool.specs.declared.record.Record.{Record}
-use Rattle.pool.specs.Layout.{recordWords, isList, countOf, conceptFrom, plain, startsAt, listed, tab, run, conceptOver}
+use Rattle.pool.specs.Layout.{record_words, is_list, count_of, concept_from, plain, starts_at, listed, tab, run, concept_over}
 
-pub by-test : {P : Type 0} (b : Bool) → (b ≡ true → P) → (b ≡ false → P) → P
-by-test true f g = f refl
-by-test false f g = g refl
+pub by_test : {P : Type 0} (b : Bool) → (b ≡ true → P) → (b ≡ false → P) → P
+by_test true f g = f refl
+by_test false f g = g refl
 
 -- a concept is made of its record and its list
-pub plain-back : (e : Concept) → conceptFrom (plain e) (listed e) ≡ e
-unfolding conceptFrom
-plain-back Top = refl
-plain-back Bot = refl
-plain-back (Atomic _) = refl
-plain-back (Nominal _) = refl
-plain-back (SelfRestriction r) = rw (role-code r)
-plain-back (Not _) = refl
-plain-back (And _) = refl
-plain-back (Or _) = refl
-plain-back (Some r _) = rw (role-code r)
-plain-back (All r _) = rw (role-code r)
-plain-back (Min _ r _) = rw (role-code r)
-plain-back (Max _ r _) = rw (role-code r)
+pub plain_back : (e : Concept) → concept_from (plain e) (listed e) ≡ e
+unfolding concept_from
+plain_back Top = refl
+plain_back Bot = refl
+plain_back (Atomic _) = refl
+plain_back (Nominal _) = refl
+plain_back (SelfRestriction r) = rw (role_code_lem r)
+plain_back (Not _) = refl
+plain_back (And _) = refl
+plain_back (Or _) = refl
+plain_back (Some r _) = rw (role_code_lem r)
+plain_back (All r _) = rw (role_code_lem r)
+plain_back (Min _ r _) = rw (role_code_lem r)
+plain_back (Max _ r _) = rw (role_code_lem r)
 
-pub width-listed : (e : Concept) → width e ≡ length (listed e)
-width-listed Top = refl
-width-listed Bot = refl
-width-listed (Atomic _) = refl
-width-listed (Nominal _) = refl
-width-listed (SelfRestriction _) = refl
-width-listed (Not _) = refl
-width-listed (And _) = refl
-width-listed (Or _) = refl
-width-listed (Some _ _) = refl
-width-listed (All _ _) = refl
-width-listed (Min _ _ _) = refl
-width-listed (Max _ _ _) = refl
+pub width_listed : (e : Concept) → width e ≡ length (listed e)
+width_listed Top = refl
+width_listed Bot = refl
+width_listed (Atomic _) = refl
+width_listed (Nominal _) = refl
+width_listed (SelfRestriction _) = refl
+width_listed (Not _) = refl
+width_listed (And _) = refl
+width_listed (Or _) = refl
+width_listed (Some _ _) = refl
+width_listed (All _ _) = refl
+width_listed (Min _ _ _) = refl
+width_listed (Max _ _ _) = refl
 
-pub count-plain : (e : Concept) → countOf (plain e) ≡ width e
-count-plain Top = refl
-count-plain Bot = refl
-count-plain (Atomic _) = refl
-count-plain (Nominal _) = refl
-count-plain (SelfRestriction _) = refl
-count-plain (Not _) = refl
-count-plain (And _) = refl
-count-plain (Or _) = refl
-count-plain (Some _ _) = refl
-count-plain (All _ _) = refl
-count-plain (Min _ _ _) = refl
-count-plain (Max _ _ _) = refl
+pub count_plain : (e : Concept) → count_of (plain e) ≡ width e
+count_plain Top = refl
+count_plain Bot = refl
+count_plain (Atomic _) = refl
+count_plain (Nominal _) = refl
+count_plain (SelfRestriction _) = refl
+count_plain (Not _) = refl
+count_plain (And _) = refl
+count_plain (Or _) = refl
+count_plain (Some _ _) = refl
+count_plain (All _ _) = refl
+count_plain (Min _ _ _) = refl
+count_plain (Max _ _ _) = refl
 
-pub plain-kind : (e : Concept) → (1 ≤ (plain e).kind) × ((plain e).kind ≤ 12)
-plain-kind Top = omega arith
-plain-kind Bot = omega arith
-plain-kind (Atomic _) = omega arith
-plain-kind (Nominal _) = omega arith
-plain-kind (SelfRestriction _) = omega arith
-plain-kind (Not _) = omega arith
-plain-kind (And _) = omega arith
-plain-kind (Or _) = omega arith
-plain-kind (Some _ _) = omega arith
-plain-kind (All _ _) = omega arith
-plain-kind (Min _ _ _) = omega arith
-plain-kind (Max _ _ _) = omega arith
+pub plain_kind : (e : Concept) → (1 ≤ (plain e).kind) × ((plain e).kind ≤ 12)
+plain_kind Top = omega arith
+plain_kind Bot = omega arith
+plain_kind (Atomic _) = omega arith
+plain_kind (Nominal _) = omega arith
+plain_kind (SelfRestriction _) = omega arith
+plain_kind (Not _) = omega arith
+plain_kind (And _) = omega arith
+plain_kind (Or _) = omega arith
+plain_kind (Some _ _) = omega arith
+plain_kind (All _ _) = omega arith
+plain_kind (Min _ _ _) = omega arith
+plain_kind (Max _ _ _) = omega arith
 
 -- the two kinds of lists
-pub list-kinds : {P : Type 0} (k : ℕ) → isList k ≡ true → (k ≡ 7 → P) → (k ≡ 8 → P) → P
-list-kinds k h f g = by-test (eqb k 7) (λ a. f (eqb-true k 7 a)) (λ a. g (eqb-true k 8 (sym (rw a refl) ∙ h)))
+pub list_kinds_lem : {P : Type 0} (k : ℕ) → is_list k ≡ true → (k ≡ 7 → P) → (k ≡ 8 → P) → P
+list_kinds_lem k h f g = by_test (eqb k 7) (λ a. f (eqb-true k 7 a)) (λ a. g (eqb-true k 8 (sym (rw a refl) ∙ h)))
 
 -- a list is its own words, wherever its run starts
-pub list-from : (x y : Record) (l : List ℕ) → x.kind ≡ y.kind → isList x.kind ≡ true → conceptFrom x l ≡ conceptFrom y l
-unfolding conceptFrom
-list-from x y l e h = list-kinds x.kind h
+pub list_from : (x y : Record) (l : List ℕ) → x.kind ≡ y.kind → is_list x.kind ≡ true → concept_from x l ≡ concept_from y l
+unfolding concept_from
+list_from x y l e h = list_kinds_lem x.kind h
     (λ a. let b : y.kind ≡ 7 = sym e ∙ a in rw (a, b) refl)
     (λ a. let b : y.kind ≡ 8 = sym e ∙ a in rw (a, b) refl)
 
-pub list-listed : (x : Record) (l : List ℕ) → isList x.kind ≡ true → listed (conceptFrom x l) ≡ l
-unfolding conceptFrom
-list-listed x l h = list-kinds x.kind h (λ a. rw a refl) (λ a. rw a refl)
+pub list_listed : (x : Record) (l : List ℕ) → is_list x.kind ≡ true → listed (concept_from x l) ≡ l
+unfolding concept_from
+list_listed x l h = list_kinds_lem x.kind h (λ a. rw a refl) (λ a. rw a refl)
 
-pub from-starts : (s : ℕ) (x : Record) (l : List ℕ) → conceptFrom (startsAt s x) l ≡ conceptFrom x l
-from-starts s x l = by-test (isList x.kind) (λ a. list-from (startsAt s x) x l refl a)
-    (λ a. ap (λ (c : ℕ). conceptFrom (recordWords x.kind x.role x.number c) l) (ap (λ (b : Bool). pick b s x.child) a))
+pub from_starts : (s : ℕ) (x : Record) (l : List ℕ) → concept_from (starts_at s x) l ≡ concept_from x l
+from_starts s x l = by_test (is_list x.kind) (λ a. list_from (starts_at s x) x l refl a)
+    (λ a. ap (λ (c : ℕ). concept_from (record_words x.kind x.role x.number c) l) (ap (λ (b : Bool). pick b s x.child) a))
 
 -- the list of a concept that was made of plain words
-pub listed-over : (w : List ℕ) (i : ℕ) (x : Record) → plain (conceptOver w i x) ≡ x → listed (conceptOver w i x) ≡ run w i (countOf x)
+pub listed_over : (w : List ℕ) (i : ℕ) (x : Record) → plain (concept_over w i x) ≡ x → listed (concept_over w i x) ≡ run w i (count_of x)
 unfolding tab
-listed-over w i x h = by-test (isList x.kind) (λ a. list-listed x (run w i (countOf x)) a)
-    (λ a. let b : isList (plain (conceptOver w i x)).kind ≡ false = ap (λ (y : Record). isList y.kind) h ∙ a in rw (b, a) refl)
+listed_over w i x h = by_test (is_list x.kind) (λ a. list_listed x (run w i (count_of x)) a)
+    (λ a. let b : is_list (plain (concept_over w i x)).kind ≡ false = ap (λ (y : Record). is_list y.kind) h ∙ a in rw (b, a) refl)

@@ -1,12 +1,12 @@
 // The search for the equal record, by hash.
 ghost use Rattle.std.specs.Prelude.{◌≡◌, ◌+◌, ◌*◌, ◌≤◌, ◌<◌, length};
 ghost use Rattle.words.specs.Words.{words};
-ghost use Rattle.ir.specs.Records.{sameWords};
-ghost use Rattle.rules.specs.Concept.{sameConcept};
+ghost use Rattle.ir.specs.Records.{same_words};
+ghost use Rattle.rules.specs.Concept.{same_concept};
 ghost use Rattle.rules.specs.Pool.{find};
-ghost use Rattle.pool.specs.Layout.{run, countOf, conceptOver, conceptAt, poolOf};
-ghost use Rattle.pool.specs.Index.{mixed, recordHash, hashBy};
-ghost use Rattle.pool.specs.Held.{Ready, Asked, foundOf};
+ghost use Rattle.pool.specs.Layout.{run, count_of, concept_over, concept_at, pool_of};
+ghost use Rattle.pool.specs.Index.{mixed, record_hash, hash_by};
+ghost use Rattle.pool.specs.Held.{Ready, Asked, found_of};
 
 use crate::layout::MEMBERS;
 use crate::record;
@@ -22,7 +22,7 @@ fn mix(h: usize, x: u32) -> usize
 }
 
 fn hash_record(x: Record) -> usize
-    ensures { result ≡ recordHash x }
+    ensures { result ≡ record_hash x }
 {
     let h = mix(mix(0, x.kind), x.role);
     mix(mix(h, x.number), x.child)
@@ -31,7 +31,7 @@ fn hash_record(x: Record) -> usize
 // The hash so far, and the words of a list.
 fn hash_run(scratch: &[u8], start: usize, at: usize, count: u32) -> usize
     requires { (start < 2048) × (4 * (at + count) ≤ length scratch.now) }
-    ensures { (result ≡ hashBy start (run (words scratch.now) at count)) × (result < 2048) }
+    ensures { (result ≡ hash_by start (run (words scratch.now) at count)) × (result < 2048) }
 {
     let n = count as usize;
     let mut h = start;
@@ -45,8 +45,8 @@ fn hash_run(scratch: &[u8], start: usize, at: usize, count: u32) -> usize
 
 // The hash of a record and its list.
 pub fn hash(scratch: &[u8], x: Record, at: usize) -> usize
-    requires { 4 * (at + countOf x) ≤ length scratch.now }
-    ensures { (result ≡ hashBy (recordHash x) (run (words scratch.now) at (countOf x))) × (result < 2048) }
+    requires { 4 * (at + count_of x) ≤ length scratch.now }
+    ensures { (result ≡ hash_by (record_hash x) (run (words scratch.now) at (count_of x))) × (result < 2048) }
 {
     hash_run(scratch, hash_record(x), at, x.count())
 }
@@ -54,7 +54,7 @@ pub fn hash(scratch: &[u8], x: Record, at: usize) -> usize
 // Whether two runs of words are equal.
 fn same_run(scratch: &[u8], a: usize, b: usize, count: u32) -> bool
     requires { (4 * (a + count) ≤ length scratch.now) × (4 * (b + count) ≤ length scratch.now) }
-    ensures { result ≡ sameWords (run (words scratch.now) a count) (run (words scratch.now) b count) }
+    ensures { result ≡ same_words (run (words scratch.now) a count) (run (words scratch.now) b count) }
 {
     let n = count as usize;
     let mut i: usize = 0;
@@ -70,7 +70,7 @@ fn same_run(scratch: &[u8], a: usize, b: usize, count: u32) -> bool
 // Whether concept c is the concept of a record and its list.
 fn same(scratch: &[u8], k: Counters, c: u32, x: Record, at: usize) -> bool
     requires { Ready scratch.now k × Asked scratch.now x at × (c < k.concepts) }
-    ensures { result ≡ sameConcept (conceptOver (words scratch.now) at x) (conceptAt (words scratch.now) c) }
+    ensures { result ≡ same_concept (concept_over (words scratch.now) at x) (concept_at (words scratch.now) c) }
 {
     if record::kind(scratch, c) != x.kind {
         return false;
@@ -98,7 +98,7 @@ pub enum Found {
 // The concept that equals a record and its list.
 pub fn find(scratch: &[u8], k: Counters, x: Record, at: usize) -> Found
     requires { Ready scratch.now k × Asked scratch.now x at }
-    ensures { foundOf result ≡ find (conceptOver (words scratch.now) at x) (poolOf (words scratch.now) k.concepts) }
+    ensures { found_of result ≡ find (concept_over (words scratch.now) at x) (pool_of (words scratch.now) k.concepts) }
 {
     let mut next = record::head(scratch, hash(scratch, x, at));
     while next != 0 {

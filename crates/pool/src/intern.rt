@@ -3,10 +3,10 @@ ghost use Rattle.std.specs.Prelude.{◌≡◌, ◌+◌, ◌*◌, ◌≤◌, ◌<
 ghost use Rattle.std.proofs.Math.Option.{none};
 ghost use Rattle.std.proofs.lemmas.List.Edits.{sets};
 ghost use Rattle.words.specs.Words.{words};
-ghost use Rattle.rules.specs.Pool.{mostConcepts, mostMembers, find, internRaw};
-ghost use Rattle.rules.specs.Deck.{partsOf};
+ghost use Rattle.rules.specs.Pool.{most_concepts, most_members, find, intern_raw};
+ghost use Rattle.rules.specs.Deck.{parts_of};
 ghost use Rattle.rules.specs.Invariants.{Each};
-ghost use Rattle.pool.specs.Layout.{poolWords, poolBytes, countOf, conceptOver, poolOf, sixOf, recordPut};
+ghost use Rattle.pool.specs.Layout.{pool_words, pool_bytes, count_of, concept_over, pool_of, six_of, record_put};
 ghost use Rattle.pool.specs.Held.{Ready, Asked};
 ghost use Rattle.pool.specs.Answers.{Added, Interned};
 
@@ -19,8 +19,8 @@ use ir::counters::Counters;
 
 // The six words of record c.
 fn put_words(scratch: &mut [u8], c: u32, x: Record, used: u32, link: u32)
-    requires { (c < mostConcepts) × (poolBytes ≤ length scratch.old) }
-    ensures { words scratch.new ≡ sets (words scratch.old) (6 * c) (sixOf x used link) }
+    requires { (c < most_concepts) × (pool_bytes ≤ length scratch.old) }
+    ensures { words scratch.new ≡ sets (words scratch.old) (6 * c) (six_of x used link) }
 {
     let at = RECORD * (c as usize);
     words::put_word(scratch, at, x.kind);
@@ -33,8 +33,8 @@ fn put_words(scratch: &mut [u8], c: u32, x: Record, used: u32, link: u32)
 
 // Record c, first in the index under hash h.
 fn put_record(scratch: &mut [u8], c: u32, h: usize, x: Record, used: u32)
-    requires { (c < mostConcepts) × (h < 2048) × (poolBytes ≤ length scratch.old) }
-    ensures { words scratch.new ≡ recordPut (words scratch.old) c h x used }
+    requires { (c < most_concepts) × (h < 2048) × (pool_bytes ≤ length scratch.old) }
+    ensures { words scratch.new ≡ record_put (words scratch.old) c h x used }
 {
     let link = record::head(scratch, h);
     put_words(scratch, c, x, used, link);
@@ -44,10 +44,10 @@ fn put_record(scratch: &mut [u8], c: u32, h: usize, x: Record, used: u32)
 // One concept more, which no record equals.
 pub fn add(scratch: &mut [u8], k: Counters, x: Record, at: usize)
     requires ready { Ready scratch.old k × Asked scratch.old x at }
-    requires concepts_lt_most_concepts { (k.concepts < mostConcepts) × (k.members + countOf x ≤ mostMembers) }
-    requires each { Each (λ d. d < k.concepts) (partsOf (conceptOver (words scratch.old) at x)) }
-    requires concepts_value { find (conceptOver (words scratch.old) at x) (poolOf (words scratch.old) k.concepts) ≡ none }
-    ensures { Added k (countOf x) (conceptOver (words scratch.old) at x) (words scratch.old) (words scratch.new) }
+    requires concepts_lt_most_concepts { (k.concepts < most_concepts) × (k.members + count_of x ≤ most_members) }
+    requires each { Each (λ d. d < k.concepts) (parts_of (concept_over (words scratch.old) at x)) }
+    requires concepts_value { find (concept_over (words scratch.old) at x) (pool_of (words scratch.old) k.concepts) ≡ none }
+    ensures { Added k (count_of x) (concept_over (words scratch.old) at x) (words scratch.old) (words scratch.new) }
 {
     let h = index::hash(scratch, x, at);
     let used = k.members;
@@ -60,10 +60,10 @@ pub fn add(scratch: &mut [u8], k: Counters, x: Record, at: usize)
 // The same, or refusal 11.
 fn intern_new(scratch: &mut [u8], k: Counters, x: Record, at: usize) -> Answer
     requires ready { Ready scratch.old k × Asked scratch.old x at }
-    requires each { Each (λ d. d < k.concepts) (partsOf (conceptOver (words scratch.old) at x)) }
-    requires concepts_value { find (conceptOver (words scratch.old) at x) (poolOf (words scratch.old) k.concepts) ≡ none }
-    ensures interned { Interned k (internRaw (conceptOver (words scratch.old) at x)) (words scratch.old) (words scratch.new) result }
-    ensures scratch_unchanged { drop poolWords (words scratch.new) ≡ drop poolWords (words scratch.old) }
+    requires each { Each (λ d. d < k.concepts) (parts_of (concept_over (words scratch.old) at x)) }
+    requires concepts_value { find (concept_over (words scratch.old) at x) (pool_of (words scratch.old) k.concepts) ≡ none }
+    ensures interned { Interned k (intern_raw (concept_over (words scratch.old) at x)) (words scratch.old) (words scratch.new) result }
+    ensures scratch_unchanged { drop pool_words (words scratch.new) ≡ drop pool_words (words scratch.old) }
 {
     let n = k.concepts;
     let count = x.count();
@@ -80,9 +80,9 @@ fn intern_new(scratch: &mut [u8], k: Counters, x: Record, at: usize) -> Answer
 // The concept of a record and its list, which stands from word `at` on.
 pub fn intern(scratch: &mut [u8], k: Counters, x: Record, at: usize) -> Answer
     requires ready { Ready scratch.old k × Asked scratch.old x at }
-    requires each { Each (λ d. d < k.concepts) (partsOf (conceptOver (words scratch.old) at x)) }
-    ensures interned { Interned k (internRaw (conceptOver (words scratch.old) at x)) (words scratch.old) (words scratch.new) result }
-    ensures scratch_unchanged { drop poolWords (words scratch.new) ≡ drop poolWords (words scratch.old) }
+    requires each { Each (λ d. d < k.concepts) (parts_of (concept_over (words scratch.old) at x)) }
+    ensures interned { Interned k (intern_raw (concept_over (words scratch.old) at x)) (words scratch.old) (words scratch.new) result }
+    ensures scratch_unchanged { drop pool_words (words scratch.new) ≡ drop pool_words (words scratch.old) }
 {
     let found = index::find(scratch, k, x, at);
     match found {

@@ -1,13 +1,13 @@
 // And and Or, of operands flattened, sorted and without repeats.
 ghost use Rattle.std.specs.Prelude.{◌≡◌, false, ◌+◌, ◌*◌, ◌≤◌, ◌<◌, length, drop};
 ghost use Rattle.words.specs.Words.{words};
-ghost use Rattle.rules.specs.Pool.{internRaw, anyAnnihilates, collapsed, mkAnd, mkOr};
+ghost use Rattle.rules.specs.Pool.{intern_raw, any_annihilates, collapsed, mk_and, mk_or};
 ghost use Rattle.rules.specs.Invariants.{Each};
-ghost use Rattle.rules.specs.JointLaws.{listOf, mkJoint};
-ghost use Rattle.pool.specs.Layout.{poolWords, run, poolOf};
+ghost use Rattle.rules.specs.JointLaws.{list_of, mk_joint};
+ghost use Rattle.pool.specs.Layout.{pool_words, run, pool_of};
 ghost use Rattle.pool.specs.Held.{Ready};
 ghost use Rattle.pool.specs.Answers.{Interned};
-ghost use Rattle.pool.specs.Joints.{jointOf, listKind, identityKind, annihilatorKind, identityOf, annihilatorOf, operandIn};
+ghost use Rattle.pool.specs.Joints.{joint_of, list_kind, identity_kind, annihilator_kind, identity_of, annihilator_of, operand_in};
 ghost use Rattle.pool.specs.Marks.{Beside, Operands};
 
 use crate::layout::{AND, MARK_WORDS, OR};
@@ -27,7 +27,7 @@ pub enum Joint {
 impl Joint {
     // The kind of its lists.
     pub fn kind(self) -> u32
-        ensures { result ≡ listKind (jointOf self) }
+        ensures { result ≡ list_kind (joint_of self) }
     {
         match self {
             Joint::And => AND,
@@ -37,7 +37,7 @@ impl Joint {
 
     // The kind of its identity: Top, Bot.
     pub fn identity(self) -> u32
-        ensures { result ≡ identityKind (jointOf self) }
+        ensures { result ≡ identity_kind (joint_of self) }
     {
         match self {
             Joint::And => 1,
@@ -47,7 +47,7 @@ impl Joint {
 
     // The kind that annihilates it: Bot, Top.
     pub fn annihilator(self) -> u32
-        ensures { result ≡ annihilatorKind (jointOf self) }
+        ensures { result ≡ annihilator_kind (joint_of self) }
     {
         match self {
             Joint::And => 2,
@@ -59,8 +59,8 @@ impl Joint {
 // The list of the `count` words from `at` on.
 pub fn intern_list(scratch: &mut [u8], k: Counters, joint: Joint, at: usize, count: u32) -> Answer
     requires { Ready scratch.old k × (4 * (at + count) ≤ length scratch.old) × Each (λ d. d < k.concepts) (run (words scratch.old) at count) }
-    ensures interned { Interned k (internRaw (listOf (jointOf joint) (run (words scratch.old) at count))) (words scratch.old) (words scratch.new) result }
-    ensures scratch_unchanged { drop poolWords (words scratch.new) ≡ drop poolWords (words scratch.old) }
+    ensures interned { Interned k (intern_raw (list_of (joint_of joint) (run (words scratch.old) at count))) (words scratch.old) (words scratch.new) result }
+    ensures scratch_unchanged { drop pool_words (words scratch.new) ≡ drop pool_words (words scratch.old) }
 {
     let kind = joint.kind();
     intern::intern(
@@ -79,8 +79,8 @@ pub fn intern_list(scratch: &mut [u8], k: Counters, joint: Joint, at: usize, cou
 // The list of the words from `at` on: of none the identity, of one that one.
 fn collapse(scratch: &mut [u8], k: Counters, joint: Joint, at: usize, count: u32) -> Answer
     requires { Ready scratch.old k × (4 * (at + count) ≤ length scratch.old) × Each (λ d. d < k.concepts) (run (words scratch.old) at count) }
-    ensures interned { Interned k (collapsed (identityOf (jointOf joint)) (listOf (jointOf joint)) (run (words scratch.old) at count)) (words scratch.old) (words scratch.new) result }
-    ensures scratch_unchanged { drop poolWords (words scratch.new) ≡ drop poolWords (words scratch.old) }
+    ensures interned { Interned k (collapsed (identity_of (joint_of joint)) (list_of (joint_of joint)) (run (words scratch.old) at count)) (words scratch.old) (words scratch.new) result }
+    ensures scratch_unchanged { drop pool_words (words scratch.new) ≡ drop pool_words (words scratch.old) }
 {
     if count == 0 {
         let kind = joint.identity();
@@ -104,8 +104,8 @@ fn collapse(scratch: &mut [u8], k: Counters, joint: Joint, at: usize, count: u32
 // The annihilator.
 fn annihilate(scratch: &mut [u8], k: Counters, joint: Joint) -> Answer
     requires { Ready scratch.old k }
-    ensures interned { Interned k (internRaw (annihilatorOf (jointOf joint))) (words scratch.old) (words scratch.new) result }
-    ensures scratch_unchanged { drop poolWords (words scratch.new) ≡ drop poolWords (words scratch.old) }
+    ensures interned { Interned k (intern_raw (annihilator_of (joint_of joint))) (words scratch.old) (words scratch.new) result }
+    ensures scratch_unchanged { drop pool_words (words scratch.new) ≡ drop pool_words (words scratch.old) }
 {
     let kind = joint.annihilator();
     make::intern_raw(
@@ -130,7 +130,7 @@ fn mk_long(
     count: u32,
 ) -> Answer
     requires { Operands scratch.old k marks at count }
-    ensures interned { Interned k (mkJoint (jointOf joint) (run (words scratch.old) at count)) (words scratch.old) (words scratch.new) result }
+    ensures interned { Interned k (mk_joint (joint_of joint) (run (words scratch.old) at count)) (words scratch.old) (words scratch.new) result }
     ensures beside { Beside marks (words scratch.old) (words scratch.new) }
 {
     let n = k.concepts;
@@ -152,8 +152,8 @@ fn mk_short(
     count: u32,
 ) -> Answer
     requires operands { Operands scratch.old k marks at count }
-    requires count_value { anyAnnihilates (operandIn (jointOf joint) (poolOf (words scratch.old) k.concepts)) (run (words scratch.old) at count) ≡ false }
-    ensures interned { Interned k (mkJoint (jointOf joint) (run (words scratch.old) at count)) (words scratch.old) (words scratch.new) result }
+    requires count_value { any_annihilates (operand_in (joint_of joint) (pool_of (words scratch.old) k.concepts)) (run (words scratch.old) at count) ≡ false }
+    ensures interned { Interned k (mk_joint (joint_of joint) (run (words scratch.old) at count)) (words scratch.old) (words scratch.new) result }
     ensures beside { Beside marks (words scratch.old) (words scratch.new) }
 {
     let first = place::place_all(scratch, k, joint, marks, at, count);
@@ -171,7 +171,7 @@ fn mk_joint(
     count: u32,
 ) -> Answer
     requires { Operands scratch.old k marks at count }
-    ensures interned { Interned k (mkJoint (jointOf joint) (run (words scratch.old) at count)) (words scratch.old) (words scratch.new) result }
+    ensures interned { Interned k (mk_joint (joint_of joint) (run (words scratch.old) at count)) (words scratch.old) (words scratch.new) result }
     ensures beside { Beside marks (words scratch.old) (words scratch.new) }
 {
     let way = place::survey(scratch, k, joint, marks, at, count);
@@ -184,7 +184,7 @@ fn mk_joint(
 
 pub fn mk_and(scratch: &mut [u8], k: Counters, marks: usize, at: usize, count: u32) -> Answer
     requires { Operands scratch.old k marks at count }
-    ensures interned { Interned k (mkAnd (run (words scratch.old) at count)) (words scratch.old) (words scratch.new) result }
+    ensures interned { Interned k (mk_and (run (words scratch.old) at count)) (words scratch.old) (words scratch.new) result }
     ensures beside { Beside marks (words scratch.old) (words scratch.new) }
 {
     mk_joint(scratch, k, Joint::And, marks, at, count)
@@ -192,7 +192,7 @@ pub fn mk_and(scratch: &mut [u8], k: Counters, marks: usize, at: usize, count: u
 
 pub fn mk_or(scratch: &mut [u8], k: Counters, marks: usize, at: usize, count: u32) -> Answer
     requires { Operands scratch.old k marks at count }
-    ensures interned { Interned k (mkOr (run (words scratch.old) at count)) (words scratch.old) (words scratch.new) result }
+    ensures interned { Interned k (mk_or (run (words scratch.old) at count)) (words scratch.old) (words scratch.new) result }
     ensures beside { Beside marks (words scratch.old) (words scratch.new) }
 {
     mk_joint(scratch, k, Joint::Or, marks, at, count)

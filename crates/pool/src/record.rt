@@ -1,8 +1,8 @@
 // A concept's record, six words: kind, role code, number, child, the list members in use after it, and the index's link.
 ghost use Rattle.std.specs.Prelude.{◌≡◌, ◌+◌, ◌≤◌, ◌<◌, length, get_or};
 ghost use Rattle.words.specs.Words.{words};
-ghost use Rattle.rules.specs.Pool.{mostConcepts, mostMembers};
-ghost use Rattle.pool.specs.Layout.{poolBytes, membersAt, headsAt, field, isList, countOf, startsAt};
+ghost use Rattle.rules.specs.Pool.{most_concepts, most_members};
+ghost use Rattle.pool.specs.Layout.{pool_bytes, members_at, heads_at, field, is_list, count_of, starts_at};
 
 use crate::layout::{AND, HEADS, MEMBERS, OR, RECORD};
 
@@ -19,7 +19,7 @@ pub struct Record {
 impl Record {
     // And or Or.
     pub fn is_list(self) -> bool
-        ensures { result ≡ isList self.kind }
+        ensures { result ≡ is_list self.kind }
     {
         let kind = self.kind;
         if kind == AND {
@@ -30,7 +30,7 @@ impl Record {
 
     // How many members its list has.
     pub fn count(self) -> u32
-        ensures { result ≡ countOf self }
+        ensures { result ≡ count_of self }
     {
         if self.is_list() {
             return self.number;
@@ -40,7 +40,7 @@ impl Record {
 
     // With the start of its list's run.
     pub fn starts_at(self, start: u32) -> Record
-        ensures { result ≡ startsAt start self }
+        ensures { result ≡ starts_at start self }
     {
         let kind = self.kind;
         let role = self.role;
@@ -65,7 +65,7 @@ impl Record {
 
 // Word j of concept c's record.
 fn word(scratch: &[u8], c: u32, j: usize) -> u32
-    requires { (c < mostConcepts) × (j < 6) × (poolBytes ≤ length scratch.now) }
+    requires { (c < most_concepts) × (j < 6) × (pool_bytes ≤ length scratch.now) }
     ensures { result ≡ field (words scratch.now) c j }
 {
     let i = RECORD * (c as usize) + j;
@@ -73,28 +73,28 @@ fn word(scratch: &[u8], c: u32, j: usize) -> u32
 }
 
 pub fn kind(scratch: &[u8], c: u32) -> u32
-    requires { (c < mostConcepts) × (poolBytes ≤ length scratch.now) }
+    requires { (c < most_concepts) × (pool_bytes ≤ length scratch.now) }
     ensures { result ≡ field (words scratch.now) c 0 }
 {
     word(scratch, c, 0)
 }
 
 pub fn role(scratch: &[u8], c: u32) -> u32
-    requires { (c < mostConcepts) × (poolBytes ≤ length scratch.now) }
+    requires { (c < most_concepts) × (pool_bytes ≤ length scratch.now) }
     ensures { result ≡ field (words scratch.now) c 1 }
 {
     word(scratch, c, 1)
 }
 
 pub fn number(scratch: &[u8], c: u32) -> u32
-    requires { (c < mostConcepts) × (poolBytes ≤ length scratch.now) }
+    requires { (c < most_concepts) × (pool_bytes ≤ length scratch.now) }
     ensures { result ≡ field (words scratch.now) c 2 }
 {
     word(scratch, c, 2)
 }
 
 pub fn child(scratch: &[u8], c: u32) -> u32
-    requires { (c < mostConcepts) × (poolBytes ≤ length scratch.now) }
+    requires { (c < most_concepts) × (pool_bytes ≤ length scratch.now) }
     ensures { result ≡ field (words scratch.now) c 3 }
 {
     word(scratch, c, 3)
@@ -102,7 +102,7 @@ pub fn child(scratch: &[u8], c: u32) -> u32
 
 // The list members in use after the record.
 pub fn used(scratch: &[u8], c: u32) -> u32
-    requires { (c < mostConcepts) × (poolBytes ≤ length scratch.now) }
+    requires { (c < most_concepts) × (pool_bytes ≤ length scratch.now) }
     ensures { result ≡ field (words scratch.now) c 4 }
 {
     word(scratch, c, 4)
@@ -110,7 +110,7 @@ pub fn used(scratch: &[u8], c: u32) -> u32
 
 // 1 + the record before it with the same hash; 0 where there is none.
 pub fn link(scratch: &[u8], c: u32) -> u32
-    requires { (c < mostConcepts) × (poolBytes ≤ length scratch.now) }
+    requires { (c < most_concepts) × (pool_bytes ≤ length scratch.now) }
     ensures { result ≡ field (words scratch.now) c 5 }
 {
     word(scratch, c, 5)
@@ -118,8 +118,8 @@ pub fn link(scratch: &[u8], c: u32) -> u32
 
 // List member i.
 pub fn member(scratch: &[u8], i: u32) -> u32
-    requires { (i < mostMembers) × (poolBytes ≤ length scratch.now) }
-    ensures { result ≡ get_or (words scratch.now) (membersAt + i) 0 }
+    requires { (i < most_members) × (pool_bytes ≤ length scratch.now) }
+    ensures { result ≡ get_or (words scratch.now) (members_at + i) 0 }
 {
     let at = MEMBERS + i as usize;
     words::get_word(scratch, at)
@@ -127,8 +127,8 @@ pub fn member(scratch: &[u8], i: u32) -> u32
 
 // 1 + the last record with hash h; 0 where there is none.
 pub fn head(scratch: &[u8], h: usize) -> u32
-    requires { (h < mostConcepts) × (poolBytes ≤ length scratch.now) }
-    ensures { result ≡ get_or (words scratch.now) (headsAt + h) 0 }
+    requires { (h < most_concepts) × (pool_bytes ≤ length scratch.now) }
+    ensures { result ≡ get_or (words scratch.now) (heads_at + h) 0 }
 {
     let at = HEADS + h;
     words::get_word(scratch, at)

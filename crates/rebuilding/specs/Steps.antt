@@ -5,50 +5,50 @@ use Rattle.ir.specs.Pick.{pick}
 use Rattle.rules.specs.Base.{M, return}
 use Rattle.rules.specs.Concept.{Concept}
 use Rattle.rules.specs.Concept.{Top, Bot, Atomic, Nominal, SelfRestriction, Not, And, Or, Some, All, Min, Max}
-use Rattle.rules.specs.Pool.{Pool, mkTop, mkBot, mkNot, mkSome, mkAll, mkMin, mkMax, mkAnd, mkOr}
-use Rattle.rules.specs.Deck.{partsOf}
-use Rattle.rules.specs.Normalize.{N, toNnf, pushNegationIn}
+use Rattle.rules.specs.Pool.{Pool, mk_top, mk_bot, mk_not, mk_some, mk_all, mk_min, mk_max, mk_and, mk_or}
+use Rattle.rules.specs.Deck.{parts_of}
+use Rattle.rules.specs.Normalize.{N, to_nnf, push_negation_in}
 
 -- to_nnf, or push_negation_in where the concept is negated
-abbrev pub nnfBy : Bool → ℕ → ℕ → N ℕ
-nnfBy false f c = toNnf f c
-nnfBy true f c = pushNegationIn f c
+abbrev pub nnf_by : Bool → ℕ → ℕ → N ℕ
+nnf_by false f c = to_nnf f c
+nnf_by true f c = push_negation_in f c
 
 -- all that the concept names, but nothing of a negated Min 0
-abbrev pub visitedParts : Bool → Concept → List ℕ
-visitedParts true (Min zero r d) = []
-visitedParts true (Min (suc n) r d) = partsOf (Min (suc n) r d)
-visitedParts true Top = partsOf Top
-visitedParts true Bot = partsOf Bot
-visitedParts true (Atomic a) = partsOf (Atomic a)
-visitedParts true (Nominal i) = partsOf (Nominal i)
-visitedParts true (SelfRestriction r) = partsOf (SelfRestriction r)
-visitedParts true (Not d) = partsOf (Not d)
-visitedParts true (And l) = partsOf (And l)
-visitedParts true (Or l) = partsOf (Or l)
-visitedParts true (Some r d) = partsOf (Some r d)
-visitedParts true (All r d) = partsOf (All r d)
-visitedParts true (Max n r d) = partsOf (Max n r d)
-visitedParts false e = partsOf e
+abbrev pub visited_parts : Bool → Concept → List ℕ
+visited_parts true (Min zero r d) = []
+visited_parts true (Min (suc n) r d) = parts_of (Min (suc n) r d)
+visited_parts true Top = parts_of Top
+visited_parts true Bot = parts_of Bot
+visited_parts true (Atomic a) = parts_of (Atomic a)
+visited_parts true (Nominal i) = parts_of (Nominal i)
+visited_parts true (SelfRestriction r) = parts_of (SelfRestriction r)
+visited_parts true (Not d) = parts_of (Not d)
+visited_parts true (And l) = parts_of (And l)
+visited_parts true (Or l) = parts_of (Or l)
+visited_parts true (Some r d) = parts_of (Some r d)
+visited_parts true (All r d) = parts_of (All r d)
+visited_parts true (Max n r d) = parts_of (Max n r d)
+visited_parts false e = parts_of e
 
 -- whether a part is negated
-abbrev pub partNegated : Bool → Concept → Bool
-partNegated b Top = b
-partNegated b Bot = b
-partNegated b (Atomic _) = b
-partNegated b (Nominal _) = b
-partNegated b (SelfRestriction _) = b
-partNegated b (Not _) = not b
-partNegated b (And _) = b
-partNegated b (Or _) = b
-partNegated b (Some _ _) = b
-partNegated b (All _ _) = b
-partNegated b (Min _ _ _) = false
-partNegated b (Max _ _ _) = false
+abbrev pub part_negated : Bool → Concept → Bool
+part_negated b Top = b
+part_negated b Bot = b
+part_negated b (Atomic _) = b
+part_negated b (Nominal _) = b
+part_negated b (SelfRestriction _) = b
+part_negated b (Not _) = not b
+part_negated b (And _) = b
+part_negated b (Or _) = b
+part_negated b (Some _ _) = b
+part_negated b (All _ _) = b
+part_negated b (Min _ _ _) = false
+part_negated b (Max _ _ _) = false
 
 -- whether a record that is no list has a part that is visited
-abbrev pub hasPart : ℕ → ℕ → Bool → Bool
-hasPart kind number b = pick (ltb kind 6) false (pick (eqb kind 11) (pick b (not (eqb number 0)) true) true)
+abbrev pub has_part : ℕ → ℕ → Bool → Bool
+has_part kind number b = pick (ltb kind 6) false (pick (eqb kind 11) (pick b (not (eqb number 0)) true) true)
 
 abbrev pub first : List ℕ → ℕ
 first l = get_or l 0 0
@@ -61,22 +61,22 @@ rebuilt false c (Atomic _) l = return c
 rebuilt false c (Nominal _) l = return c
 rebuilt false c (SelfRestriction _) l = return c
 rebuilt false c (Not d) l = return (first l)
-rebuilt false c (And _) l = mkAnd l
-rebuilt false c (Or _) l = mkOr l
-rebuilt false c (Some r d) l = mkSome r (first l)
-rebuilt false c (All r d) l = mkAll r (first l)
-rebuilt false c (Min n r d) l = mkMin n r (first l)
-rebuilt false c (Max n r d) l = mkMax n r (first l)
-rebuilt true c Top l = mkBot
-rebuilt true c Bot l = mkTop
-rebuilt true c (Atomic _) l = mkNot c
-rebuilt true c (Nominal _) l = mkNot c
-rebuilt true c (SelfRestriction _) l = mkNot c
+rebuilt false c (And _) l = mk_and l
+rebuilt false c (Or _) l = mk_or l
+rebuilt false c (Some r d) l = mk_some r (first l)
+rebuilt false c (All r d) l = mk_all r (first l)
+rebuilt false c (Min n r d) l = mk_min n r (first l)
+rebuilt false c (Max n r d) l = mk_max n r (first l)
+rebuilt true c Top l = mk_bot
+rebuilt true c Bot l = mk_top
+rebuilt true c (Atomic _) l = mk_not c
+rebuilt true c (Nominal _) l = mk_not c
+rebuilt true c (SelfRestriction _) l = mk_not c
 rebuilt true c (Not d) l = return (first l)
-rebuilt true c (And _) l = mkOr l
-rebuilt true c (Or _) l = mkAnd l
-rebuilt true c (Some r d) l = mkAll r (first l)
-rebuilt true c (All r d) l = mkSome r (first l)
-rebuilt true c (Min zero r d) l = mkBot
-rebuilt true c (Min (suc n) r d) l = mkMax n r (first l)
-rebuilt true c (Max n r d) l = mkMin (suc n) r (first l)
+rebuilt true c (And _) l = mk_or l
+rebuilt true c (Or _) l = mk_and l
+rebuilt true c (Some r d) l = mk_all r (first l)
+rebuilt true c (All r d) l = mk_some r (first l)
+rebuilt true c (Min zero r d) l = mk_bot
+rebuilt true c (Min (suc n) r d) l = mk_max n r (first l)
+rebuilt true c (Max n r d) l = mk_min (suc n) r (first l)

@@ -2,9 +2,9 @@
 ghost use Rattle.std.specs.Prelude.{◌≡◌, ◌<◌, length};
 ghost use Rattle.std.proofs.lemmas.List.Edits.{sets};
 ghost use Rattle.words.specs.Words.{words};
-ghost use Rattle.pool.specs.Layout.{isList, conceptAt};
+ghost use Rattle.pool.specs.Layout.{is_list, concept_at};
 ghost use Rattle.pool.specs.Held.{Ready};
-ghost use Rattle.rebuilding.specs.Steps.{visitedParts, partNegated, hasPart};
+ghost use Rattle.rebuilding.specs.Steps.{visited_parts, part_negated, has_part};
 ghost use Rattle.rebuilding.specs.States.{Normalizing};
 
 use ir::counters::Counters;
@@ -13,7 +13,7 @@ use pool::record;
 
 // And or Or.
 pub fn is_list(kind: u32) -> bool
-    ensures { result ≡ isList kind }
+    ensures { result ≡ is_list kind }
 {
     if kind == 7 {
         return true;
@@ -23,7 +23,7 @@ pub fn is_list(kind: u32) -> bool
 
 // Whether a concept that is no list has a part that is visited: nothing of a negated Min 0 is.
 fn has_part(kind: u32, number: u32, negated: bool) -> bool
-    ensures { result ≡ hasPart kind number negated }
+    ensures { result ≡ has_part kind number negated }
 {
     if kind < 6 {
         return false;
@@ -40,8 +40,8 @@ fn has_part(kind: u32, number: u32, negated: bool) -> bool
 // The visited parts of concept c become the words from `top` on; how many.
 pub fn put_parts(scratch: &mut [u8], k: Counters, top: usize, c: u32, negated: bool) -> u32
     requires { Normalizing scratch.old k top c }
-    ensures value { result ≡ length (visitedParts negated (conceptAt (words scratch.old) c)) }
-    ensures scratch_after { words scratch.new ≡ sets (words scratch.old) top (visitedParts negated (conceptAt (words scratch.old) c)) }
+    ensures value { result ≡ length (visited_parts negated (concept_at (words scratch.old) c)) }
+    ensures scratch_after { words scratch.new ≡ sets (words scratch.old) top (visited_parts negated (concept_at (words scratch.old) c)) }
 {
     let kind = record::kind(scratch, c);
     let number = record::number(scratch, c);
@@ -60,7 +60,7 @@ pub fn put_parts(scratch: &mut [u8], k: Counters, top: usize, c: u32, negated: b
 // Whether the parts of concept c are negated.
 pub fn part_negated(scratch: &[u8], k: Counters, c: u32, negated: bool) -> bool
     requires { Ready scratch.now k × (c < k.concepts) }
-    ensures { result ≡ partNegated negated (conceptAt (words scratch.now) c) }
+    ensures { result ≡ part_negated negated (concept_at (words scratch.now) c) }
 {
     let kind = record::kind(scratch, c);
     if kind == 6 {

@@ -3,47 +3,47 @@ use Rattle.std.specs.Prelude.{◌≡◌, refl, List, [], ◌∷◌, ℕ, zero, s
 use Rattle.std.proofs.Common.{sym, ap, ◌∙◌, arith, eqb-true}
 use Rattle.std.proofs.Math.Option.{some}
 use Rattle.std.proofs.lemmas.Bool.{eqb-false}
-use Rattle.ir.specs.Scratch.{rolesAt}
-use Rattle.ir.specs.Roles.{roleId, roleCode, roleOf, code-role, flip-id}
+use Rattle.ir.specs.Scratch.{roles_at}
+use Rattle.ir.specs.Roles.{role_id, role_code, role_of, code_role, flip_id}
 use Rattle.ir.specs.declared.role.Role.{Role}
 use Rattle.ir.specs.declared.role.Role.TheVariants.{Named, Inverse}
-use Rattle.rules.specs.Deck.{mostRoles}
-use Rattle.rules.specs.Inverse.{InverseCanon, lookup, canonOf, canonRole}
-use Rattle.rules.specs.TextLaws.{by-test}
+use Rattle.rules.specs.Deck.{most_roles}
+use Rattle.rules.specs.Inverse.{InverseCanon, lookup, canon_of, canon_role}
+use Rattle.rules.specs.TextLaws.{by_test}
 use Rattle.inverse.specs.Layout.{RolesHeld}
-use Rattle.inverse.specs.Laws.{even-named, odd-inverse, canon-inverse}
-use Rattle.reflexive.specs.Steps.{idAt}
+use Rattle.inverse.specs.Laws.{even_named, odd_inverse, canon_inverse}
+use Rattle.reflexive.specs.Steps.{id_at}
 
-code-id : (r : Role) → roleCode r / 2 ≡ roleId r
-code-id (Named i) = omega arith
-code-id (Inverse i) = omega arith
+code_id : (r : Role) → role_code r / 2 ≡ role_id r
+code_id (Named i) = omega arith
+code_id (Inverse i) = omega arith
 
-pub mapped-id : (w : List ℕ) (m : InverseCanon) (c : ℕ) → RolesHeld w m → c < 2 * mostRoles → roleId (canonRole m (roleOf c)) ≡ idAt w c
-mapped-id w m c H h = by-test (eqb (c % 2) 0)
-    (λ e. ap (λ (r : Role). roleId (canonRole m r)) (even-named c (eqb-true (c % 2) 0 e)) ∙ named)
-    (λ e. ap (λ (r : Role). roleId (canonRole m r)) (odd-inverse c (eqb-false (c % 2) 0 e)) ∙ ap roleId (canon-inverse m (c / 2)) ∙ flip-id (canonRole m (Named (c / 2))) ∙ named)
+pub mapped_id : (w : List ℕ) (m : InverseCanon) (c : ℕ) → RolesHeld w m → c < 2 * most_roles → role_id (canon_role m (role_of c)) ≡ id_at w c
+mapped_id w m c H h = by_test (eqb (c % 2) 0)
+    (λ e. ap (λ (r : Role). role_id (canon_role m r)) (even_named c (eqb-true (c % 2) 0 e)) ∙ named)
+    (λ e. ap (λ (r : Role). role_id (canon_role m r)) (odd_inverse c (eqb-false (c % 2) 0 e)) ∙ ap role_id (canon_inverse m (c / 2)) ∙ flip_id (canon_role m (Named (c / 2))) ∙ named)
   where
-    named : roleId (canonRole m (Named (c / 2))) ≡ idAt w c
-    named = sym (code-id (canonRole m (Named (c / 2)))) ∙ ap (λ (x : ℕ). x / 2) (sym (H.mapped (c / 2) (omega arith)))
+    named : role_id (canon_role m (Named (c / 2))) ≡ id_at w c
+    named = sym (code_id (canon_role m (Named (c / 2)))) ∙ ap (λ (x : ℕ). x / 2) (sym (H.mapped (c / 2) (omega arith)))
 
 -- the map that any words hold
-ownMap : List ℕ → ℕ → InverseCanon
-ownMap w zero = []
-ownMap w (suc n) = record { key = n; value = roleOf (get_or w (rolesAt + n) 0) } ∷ ownMap w n
+own_map : List ℕ → ℕ → InverseCanon
+own_map w zero = []
+own_map w (suc n) = record { key = n; value = role_of (get_or w (roles_at + n) 0) } ∷ own_map w n
 
-own-lookup : (w : List ℕ) (n r : ℕ) → r < n → lookup (ownMap w n) r ≡ some (roleOf (get_or w (rolesAt + r) 0))
-unfolding ownMap lookup
-own-lookup w zero r h = absurd (omega arith)
-own-lookup w (suc n) r h = by-test (eqb n r)
+own_lookup : (w : List ℕ) (n r : ℕ) → r < n → lookup (own_map w n) r ≡ some (role_of (get_or w (roles_at + r) 0))
+unfolding own_map lookup
+own_lookup w zero r h = absurd (omega arith)
+own_lookup w (suc n) r h = by_test (eqb n r)
     (λ e. rw (e, eqb-true n r e) refl)
-    (λ e. rw e (own-lookup w n r (omega (arith, eqb-false n r e))))
+    (λ e. rw e (own_lookup w n r (omega (arith, eqb-false n r e))))
 
-own-held : (w : List ℕ) → RolesHeld w (ownMap w mostRoles)
-unfolding canonRole
-own-held w = record { mapped = λ r l. sym (ap (λ o. roleCode (canonOf (Named r) o)) (own-lookup w mostRoles r l) ∙ code-role (get_or w (rolesAt + r) 0)) }
+own_held : (w : List ℕ) → RolesHeld w (own_map w most_roles)
+unfolding canon_role
+own_held w = record { mapped = λ r l. sym (ap (λ o. role_code (canon_of (Named r) o)) (own_lookup w most_roles r l) ∙ code_role (get_or w (roles_at + r) 0)) }
 
 -- what canon_role answers, halved
-pub half-id : (w : List ℕ) (c x : ℕ) → c < 2 * mostRoles → ((m : InverseCanon) → RolesHeld w m → x ≡ roleCode (canonRole m (roleOf c))) → x / 2 ≡ idAt w c
-half-id w c x h f =
-    let m = ownMap w mostRoles in
-    ap (λ (n : ℕ). n / 2) (f m (own-held w)) ∙ code-id (canonRole m (roleOf c)) ∙ mapped-id w m c (own-held w) h
+pub half_id : (w : List ℕ) (c x : ℕ) → c < 2 * most_roles → ((m : InverseCanon) → RolesHeld w m → x ≡ role_code (canon_role m (role_of c))) → x / 2 ≡ id_at w c
+half_id w c x h f =
+    let m = own_map w most_roles in
+    ap (λ (n : ℕ). n / 2) (f m (own_held w)) ∙ code_id (canon_role m (role_of c)) ∙ mapped_id w m c (own_held w) h

@@ -1,14 +1,14 @@
 // reflexive_role_ids: by mapped ids, a flag for each role behind the role map.
 ghost use Rattle.std.specs.Prelude.{◌≡◌, [], ℕ, ◌*◌, ◌≤◌, ◌<◌, length};
 ghost use Rattle.words.specs.Words.{words};
-ghost use Rattle.ir.specs.Scratch.{alternativesAt};
-ghost use Rattle.rules.specs.Deck.{mostRoles};
+ghost use Rattle.ir.specs.Scratch.{alternatives_at};
+ghost use Rattle.rules.specs.Deck.{most_roles};
 ghost use Rattle.rules.specs.State.{Env};
-ghost use Rattle.rules.specs.Reflexive.{reflexiveRoleIds};
-ghost use Rattle.ontology.specs.Layout.{axiomsOf};
+ghost use Rattle.rules.specs.Reflexive.{reflexive_role_ids};
+ghost use Rattle.ontology.specs.Layout.{axioms_of};
 ghost use Rattle.inverse.specs.Layout.{RolesHeld, Building};
 ghost use Rattle.reflexive.specs.Flags.{FlagsHeld, MapWithin, OnlyFlags};
-ghost use Rattle.reflexive.specs.Steps.{idAt, insertion, edge, edgesTo, edgesAcross, axiomEdges, axiomsEdges, declaredIds, Ready, Codes, HasAxiom, Step, Begun};
+ghost use Rattle.reflexive.specs.Steps.{id_at, insertion, edge, edges_to, edges_across, axiom_edges, axioms_edges, declared_ids, Ready, Codes, HasAxiom, Step, Begun};
 
 use ir::scratch::{NUMBERS, ROLES};
 use ontology::axiom;
@@ -17,15 +17,15 @@ pub const FLAGS: usize = ROLES + 1024;
 
 // The id that a role's code is mapped to.
 fn canon_id(scratch: &[u8], code: u32) -> u32
-    requires { (code < 2 * mostRoles) × (4 * alternativesAt ≤ length scratch.now) }
-    ensures { result ≡ idAt (words scratch.now) code }
+    requires { (code < 2 * most_roles) × (4 * alternatives_at ≤ length scratch.now) }
+    ensures { result ≡ id_at (words scratch.now) code }
 {
     inverse::canon_role(scratch, code) / 2
 }
 
 // Adds an id to a set of so many; how many there are then.
 fn insert(scratch: &mut [u8], id: u32, size: u32) -> u32
-    requires { Ready scratch.old size × (id < mostRoles) }
+    requires { Ready scratch.old size × (id < most_roles) }
     ensures { Step (words scratch.old) (words scratch.new) size result (insertion id) }
 {
     if words::get_word(scratch, FLAGS + id as usize) != 0 {
@@ -38,7 +38,7 @@ fn insert(scratch: &mut [u8], id: u32, size: u32) -> u32
 // The roles declared reflexive.
 fn declared(scratch: &mut [u8], n: u32) -> u32
     requires { Building scratch.old n × MapWithin (words scratch.old) }
-    ensures { Begun (words scratch.old) (words scratch.new) result (λ env. declaredIds (words scratch.old) n env []) }
+    ensures { Begun (words scratch.old) (words scratch.new) result (λ env. declared_ids (words scratch.old) n env []) }
 {
     words::clear_words(scratch, FLAGS, 1024);
     let mut size: u32 = 0;
@@ -55,7 +55,7 @@ fn declared(scratch: &mut [u8], n: u32) -> u32
 
 // An edge: where a is in the set, so is b.
 fn along(scratch: &mut [u8], a: u32, b: u32, size: u32) -> u32
-    requires { Ready scratch.old size × (a < mostRoles) × (b < mostRoles) }
+    requires { Ready scratch.old size × (a < most_roles) × (b < most_roles) }
     ensures { Step (words scratch.old) (words scratch.new) size result (edge a b) }
 {
     if words::get_word(scratch, FLAGS + a as usize) == 0 {
@@ -66,8 +66,8 @@ fn along(scratch: &mut [u8], a: u32, b: u32, size: u32) -> u32
 
 // The edges from role a to each other of the `count` role codes from `at` on.
 fn edges_from(scratch: &mut [u8], a: u32, at: usize, count: u32, size: u32) -> u32
-    requires { Ready scratch.old size × (a < mostRoles) × Codes (words scratch.old) at count }
-    ensures { Step (words scratch.old) (words scratch.new) size result (edgesTo (words scratch.old) a at count) }
+    requires { Ready scratch.old size × (a < most_roles) × Codes (words scratch.old) at count }
+    ensures { Step (words scratch.old) (words scratch.new) size result (edges_to (words scratch.old) a at count) }
 {
     let mut s = size;
     let mut j: u32 = 0;
@@ -84,7 +84,7 @@ fn edges_from(scratch: &mut [u8], a: u32, at: usize, count: u32, size: u32) -> u
 // The edges of an equivalence.
 fn edges_among(scratch: &mut [u8], at: usize, count: u32, size: u32) -> u32
     requires { Ready scratch.old size × Codes (words scratch.old) at count }
-    ensures { Step (words scratch.old) (words scratch.new) size result (edgesAcross (words scratch.old) at count count) }
+    ensures { Step (words scratch.old) (words scratch.new) size result (edges_across (words scratch.old) at count count) }
 {
     let mut s = size;
     let mut i: u32 = 0;
@@ -99,7 +99,7 @@ fn edges_among(scratch: &mut [u8], at: usize, count: u32, size: u32) -> u32
 // The edges of axiom i.
 fn edges_of(scratch: &mut [u8], i: u32, size: u32) -> u32
     requires { Ready scratch.old size × HasAxiom scratch.old i }
-    ensures { Step (words scratch.old) (words scratch.new) size result (axiomEdges (words scratch.old) i) }
+    ensures { Step (words scratch.old) (words scratch.new) size result (axiom_edges (words scratch.old) i) }
 {
     match axiom::number(scratch, i, 0) {
         33 => {
@@ -118,7 +118,7 @@ fn edges_of(scratch: &mut [u8], i: u32, size: u32) -> u32
 // One round over the edges of n axioms.
 fn round(scratch: &mut [u8], n: u32, size: u32) -> u32
     requires { Ready scratch.old size × Building scratch.old n }
-    ensures { Step (words scratch.old) (words scratch.new) size result (axiomsEdges (words scratch.old) n) }
+    ensures { Step (words scratch.old) (words scratch.new) size result (axioms_edges (words scratch.old) n) }
 {
     let mut s = size;
     let mut i: u32 = 0;
@@ -132,7 +132,7 @@ fn round(scratch: &mut [u8], n: u32, size: u32) -> u32
 // Of the n axioms in scratch; how many there are.
 pub fn reflexive_role_ids(scratch: &mut [u8], n: u32) -> u32
     requires { Building scratch.old n × MapWithin (words scratch.old) }
-    ensures flags_held { (env : Env) → RolesHeld (words scratch.old) env.inverseCanon → FlagsHeld (words scratch.new) (reflexiveRoleIds env (axiomsOf (words scratch.old) n)) × (result ≡ length (reflexiveRoleIds env (axiomsOf (words scratch.old) n))) }
+    ensures flags_held { (env : Env) → RolesHeld (words scratch.old) env.inverse_canon → FlagsHeld (words scratch.new) (reflexive_role_ids env (axioms_of (words scratch.old) n)) × (result ≡ length (reflexive_role_ids env (axioms_of (words scratch.old) n))) }
     ensures only_flags { OnlyFlags (words scratch.old) (words scratch.new) }
 {
     let mut size = declared(scratch, n);

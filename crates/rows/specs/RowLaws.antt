@@ -7,40 +7,40 @@ use native.Mathlib.Omega.{arith}
 use Rattle.std.proofs.lemmas.List.{length-replicate}
 use Rattle.std.proofs.lemmas.List.Edits.{sets}
 use Rattle.std.proofs.Math.Seq.{length-sets}
-use Rattle.words.specs.Runs.{sets-append, sets-cons, sets-snoc}
-use Rattle.rules.specs.Lister.{decimalBy, decimal, fieldText, fieldsText}
-use Rattle.rules.specs.PrintLaws.{length-decimal}
-use Rattle.rows.specs.Rows.{columnsText, Put, textsOf, textsLeft}
+use Rattle.words.specs.Runs.{sets_append, sets_cons, sets_snoc}
+use Rattle.rules.specs.Lister.{decimal_by, decimal, field_text, fields_text}
+use Rattle.rules.specs.PrintLaws.{length_decimal}
+use Rattle.rows.specs.Rows.{columns_text, Put, texts_of, texts_left}
 
-pub line-text : (l : List ℕ) → fieldsText l ≡ columnsText l ++ (10 ∷ [])
-unfolding fieldsText columnsText
-line-text [] = refl
-line-text (n ∷ l) = ap (λ (t : List ℕ). fieldText n ++ t) (line-text l) ∙ sym (append_assoc (fieldText n) (columnsText l) (10 ∷ []))
+pub line_text : (l : List ℕ) → fields_text l ≡ columns_text l ++ (10 ∷ [])
+unfolding fields_text columns_text
+line_text [] = refl
+line_text (n ∷ l) = ap (λ (t : List ℕ). field_text n ++ t) (line_text l) ∙ sym (append_assoc (field_text n) (columns_text l) (10 ∷ []))
 
-pub columns-append : (l m : List ℕ) → columnsText (l ++ m) ≡ columnsText l ++ columnsText m
-unfolding columnsText
-columns-append [] m = refl
-columns-append (n ∷ l) m = ap (λ (t : List ℕ). fieldText n ++ t) (columns-append l m) ∙ sym (append_assoc (fieldText n) (columnsText l) (columnsText m))
+pub columns_append : (l m : List ℕ) → columns_text (l ++ m) ≡ columns_text l ++ columns_text m
+unfolding columns_text
+columns_append [] m = refl
+columns_append (n ∷ l) m = ap (λ (t : List ℕ). field_text n ++ t) (columns_append l m) ∙ sym (append_assoc (field_text n) (columns_text l) (columns_text m))
 
 -- ---- a text behind another
 module _ {A : Type 0} where
-  set-twice : (l : List A) (i : ℕ) (x y : A) → set (set l i x) i y ≡ set l i y
-  set-twice [] i x y = refl
-  set-twice (z ∷ l) zero x y = refl
-  set-twice (z ∷ l) (suc i) x y = ap (λ (t : List A). z ∷ t) (set-twice l i x y)
+  set_twice : (l : List A) (i : ℕ) (x y : A) → set (set l i x) i y ≡ set l i y
+  set_twice [] i x y = refl
+  set_twice (z ∷ l) zero x y = refl
+  set_twice (z ∷ l) (suc i) x y = ap (λ (t : List A). z ∷ t) (set_twice l i x y)
 
   -- one of them is written again
-  pub set-within : (xs ys l : List A) (i : ℕ) (x y : A) → set (sets l i (xs ++ (x ∷ ys))) (i + length xs) y ≡ sets l i (xs ++ (y ∷ ys))
-  set-within [] ys l i x y = let e : i + 0 ≡ i = omega arith in rw e (sets-cons ys (set l i x) i (suc i) y (omega arith) ∙ ap (λ (t : List A). sets t (suc i) ys) (set-twice l i x y))
-  set-within (v ∷ xs) ys l i x y = let e : i + suc (length xs) ≡ suc i + length xs = omega arith in rw e (set-within xs ys (set l i v) (suc i) x y)
+  pub set_within : (xs ys l : List A) (i : ℕ) (x y : A) → set (sets l i (xs ++ (x ∷ ys))) (i + length xs) y ≡ sets l i (xs ++ (y ∷ ys))
+  set_within [] ys l i x y = let e : i + 0 ≡ i = omega arith in rw e (sets_cons ys (set l i x) i (suc i) y (omega arith) ∙ ap (λ (t : List A). sets t (suc i) ys) (set_twice l i x y))
+  set_within (v ∷ xs) ys l i x y = let e : i + suc (length xs) ≡ suc i + length xs = omega arith in rw e (set_within xs ys (set l i v) (suc i) x y)
 
   -- all of them are
-  pub sets-over : (xs ys l : List A) (i : ℕ) → length xs ≤ length ys → sets (sets l i xs) i ys ≡ sets l i ys
-  sets-over [] ys l i h = refl
-  sets-over (x ∷ xs) [] l i h = absurd (omega arith)
-  sets-over (x ∷ xs) (y ∷ ys) l i h =
-      ap (λ (t : List A). sets t (suc i) ys) (sets-cons xs (set l i x) i (suc i) y (omega arith) ∙ ap (λ (t : List A). sets t (suc i) xs) (set-twice l i x y))
-      ∙ sets-over xs ys (set l i y) (suc i) (omega arith)
+  pub sets_over : (xs ys l : List A) (i : ℕ) → length xs ≤ length ys → sets (sets l i xs) i ys ≡ sets l i ys
+  sets_over [] ys l i h = refl
+  sets_over (x ∷ xs) [] l i h = absurd (omega arith)
+  sets_over (x ∷ xs) (y ∷ ys) l i h =
+      ap (λ (t : List A). sets t (suc i) ys) (sets_cons xs (set l i x) i (suc i) y (omega arith) ∙ ap (λ (t : List A). sets t (suc i) xs) (set_twice l i x y))
+      ∙ sets_over xs ys (set l i y) (suc i) (omega arith)
 
 -- ---- digits
 -- 10 ^ j
@@ -51,35 +51,35 @@ tens (suc j) = 10 * tens j
 abbrev pub spaces : ℕ → List ℕ
 spaces n = replicate n 32
 
-spaces-more : (j : ℕ) → spaces (suc j) ≡ spaces j ++ (32 ∷ [])
-spaces-more zero = refl
-spaces-more (suc j) = ap (λ (t : List ℕ). 32 ∷ t) (spaces-more j)
+spaces_more : (j : ℕ) → spaces (suc j) ≡ spaces j ++ (32 ∷ [])
+spaces_more zero = refl
+spaces_more (suc j) = ap (λ (t : List ℕ). 32 ∷ t) (spaces_more j)
 
-length-spaces : (j : ℕ) → length (spaces j) ≡ j
-length-spaces j = length-replicate {0} {A = ℕ} j 32
+length_spaces : (j : ℕ) → length (spaces j) ≡ j
+length_spaces j = length-replicate {0} {A = ℕ} j 32
 
-pub spaces-put : (s : List ℕ) (at i : ℕ) (out : List ℕ) → out ≡ sets s at (spaces i) → set out (at + i) 32 ≡ sets s at (spaces (i + 1))
-spaces-put s at i out e =
-    let k : at + i ≡ at + length (spaces i) = omega (arith, length-spaces i) in
-    rw (e, k, add-one, spaces-more i) (sets-snoc (spaces i) s at 32)
+pub spaces_put : (s : List ℕ) (at i : ℕ) (out : List ℕ) → out ≡ sets s at (spaces i) → set out (at + i) 32 ≡ sets s at (spaces (i + 1))
+spaces_put s at i out e =
+    let k : at + i ≡ at + length (spaces i) = omega (arith, length_spaces i) in
+    rw (e, k, add-one, spaces_more i) (sets_snoc (spaces i) s at 32)
 
 -- the number n, whose rest before the digits ds is still to be written in j columns and the first
 pub record Digits (n rest j : ℕ) (ds : List ℕ) : Type 0 where
   pub columns : suc j + length ds ≡ 11
   pub some : 1 ≤ j
   pub small : rest < tens j
-  pub digits : decimal n ≡ decimalBy j rest ds
+  pub digits : decimal n ≡ decimal_by j rest ds
 
-pub digits-none : (n : ℕ) → n < 2 ^ 32 → Digits n n 10 []
-digits-none n h = record { columns = refl; some = omega arith; small = omega arith; digits = refl }
+pub digits_none : (n : ℕ) → n < 2 ^ 32 → Digits n n 10 []
+digits_none n h = record { columns = refl; some = omega arith; small = omega arith; digits = refl }
 
-digit-more : (rest j : ℕ) (ds : List ℕ) → 9 < rest → decimalBy (suc j) rest ds ≡ decimalBy j (rest / 10) ((48 + rest % 10) ∷ ds)
-unfolding decimalBy
-digit-more rest j ds h = rw (le-ltb rest 10 (omega arith)) refl
+digit_more : (rest j : ℕ) (ds : List ℕ) → 9 < rest → decimal_by (suc j) rest ds ≡ decimal_by j (rest / 10) ((48 + rest % 10) ∷ ds)
+unfolding decimal_by
+digit_more rest j ds h = rw (le-ltb rest 10 (omega arith)) refl
 
-digit-last : (rest j : ℕ) (ds : List ℕ) → rest < 10 → decimalBy (suc j) rest ds ≡ (48 + rest) ∷ ds
-unfolding decimalBy
-digit-last rest j ds h = rw (lt-ltb rest 10 h) refl
+digit_last : (rest j : ℕ) (ds : List ℕ) → rest < 10 → decimal_by (suc j) rest ds ≡ (48 + rest) ∷ ds
+unfolding decimal_by
+digit_last rest j ds h = rw (lt-ltb rest 10 h) refl
 
 more : (n rest j : ℕ) (ds : List ℕ) → Digits n rest (suc j) ds → 9 < rest → Digits n (rest / 10) j ((48 + rest % 10) ∷ ds)
 more n rest zero ds d h = absurd (omega (arith, d.small))
@@ -87,26 +87,26 @@ more n rest (suc j) ds d h = record {
   columns = omega (arith, d.columns);
   some = omega arith;
   small = omega (arith, d.small);
-  digits = d.digits ∙ digit-more rest (suc j) ds h;
+  digits = d.digits ∙ digit_more rest (suc j) ds h;
 }
 
-pub digits-more : (n rest j : ℕ) (ds : List ℕ) → Digits n rest j ds → 9 < rest → Digits n (rest / 10) (j - 1) ((48 + rest % 10) ∷ ds)
-digits-more n rest zero ds d h = absurd (omega (arith, d.some))
-digits-more n rest (suc j) ds d h = let e : suc j - 1 ≡ j = omega arith in rw e (more n rest j ds d h)
+pub digits_more : (n rest j : ℕ) (ds : List ℕ) → Digits n rest j ds → 9 < rest → Digits n (rest / 10) (j - 1) ((48 + rest % 10) ∷ ds)
+digits_more n rest zero ds d h = absurd (omega (arith, d.some))
+digits_more n rest (suc j) ds d h = let e : suc j - 1 ≡ j = omega arith in rw e (more n rest j ds d h)
 
-pub digits-end : (n rest j : ℕ) (ds : List ℕ) → Digits n rest j ds → rest < 10 → fieldText n ≡ spaces j ++ ((48 + rest) ∷ ds)
-digits-end n rest zero ds d h = absurd (omega (arith, d.some))
-digits-end n rest (suc j) ds d h =
-    let e : decimal n ≡ (48 + rest) ∷ ds = d.digits ∙ digit-last rest j ds h in
+pub digits_end : (n rest j : ℕ) (ds : List ℕ) → Digits n rest j ds → rest < 10 → field_text n ≡ spaces j ++ ((48 + rest) ∷ ds)
+digits_end n rest zero ds d h = absurd (omega (arith, d.some))
+digits_end n rest (suc j) ds d h =
+    let e : decimal n ≡ (48 + rest) ∷ ds = d.digits ∙ digit_last rest j ds h in
     let k : 11 - suc (length ds) ≡ suc j = omega (arith, d.columns) in
     rw (e, k) refl
 
 -- a digit takes the place of the last space
-digit-put : (out : List ℕ) (at j a : ℕ) (ds : List ℕ) → set (sets out at (spaces (suc j) ++ ds)) (at + j) a ≡ sets out at (spaces j ++ (a ∷ ds))
-digit-put out at j a ds =
-    let e : spaces (suc j) ++ ds ≡ spaces j ++ (32 ∷ ds) = ap (λ (t : List ℕ). t ++ ds) (spaces-more j) ∙ append_assoc (spaces j) (32 ∷ []) ds in
-    let f : at + length (spaces j) ≡ at + j = omega (arith, length-spaces j) in
-    ap (λ (t : List ℕ). set (sets out at t) (at + j) a) e ∙ ap (λ (k : ℕ). set (sets out at (spaces j ++ (32 ∷ ds))) k a) (sym f) ∙ set-within (spaces j) ds out at 32 a
+digit_put : (out : List ℕ) (at j a : ℕ) (ds : List ℕ) → set (sets out at (spaces (suc j) ++ ds)) (at + j) a ≡ sets out at (spaces j ++ (a ∷ ds))
+digit_put out at j a ds =
+    let e : spaces (suc j) ++ ds ≡ spaces j ++ (32 ∷ ds) = ap (λ (t : List ℕ). t ++ ds) (spaces_more j) ∙ append_assoc (spaces j) (32 ∷ []) ds in
+    let f : at + length (spaces j) ≡ at + j = omega (arith, length_spaces j) in
+    ap (λ (t : List ℕ). set (sets out at t) (at + j) a) e ∙ ap (λ (k : ℕ). set (sets out at (spaces j ++ (32 ∷ ds))) k a) (sym f) ∙ set_within (spaces j) ds out at 32 a
 
 -- the bytes while digits are written, from s on
 pub record Written (s : List ℕ) (at n rest j : ℕ) (out : List ℕ) : Type 0 where
@@ -114,91 +114,91 @@ pub record Written (s : List ℕ) (at n rest j : ℕ) (out : List ℕ) : Type 0 
   pub number : Digits n rest j ds
   pub bytes : out ≡ sets s at (spaces (suc j) ++ ds)
 
-pub written-none : (s : List ℕ) (at n : ℕ) (out : List ℕ) → n < 2 ^ 32 → out ≡ sets s at (spaces 11) → Written out at n n 10 out
-written-none s at n out h e = record {
+pub written_none : (s : List ℕ) (at n : ℕ) (out : List ℕ) → n < 2 ^ 32 → out ≡ sets s at (spaces 11) → Written out at n n 10 out
+written_none s at n out h e = record {
   ds = [];
-  number = digits-none n h;
-  bytes = e ∙ sym (sets-over (spaces 11) (spaces 11) s at (omega arith)) ∙ ap (λ (t : List ℕ). sets t at (spaces 11)) (sym e);
+  number = digits_none n h;
+  bytes = e ∙ sym (sets_over (spaces 11) (spaces 11) s at (omega arith)) ∙ ap (λ (t : List ℕ). sets t at (spaces 11)) (sym e);
 }
 
-pub written-more : (s : List ℕ) (at n rest j : ℕ) (out : List ℕ) → Written s at n rest j out → 9 < rest
+pub written_more : (s : List ℕ) (at n rest j : ℕ) (out : List ℕ) → Written s at n rest j out → 9 < rest
     → Written s at n (rest / 10) (j - 1) (set out (at + j) (48 + rest % 10))
-written-more s at n rest zero out w h = absurd (omega (arith, w.number.some))
-written-more s at n rest (suc j) out w h =
+written_more s at n rest zero out w h = absurd (omega (arith, w.number.some))
+written_more s at n rest (suc j) out w h =
     let e : suc j - 1 ≡ j = omega arith in
     record {
       ds = (48 + rest % 10) ∷ w.ds;
-      number = digits-more n rest (suc j) w.ds w.number h;
-      bytes = ap (λ (t : List ℕ). set t (at + suc j) (48 + rest % 10)) w.bytes ∙ digit-put s at (suc j) (48 + rest % 10) w.ds ∙ rw e refl;
+      number = digits_more n rest (suc j) w.ds w.number h;
+      bytes = ap (λ (t : List ℕ). set t (at + suc j) (48 + rest % 10)) w.bytes ∙ digit_put s at (suc j) (48 + rest % 10) w.ds ∙ rw e refl;
     }
 
 -- lengths
-pub length-field : (n : ℕ) → length (fieldText n) ≡ 11
-length-field n =
-    let h : length (decimal n) ≤ 10 + 0 = length-decimal 10 n [] in
-    length-append (spaces (11 - length (decimal n))) (decimal n) ∙ rw (length-spaces (11 - length (decimal n))) (omega arith)
+pub length_field : (n : ℕ) → length (field_text n) ≡ 11
+length_field n =
+    let h : length (decimal n) ≤ 10 + 0 = length_decimal 10 n [] in
+    length-append (spaces (11 - length (decimal n))) (decimal n) ∙ rw (length_spaces (11 - length (decimal n))) (omega arith)
 
-pub written-end : (s : List ℕ) (at n rest j : ℕ) (out out' : List ℕ) → out ≡ sets s at (spaces 11) → Written out at n rest j out' → rest < 10
-    → set out' (at + j) (48 + rest) ≡ sets s at (fieldText n)
-written-end s at n rest j out out' e w h =
-    ap (λ (t : List ℕ). set t (at + j) (48 + rest)) w.bytes ∙ digit-put out at j (48 + rest) w.ds
-    ∙ ap (λ (t : List ℕ). sets out at t) (sym (digits-end n rest j w.ds w.number h))
-    ∙ ap (λ (t : List ℕ). sets t at (fieldText n)) e
-    ∙ sets-over (spaces 11) (fieldText n) s at (omega (arith, length-field n))
+pub written_end : (s : List ℕ) (at n rest j : ℕ) (out out' : List ℕ) → out ≡ sets s at (spaces 11) → Written out at n rest j out' → rest < 10
+    → set out' (at + j) (48 + rest) ≡ sets s at (field_text n)
+written_end s at n rest j out out' e w h =
+    ap (λ (t : List ℕ). set t (at + j) (48 + rest)) w.bytes ∙ digit_put out at j (48 + rest) w.ds
+    ∙ ap (λ (t : List ℕ). sets out at t) (sym (digits_end n rest j w.ds w.number h))
+    ∙ ap (λ (t : List ℕ). sets t at (field_text n)) e
+    ∙ sets_over (spaces 11) (field_text n) s at (omega (arith, length_field n))
 
-pub length-columns : (l : List ℕ) → length (columnsText l) ≡ 11 * length l
-unfolding columnsText
-length-columns [] = refl
-length-columns (n ∷ l) = length-append (fieldText n) (columnsText l) ∙ rw (length-field n, length-columns l) (omega arith)
+pub length_columns : (l : List ℕ) → length (columns_text l) ≡ 11 * length l
+unfolding columns_text
+length_columns [] = refl
+length_columns (n ∷ l) = length-append (field_text n) (columns_text l) ∙ rw (length_field n, length_columns l) (omega arith)
 
 -- a run of words, in its columns
-pub words-long : (w : List ℕ) (start count : ℕ) → start + count ≤ length w → length (columnsText (take count (drop start w))) ≡ 11 * count
-words-long w start count h =
+pub words_long : (w : List ℕ) (start count : ℕ) → start + count ≤ length w → length (columns_text (take count (drop start w))) ≡ 11 * count
+words_long w start count h =
     let r : count ≤ length (drop start w) = rw (length-drop start w) (omega arith) in
-    length-columns (take count (drop start w)) ∙ ap (λ (k : ℕ). 11 * k) (length-take-le count (drop start w) r)
+    length_columns (take count (drop start w)) ∙ ap (λ (k : ℕ). 11 * k) (length-take-le count (drop start w) r)
 
-columns-one : (n : ℕ) → columnsText (n ∷ []) ≡ fieldText n
-unfolding columnsText
-columns-one n = append-nil (fieldText n)
+columns_one : (n : ℕ) → columns_text (n ∷ []) ≡ field_text n
+unfolding columns_text
+columns_one n = append-nil (field_text n)
 
-columns-more : (w : List ℕ) (from i : ℕ) → from + i < length w → columnsText (take (i + 1) (drop from w)) ≡ columnsText (take i (drop from w)) ++ fieldText (get_or w (from + i) 0)
-columns-more w from i h =
+columns_more : (w : List ℕ) (from i : ℕ) → from + i < length w → columns_text (take (i + 1) (drop from w)) ≡ columns_text (take i (drop from w)) ++ field_text (get_or w (from + i) 0)
+columns_more w from i h =
     let d : i < length (drop from w) = rw (length-drop from w) (omega arith) in
-    rw (add-one, take-suc (drop from w) i 0 d, get_or-drop from w i 0, columns-append (take i (drop from w)) (get_or w (from + i) 0 ∷ []), columns-one (get_or w (from + i) 0)) refl
+    rw (add-one, take-suc (drop from w) i 0 d, get_or-drop from w i 0, columns_append (take i (drop from w)) (get_or w (from + i) 0 ∷ []), columns_one (get_or w (from + i) 0)) refl
 
-pub columns-none : (s : List ℕ) (at : ℕ) (l : List ℕ) → s ≡ sets s at (columnsText (take 0 l))
-unfolding columnsText
-columns-none s at l = refl
+pub columns_none : (s : List ℕ) (at : ℕ) (l : List ℕ) → s ≡ sets s at (columns_text (take 0 l))
+unfolding columns_text
+columns_none s at l = refl
 
 -- one word more behind the first i of a run
-pub field-put : (w s : List ℕ) (from at i p x : ℕ) (out : List ℕ) → from + i < length w → p ≡ at + 11 * i → x ≡ get_or w (from + i) 0
-    → out ≡ sets s at (columnsText (take i (drop from w))) → sets out p (fieldText x) ≡ sets s at (columnsText (take (i + 1) (drop from w)))
-field-put w s from at i p x out h e f g =
+pub field_put : (w s : List ℕ) (from at i p x : ℕ) (out : List ℕ) → from + i < length w → p ≡ at + 11 * i → x ≡ get_or w (from + i) 0
+    → out ≡ sets s at (columns_text (take i (drop from w))) → sets out p (field_text x) ≡ sets s at (columns_text (take (i + 1) (drop from w)))
+field_put w s from at i p x out h e f g =
     let d : i ≤ length (drop from w) = rw (length-drop from w) (omega arith) in
-    let l : length (columnsText (take i (drop from w))) ≡ 11 * i = length-columns (take i (drop from w)) ∙ ap (λ (k : ℕ). 11 * k) (length-take-le i (drop from w) d) in
-    let q : p ≡ at + length (columnsText (take i (drop from w))) = omega arith in
-    rw (g, q, f, columns-more w from i h) (sets-append (columnsText (take i (drop from w))) (fieldText (get_or w (from + i) 0)) s at)
+    let l : length (columns_text (take i (drop from w))) ≡ 11 * i = length_columns (take i (drop from w)) ∙ ap (λ (k : ℕ). 11 * k) (length-take-le i (drop from w) d) in
+    let q : p ≡ at + length (columns_text (take i (drop from w))) = omega arith in
+    rw (g, q, f, columns_more w from i h) (sets_append (columns_text (take i (drop from w))) (field_text (get_or w (from + i) 0)) s at)
 
 -- ---- texts that are put one behind the other
-pub put-then : {s s' s'' t u : List ℕ} {at p q : ℕ} → Put s at t s' p → Put s' p u s'' q → Put s at (t ++ u) s'' q
-put-then {s} {s'} {s''} {t} {u} {at} {p} {q} h k = record {
-  bytes = k.bytes ∙ ap₂ (λ (b : List ℕ) (i : ℕ). sets b i u) h.bytes h.end ∙ sets-append t u s at;
+pub put_then : {s s' s'' t u : List ℕ} {at p q : ℕ} → Put s at t s' p → Put s' p u s'' q → Put s at (t ++ u) s'' q
+put_then {s} {s'} {s''} {t} {u} {at} {p} {q} h k = record {
+  bytes = k.bytes ∙ ap₂ (λ (b : List ℕ) (i : ℕ). sets b i u) h.bytes h.end ∙ sets_append t u s at;
   end = omega (arith, h.end, k.end, length-append t u);
 }
 
-pub put-line : {s s' s'' : List ℕ} {at p q : ℕ} (l : List ℕ) → Put s at (columnsText l) s' p → Put s' p (10 ∷ []) s'' q → Put s at (fieldsText l) s'' q
-put-line {s} {s'} {s''} {at} {p} {q} l h k = subst (λ (t : List ℕ). Put s at t s'' q) (sym (line-text l)) (put-then h k)
+pub put_line : {s s' s'' : List ℕ} {at p q : ℕ} (l : List ℕ) → Put s at (columns_text l) s' p → Put s' p (10 ∷ []) s'' q → Put s at (fields_text l) s'' q
+put_line {s} {s'} {s''} {at} {p} {q} l h k = subst (λ (t : List ℕ). Put s at t s'' q) (sym (line_text l)) (put_then h k)
 
-pub put-field-first : {s s' s'' : List ℕ} {at p q : ℕ} (n : ℕ) (l : List ℕ) → Put s at (fieldText n) s' p → Put s' p (fieldsText l) s'' q → Put s at (fieldsText (n ∷ l)) s'' q
-unfolding fieldsText
-put-field-first n l h k = put-then h k
+pub put_field_first : {s s' s'' : List ℕ} {at p q : ℕ} (n : ℕ) (l : List ℕ) → Put s at (field_text n) s' p → Put s' p (fields_text l) s'' q → Put s at (fields_text (n ∷ l)) s'' q
+unfolding fields_text
+put_field_first n l h k = put_then h k
 
-pub put-end : {s s' : List ℕ} {at q : ℕ} → Put s at (10 ∷ []) s' q → Put s at (fieldsText []) s' q
-unfolding fieldsText
-put-end h = h
+pub put_end : {s s' : List ℕ} {at q : ℕ} → Put s at (10 ∷ []) s' q → Put s at (fields_text []) s' q
+unfolding fields_text
+put_end h = h
 
-pub length-line : (l : List ℕ) → length (fieldsText l) ≡ 11 * length l + 1
-length-line l = ap length (line-text l) ∙ length-append (columnsText l) (10 ∷ []) ∙ rw (length-columns l) refl
+pub length_line : (l : List ℕ) → length (fields_text l) ≡ 11 * length l + 1
+length_line l = ap length (line_text l) ∙ length-append (columns_text l) (10 ∷ []) ∙ rw (length_columns l) refl
 
 -- ---- a text that is put piece by piece
 -- of the text that is to be put into s, the rest is still to be put into s', from p on
@@ -207,44 +207,44 @@ pub record Left (s : List ℕ) (at : ℕ) (text : List ℕ) (s' : List ℕ) (p :
   pub end : p + length rest ≡ at + length text
   pub long : length s' ≡ length s
 
-pub left-all : (s : List ℕ) (at : ℕ) (text : List ℕ) → Left s at text s at text
-left-all s at text = record { bytes = refl; end = refl; long = refl }
+pub left_all : (s : List ℕ) (at : ℕ) (text : List ℕ) → Left s at text s at text
+left_all s at text = record { bytes = refl; end = refl; long = refl }
 
 module _ (s : List ℕ) (at : ℕ) (text : List ℕ) (s' : List ℕ) (p : ℕ) where
-  pub left-more : (t rest s'' : List ℕ) (q : ℕ) → Left s at text s' p (t ++ rest) → Put s' p t s'' q → Left s at text s'' q rest
-  left-more t rest s'' q l h = record {
-    bytes = ap₂ (λ (b : List ℕ) (k : ℕ). sets b k rest) h.bytes h.end ∙ sets-append t rest s' p ∙ l.bytes;
+  pub left_more : (t rest s'' : List ℕ) (q : ℕ) → Left s at text s' p (t ++ rest) → Put s' p t s'' q → Left s at text s'' q rest
+  left_more t rest s'' q l h = record {
+    bytes = ap₂ (λ (b : List ℕ) (k : ℕ). sets b k rest) h.bytes h.end ∙ sets_append t rest s' p ∙ l.bytes;
     end = omega (arith, h.end, l.end, length-append t rest);
     long = ap length h.bytes ∙ length-sets s' p t ∙ l.long;
   }
 
   -- a piece fits where the whole does
-  pub left-fits : (t rest : List ℕ) → Left s at text s' p (t ++ rest) → at + length text ≤ length s → p + length t ≤ length s'
-  left-fits t rest l h = omega (arith, l.end, l.long, length-append t rest)
+  pub left_fits : (t rest : List ℕ) → Left s at text s' p (t ++ rest) → at + length text ≤ length s → p + length t ≤ length s'
+  left_fits t rest l h = omega (arith, l.end, l.long, length-append t rest)
 
-  pub left-none : Left s at text s' p [] → Put s at text s' p
-  left-none l = record { bytes = l.bytes; end = omega (arith, l.end) }
+  pub left_none : Left s at text s' p [] → Put s at text s' p
+  left_none l = record { bytes = l.bytes; end = omega (arith, l.end) }
 
 -- ---- the texts of numbers, one after another
 module _ (f : ℕ → List ℕ) (i n : ℕ) where
-  texts-next : i < n → textsLeft f i n ≡ f i ++ textsLeft f (i + 1) n
-  unfolding textsOf
-  texts-next h = let e : n - i ≡ suc (n - (i + 1)) = omega arith in rw e refl
+  texts_next : i < n → texts_left f i n ≡ f i ++ texts_left f (i + 1) n
+  unfolding texts_of
+  texts_next h = let e : n - i ≡ suc (n - (i + 1)) = omega arith in rw e refl
 
-  texts-none : n ≤ i → textsLeft f i n ≡ []
-  unfolding textsOf
-  texts-none h = let e : n - i ≡ 0 = omega arith in rw e refl
+  texts_none : n ≤ i → texts_left f i n ≡ []
+  unfolding texts_of
+  texts_none h = let e : n - i ≡ 0 = omega arith in rw e refl
 
   module _ (s : List ℕ) (at : ℕ) (text out : List ℕ) (p : ℕ) where
-    pub text-fits : i < n → Left s at text out p (textsLeft f i n) → at + length text ≤ length s → p + length (f i) ≤ length out
-    text-fits h l = left-fits s at text out p (f i) (textsLeft f (i + 1) n) (subst (Left s at text out p) (texts-next h) l)
+    pub text_fits : i < n → Left s at text out p (texts_left f i n) → at + length text ≤ length s → p + length (f i) ≤ length out
+    text_fits h l = left_fits s at text out p (f i) (texts_left f (i + 1) n) (subst (Left s at text out p) (texts_next h) l)
 
-    pub text-more : (out' : List ℕ) (q : ℕ) → i < n → Left s at text out p (textsLeft f i n) → Put out p (f i) out' q → Left s at text out' q (textsLeft f (i + 1) n)
-    text-more out' q h l = left-more s at text out p (f i) (textsLeft f (i + 1) n) out' q (subst (Left s at text out p) (texts-next h) l)
+    pub text_more : (out' : List ℕ) (q : ℕ) → i < n → Left s at text out p (texts_left f i n) → Put out p (f i) out' q → Left s at text out' q (texts_left f (i + 1) n)
+    text_more out' q h l = left_more s at text out p (f i) (texts_left f (i + 1) n) out' q (subst (Left s at text out p) (texts_next h) l)
 
-    pub texts-end : n ≤ i → Left s at text out p (textsLeft f i n) → Put s at text out p
-    texts-end h l = left-none s at text out p (subst (Left s at text out p) (texts-none h) l)
+    pub texts_end : n ≤ i → Left s at text out p (texts_left f i n) → Put s at text out p
+    texts_end h l = left_none s at text out p (subst (Left s at text out p) (texts_none h) l)
 
 -- n of them from i on, that is those below m
-pub texts-all : (f : ℕ → List ℕ) (i n m : ℕ) (s : List ℕ) (at : ℕ) → m ≡ i + n → Left s at (textsOf f i n) s at (textsLeft f i m)
-texts-all f i n m s at e = let d : m - i ≡ n = omega arith in rw d (left-all s at (textsOf f i n))
+pub texts_all : (f : ℕ → List ℕ) (i n m : ℕ) (s : List ℕ) (at : ℕ) → m ≡ i + n → Left s at (texts_of f i n) s at (texts_left f i m)
+texts_all f i n m s at e = let d : m - i ≡ n = omega arith in rw d (left_all s at (texts_of f i n))

@@ -4,8 +4,8 @@
 ghost use Rattle.std.specs.Prelude.{◌≡◌, [], ◌∷◌, ◌+◌, ◌*◌, ◌≤◌, ◌<◌, length, take, drop, replicate};
 ghost use Rattle.std.proofs.lemmas.List.Edits.{sets};
 ghost use Rattle.words.specs.Words.{words};
-ghost use Rattle.rules.specs.Lister.{fieldText, fieldsText};
-ghost use Rattle.rows.specs.Rows.{columnsText, Put};
+ghost use Rattle.rules.specs.Lister.{field_text, fields_text};
+ghost use Rattle.rows.specs.Rows.{columns_text, Put};
 
 // Spaces in n bytes from `at` on.
 fn put_spaces(out: &mut [u8], at: usize, n: usize)
@@ -22,7 +22,7 @@ fn put_spaces(out: &mut [u8], at: usize, n: usize)
 // Spaces and the digits of the number, the last of them at `at` + 10.
 fn put_digits(out: &mut [u8], at: usize, number: u32)
     requires { at + 11 ≤ length out.old }
-    ensures { out.new ≡ sets out.old at (fieldText number) }
+    ensures { out.new ≡ sets out.old at (field_text number) }
 {
     put_spaces(out, at, 11);
     let mut rest = number;
@@ -38,7 +38,7 @@ fn put_digits(out: &mut [u8], at: usize, number: u32)
 // The number in the 11 bytes from `at` on; where they end.
 pub fn put_field(out: &mut [u8], at: usize, number: u32) -> usize
     requires { at + 11 ≤ length out.old }
-    ensures { Put out.old at (fieldText number) out.new result }
+    ensures { Put out.old at (field_text number) out.new result }
 {
     put_digits(out, at, number);
     at + 11
@@ -47,7 +47,7 @@ pub fn put_field(out: &mut [u8], at: usize, number: u32) -> usize
 // The same for n words of a table from word `from` on.
 pub fn put_words(t: &[u8], from: usize, n: usize, out: &mut [u8], at: usize) -> usize
     requires { (4 * (from + n) ≤ length t.now) × (at + 11 * n ≤ length out.old) }
-    ensures { Put out.old at (columnsText (take n (drop from (words t.now)))) out.new result }
+    ensures { Put out.old at (columns_text (take n (drop from (words t.now)))) out.new result }
 {
     let mut i: usize = 0;
     let mut p = at;
@@ -70,7 +70,7 @@ pub fn end_line(out: &mut [u8], at: usize) -> usize
 // A number, then n words of a table from word `from` on, as a line.
 pub fn put_row(number: u32, t: &[u8], from: usize, n: usize, out: &mut [u8], at: usize) -> usize
     requires { (4 * (from + n) ≤ length t.now) × (at + 11 * n + 12 ≤ length out.old) }
-    ensures { Put out.old at (fieldsText (number ∷ take n (drop from (words t.now)))) out.new result }
+    ensures { Put out.old at (fields_text (number ∷ take n (drop from (words t.now)))) out.new result }
 {
     let p = put_field(out, at, number);
     let q = put_words(t, from, n, out, p);
@@ -80,7 +80,7 @@ pub fn put_row(number: u32, t: &[u8], from: usize, n: usize, out: &mut [u8], at:
 // Three numbers as a line.
 pub fn put_three(out: &mut [u8], at: usize, a: u32, b: u32, c: u32) -> usize
     requires { at + 34 ≤ length out.old }
-    ensures { Put out.old at (fieldsText (a ∷ b ∷ c ∷ [])) out.new result }
+    ensures { Put out.old at (fields_text (a ∷ b ∷ c ∷ [])) out.new result }
 {
     let p = put_field(out, at, a);
     let q = put_field(out, p, b);
@@ -91,7 +91,7 @@ pub fn put_three(out: &mut [u8], at: usize, a: u32, b: u32, c: u32) -> usize
 // And four.
 pub fn put_four(out: &mut [u8], at: usize, a: u32, b: u32, c: u32, d: u32) -> usize
     requires { at + 45 ≤ length out.old }
-    ensures { Put out.old at (fieldsText (a ∷ b ∷ c ∷ d ∷ [])) out.new result }
+    ensures { Put out.old at (fields_text (a ∷ b ∷ c ∷ d ∷ [])) out.new result }
 {
     let p = put_field(out, at, a);
     put_three(out, p, b, c, d)

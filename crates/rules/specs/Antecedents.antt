@@ -8,23 +8,23 @@ use Rattle.rules.specs.Base.{return, refuse, all, then, ◌>>=◌, ◌>>◌}
 use Rattle.rules.specs.Concept.{Concept}
 use Rattle.rules.specs.Concept.{Top, Bot, Atomic, Nominal, SelfRestriction, Not, And, Or, Some, All, Min, Max}
 use Rattle.rules.specs.Pool.{Pool, at}
-use Rattle.rules.specs.State.{Env, E, canon, visit, freshVar, mostInHand}
+use Rattle.rules.specs.State.{Env, E, canon, visit, fresh_var, most_in_hand}
 
 -- the alternative bodies
 abbrev pub Alternatives : Type 0
 Alternatives = List (List Atom)
 
 -- ANTECEDENT_DNF_CAP
-abbrev pub antecedentDnfCap : ℕ
-antecedentDnfCap = 64
+abbrev pub antecedent_dnf_cap : ℕ
+antecedent_dnf_cap = 64
 
 -- every combination of an alternative of each, the first's order first
 unfoldable pub cross : Alternatives → Alternatives → Alternatives
 cross [] k = []
 cross (a ∷ l) k = map (λ b. a ++ b) k ++ cross l k
 
-abbrev pub inHand : List Atom → Bool
-inHand b = leb (length b) mostInHand
+abbrev pub in_hand : List Atom → Bool
+in_hand b = leb (length b) most_in_hand
 
 -- goes on with the alternatives, if no body in hand is too long (12, which falls first) and they are not too many
 abbrev pub within : Bool → Bool → Alternatives → (Alternatives → E (Option Alternatives)) → E (Option Alternatives)
@@ -34,53 +34,53 @@ within true true l rest = rest l
 
 module _ (env : Env) (pool : Pool) where
   module _ (encode : ℕ → ℕ → E (Option Alternatives)) where
-    abbrev pub andWith : (Alternatives → E (Option Alternatives)) → Alternatives → Option Alternatives → E (Option Alternatives)
-    andWith rest acc none = return none
-    andWith rest acc (some child) = within (all inHand (cross acc child)) (leb (length (cross acc child)) antecedentDnfCap) (cross acc child) rest
+    abbrev pub and_with : (Alternatives → E (Option Alternatives)) → Alternatives → Option Alternatives → E (Option Alternatives)
+    and_with rest acc none = return none
+    and_with rest acc (some child) = within (all in_hand (cross acc child)) (leb (length (cross acc child)) antecedent_dnf_cap) (cross acc child) rest
 
-    unfoldable pub encodeAnd : List ℕ → ℕ → Alternatives → E (Option Alternatives)
-    encodeAnd [] v acc = return (some acc)
-    encodeAnd (p ∷ l) v acc = do
+    unfoldable pub encode_and : List ℕ → ℕ → Alternatives → E (Option Alternatives)
+    encode_and [] v acc = return (some acc)
+    encode_and (p ∷ l) v acc = do
       child ← encode p v
-      andWith (λ next. encodeAnd l v next) acc child
+      and_with (λ next. encode_and l v next) acc child
 
-    abbrev pub orWith : (Alternatives → E (Option Alternatives)) → Alternatives → Option Alternatives → E (Option Alternatives)
-    orWith rest acc none = return none
-    orWith rest acc (some child) = within true (leb (length (acc ++ child)) antecedentDnfCap) (acc ++ child) rest
+    abbrev pub or_with : (Alternatives → E (Option Alternatives)) → Alternatives → Option Alternatives → E (Option Alternatives)
+    or_with rest acc none = return none
+    or_with rest acc (some child) = within true (leb (length (acc ++ child)) antecedent_dnf_cap) (acc ++ child) rest
 
-    unfoldable pub encodeOr : List ℕ → ℕ → Alternatives → E (Option Alternatives)
-    encodeOr [] v acc = return (some acc)
-    encodeOr (p ∷ l) v acc = do
+    unfoldable pub encode_or : List ℕ → ℕ → Alternatives → E (Option Alternatives)
+    encode_or [] v acc = return (some acc)
+    encode_or (p ∷ l) v acc = do
       child ← encode p v
-      orWith (λ next. encodeOr l v next) acc child
+      or_with (λ next. encode_or l v next) acc child
 
-    abbrev pub someWith : Atom → Option Alternatives → E (Option Alternatives)
-    someWith a none = return none
-    someWith a (some inner) = within (all inHand (map (λ b. a ∷ b) inner)) true (map (λ b. a ∷ b) inner) (λ l. return (some l))
+    abbrev pub some_with : Atom → Option Alternatives → E (Option Alternatives)
+    some_with a none = return none
+    some_with a (some inner) = within (all in_hand (map (λ b. a ∷ b) inner)) true (map (λ b. a ∷ b) inner) (λ l. return (some l))
 
-    unfoldable pub encodeStep : ℕ → Concept → E (Option Alternatives)
-    encodeStep v Top = return (some ([] ∷ []))
-    encodeStep v Bot = return none
-    encodeStep v (Atomic a) = return (some ((Class a v ∷ []) ∷ []))
-    encodeStep v (Nominal i) = return (some ((Class (env.nominalBase + i) v ∷ []) ∷ []))
-    encodeStep v (SelfRestriction _) = return none
-    encodeStep v (Not _) = return none
-    encodeStep v (And l) = encodeAnd l v ([] ∷ [])
-    encodeStep v (Or l) = encodeOr l v []
-    encodeStep v (Some r d) = do
-      y ← freshVar
+    unfoldable pub encode_step : ℕ → Concept → E (Option Alternatives)
+    encode_step v Top = return (some ([] ∷ []))
+    encode_step v Bot = return none
+    encode_step v (Atomic a) = return (some ((Class a v ∷ []) ∷ []))
+    encode_step v (Nominal i) = return (some ((Class (env.nominal_base + i) v ∷ []) ∷ []))
+    encode_step v (SelfRestriction _) = return none
+    encode_step v (Not _) = return none
+    encode_step v (And l) = encode_and l v ([] ∷ [])
+    encode_step v (Or l) = encode_or l v []
+    encode_step v (Some r d) = do
+      y ← fresh_var
       inner ← encode d y
-      someWith (RoleAtom (canon env r) v y) inner
-    encodeStep v (All _ _) = return none
-    encodeStep v (Min _ _ _) = return none
-    encodeStep v (Max _ _ _) = return none
+      some_with (RoleAtom (canon env r) v y) inner
+    encode_step v (All _ _) = return none
+    encode_step v (Min _ _ _) = return none
+    encode_step v (Max _ _ _) = return none
 
   -- by a bound above the id
-  unfoldable pub encodeBy : ℕ → ℕ → ℕ → E (Option Alternatives)
-  encodeBy zero c v = refuse 0
-  encodeBy (suc f) c v = do
+  unfoldable pub encode_by : ℕ → ℕ → ℕ → E (Option Alternatives)
+  encode_by zero c v = refuse 0
+  encode_by (suc f) c v = do
     visit
-    encodeStep (λ d u. encodeBy f d u) v (at pool c)
+    encode_step (λ d u. encode_by f d u) v (at pool c)
 
-  abbrev pub encodeAntecedent : ℕ → ℕ → E (Option Alternatives)
-  encodeAntecedent c v = encodeBy (suc c) c v
+  abbrev pub encode_antecedent : ℕ → ℕ → E (Option Alternatives)
+  encode_antecedent c v = encode_by (suc c) c v

@@ -37,11 +37,11 @@ each f (x ∷ l) = do
   return (y ∷ k)
 
 -- f for each element, in order
-unfoldable pub forEach : {S A : Type 0} → (A → M S (Unit {0})) → List A → M S (Unit {0})
-forEach f [] = return tt
-forEach f (x ∷ l) = do
+unfoldable pub for_each : {S A : Type 0} → (A → M S (Unit {0})) → List A → M S (Unit {0})
+for_each f [] = return tt
+for_each f (x ∷ l) = do
   f x
-  forEach f l
+  for_each f l
 
 -- ---- tests over lists
 abbrev pub all : {A : Type 0} → (A → Bool) → List A → Bool
@@ -64,6 +64,6 @@ filter p (x ∷ l) = kept x (filter p l) (p x)
 abbrev pub contains : List ℕ → ℕ → Bool
 contains l n = any (eqb n) l
 
-abbrev pub isSome : {A : Type 0} → Option A → Bool
-isSome (some _) = true
-isSome none = false
+abbrev pub is_some : {A : Type 0} → Option A → Bool
+is_some (some _) = true
+is_some none = false

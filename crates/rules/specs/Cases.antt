@@ -2,24 +2,24 @@
 -- option 4, their outcomes written out by hand; and the decided decks with the Rust's answers.
 use Rattle.std.specs.Prelude.{◌≡◌, refl, List, [], ◌∷◌, ◌++◌, map, ℕ}
 use Prim.Native.String.{String}
-use Rattle.ir.specs.Deferrals.{deferralKind}
+use Rattle.ir.specs.Deferrals.{deferral_kind}
 use Rattle.ir.specs.declared.role.Role.TheVariants.{Named, Inverse}
 use Rattle.ir.specs.declared.atom.Atom.TheVariants.{Class, Exists, AtMost, AtLeast, Role as RoleAtom}
 use Rattle.ir.specs.declared.atom.Qualifier.TheVariants.{Qualified}
 use Rattle.rules.specs.Ascii.{ascii}
 use Rattle.rules.specs.State.{Clause, clause, Deferred}
-use Rattle.rules.specs.Run.{Outcome, accepted, refused, Run, runWith, tenNumbers}
-use Rattle.rules.specs.Lister.{listerLengths, outcomeText}
+use Rattle.rules.specs.Run.{Outcome, accepted, refused, Run, run_with, ten_numbers}
+use Rattle.rules.specs.Lister.{lister_lengths, outcome_text}
 use Rattle.rules.specs.Compute.{computed, tables}
 use Rattle.rules.specs.Decided.{Decided, decided}
 
 -- a deck's bytes, or a listing's: each line and its line feed
-unfoldable pub linesOf : List String → List ℕ
-linesOf [] = []
-linesOf (l ∷ ls) = ascii l ++ (10 ∷ linesOf ls)
+unfoldable pub lines_of : List String → List ℕ
+lines_of [] = []
+lines_of (l ∷ ls) = ascii l ++ (10 ∷ lines_of ls)
 
-abbrev pub pairOf : Deferred → ℕ × ℕ
-pairOf d = (d.line, deferralKind d.kind)
+abbrev pub pair_of : Deferred → ℕ × ℕ
+pair_of d = (d.line, deferral_kind d.kind)
 
 -- ---- document 01's [P] cases
 -- clauses, deferrals (line, kind), and the ten numbers of line 43; or a refusal
@@ -27,9 +27,9 @@ pub data Answer : Type 0 where
   clauses : List Clause → List (ℕ × ℕ) → List ℕ → Answer
   refusal : ℕ → ℕ → Answer
 
-abbrev pub answerOf : Outcome → Answer
-answerOf (accepted a) = clauses a.clauses (map pairOf a.deferrals) (tenNumbers a)
-answerOf (refused k line) = refusal k line
+abbrev pub answer_of : Outcome → Answer
+answer_of (accepted a) = clauses a.clauses (map pair_of a.deferrals) (ten_numbers a)
+answer_of (refused k line) = refusal k line
 
 pub record Case : Type 0 where
   pub deck : List String
@@ -156,13 +156,13 @@ cases =
     } ∷
     []
 
-pub cases-hold : map (λ c. answerOf (Run (linesOf c.deck) listerLengths)) cases ≡ map (λ c. c.answer) cases
-unfolding computed linesOf
-cases-hold = refl
+pub cases_hold : map (λ c. answer_of (Run (lines_of c.deck) lister_lengths)) cases ≡ map (λ c. c.answer) cases
+unfolding computed lines_of
+cases_hold = refl
 
 -- ---- option 4: A, B, C, r, s and X as above
-abbrev pub limitCases : List Case
-limitCases =
+abbrev pub limit_cases : List Case
+limit_cases =
     -- A ⊑ Max 2 r (B and C): then B and C → q
     record {
       deck =
@@ -239,9 +239,9 @@ limitCases =
     } ∷
     []
 
-pub limit-cases-hold : map (λ c. answerOf (Run (linesOf c.deck) listerLengths)) limitCases ≡ map (λ c. c.answer) limitCases
-unfolding computed linesOf
-limit-cases-hold = refl
+pub limit_cases_hold : map (λ c. answer_of (Run (lines_of c.deck) lister_lengths)) limit_cases ≡ map (λ c. c.answer) limit_cases
+unfolding computed lines_of
+limit_cases_hold = refl
 
 -- ---- the decided decks, and document 01's worked listing before them
 abbrev pub worked : Decided
@@ -264,20 +264,20 @@ worked = record {
   deferrals = [];
 }
 
-abbrev pub deferralsOf : Outcome → List (ℕ × ℕ)
-deferralsOf (accepted a) = map pairOf a.deferrals
-deferralsOf (refused k line) = []
+abbrev pub deferrals_of : Outcome → List (ℕ × ℕ)
+deferrals_of (accepted a) = map pair_of a.deferrals
+deferrals_of (refused k line) = []
 
 pub record Listed : Type 0 where
   pub bytes : List ℕ
   pub deferrals : List (ℕ × ℕ)
 
-abbrev pub listedOf : Outcome → Listed
-listedOf o = record { bytes = outcomeText o; deferrals = deferralsOf o }
+abbrev pub listed_of : Outcome → Listed
+listed_of o = record { bytes = outcome_text o; deferrals = deferrals_of o }
 
 abbrev pub expected : Decided → Listed
-expected d = record { bytes = linesOf d.listing; deferrals = d.deferrals }
+expected d = record { bytes = lines_of d.listing; deferrals = d.deferrals }
 
-pub decided-hold : map (λ d. listedOf (runWith d.visits (linesOf d.deck) (tables d.clauses d.atoms d.deferred))) (worked ∷ decided) ≡ map expected (worked ∷ decided)
-unfolding computed linesOf
-decided-hold = refl
+pub decided_hold : map (λ d. listed_of (run_with d.visits (lines_of d.deck) (tables d.clauses d.atoms d.deferred))) (worked ∷ decided) ≡ map expected (worked ∷ decided)
+unfolding computed lines_of
+decided_hold = refl

@@ -1,18 +1,18 @@
 -- What holds of every run, as types: pools, normal forms, atoms and clauses within their bounds. The laws are proved in the
 -- files that are named for the rules' own (PoolLaws, NormalizeLaws, ..).
 use Rattle.std.specs.Prelude.{◌≡◌, List, [], ◌∷◌, ◌++◌, ℕ, zero, suc, ◌+◌, ◌<◌, ◌≤◌, length}
-use Rattle.ir.specs.Roles.{roleId}
+use Rattle.ir.specs.Roles.{role_id}
 use Rattle.ir.specs.declared.role.Role.{Role}
 use Rattle.ir.specs.declared.atom.Atom.{Atom}
 use Rattle.ir.specs.declared.atom.Atom.TheVariants.{Class, Exists, AtMost, AtLeast, Equal, Role as RoleAtom}
 use Rattle.ir.specs.declared.atom.Qualifier.{Qualifier}
 use Rattle.ir.specs.declared.atom.Qualifier.TheVariants.{Unqualified, Qualified}
-use Rattle.rules.specs.Text.{mostNumber}
+use Rattle.rules.specs.Text.{most_number}
 use Rattle.rules.specs.Concept.{Concept, Axiom}
 use Rattle.rules.specs.Concept.{Top, Bot, Atomic, Nominal, SelfRestriction, Not, And, Or, Some, All, Min, Max}
 use Rattle.rules.specs.Concept.{SubClassOf, EquivalentClasses, DisjointClasses, DisjointUnion, ObjectPropertyDomain, ObjectPropertyRange, SubChain, TransitiveRole, IrreflexiveRole, AsymmetricRole, DisjointObjectProperties, InverseObjectProperties, SubObjectPropertyOf, EquivalentObjectProperties, ReflexiveRole, ClassAssertion}
 use Rattle.rules.specs.Pool.{Pool, at}
-use Rattle.rules.specs.State.{Clause, Deferred, Limit, Out, mostInHand}
+use Rattle.rules.specs.State.{Clause, Deferred, Limit, Out, most_in_hand}
 
 -- P of each element
 abbrev pub Each : {A : Type 0} → (A → Type 0) → List A → Type 0
@@ -26,11 +26,11 @@ pub record Bounds : Type 0 where
   pub roles : ℕ
 
 -- with classes below n instead
-abbrev pub upTo : Bounds → ℕ → Bounds
-upTo B n = record { classes = n; individuals = B.individuals; roles = B.roles }
+abbrev pub up_to : Bounds → ℕ → Bounds
+up_to B n = record { classes = n; individuals = B.individuals; roles = B.roles }
 
 abbrev pub RoleIn : Bounds → Role → Type 0
-RoleIn B r = roleId r < B.roles
+RoleIn B r = role_id r < B.roles
 
 -- ---- pools
 -- a record at place n names earlier ids, and numbers that the Rust can form and negate
@@ -45,8 +45,8 @@ Bounded B n (And l) = Each (λ c. c < n) l
 Bounded B n (Or l) = Each (λ c. c < n) l
 Bounded B n (Some r c) = RoleIn B r × (c < n)
 Bounded B n (All r c) = RoleIn B r × (c < n)
-Bounded B n (Min k r c) = (k ≤ mostNumber) × RoleIn B r × (c < n)
-Bounded B n (Max k r c) = (k < mostNumber) × RoleIn B r × (c < n)
+Bounded B n (Min k r c) = (k ≤ most_number) × RoleIn B r × (c < n)
+Bounded B n (Max k r c) = (k < most_number) × RoleIn B r × (c < n)
 
 -- every record of the pool
 abbrev pub Wf : Bounds → Pool → Type 0
@@ -167,15 +167,15 @@ abbrev pub AtomIn : Bounds → (fresh vars : ℕ) → Atom → Type 0
 AtomIn B fresh vars (Class k v) = (k < fresh) × (v < vars)
 AtomIn B fresh vars (RoleAtom r u v) = RoleIn B r × (u < vars) × (v < vars)
 AtomIn B fresh vars (Exists r k v) = RoleIn B r × (k < fresh) × (v < vars)
-AtomIn B fresh vars (AtMost r q n v) = RoleIn B r × QualifierIn fresh q × (n ≤ mostNumber) × (v < vars)
-AtomIn B fresh vars (AtLeast r q n v) = RoleIn B r × QualifierIn fresh q × (n ≤ mostNumber) × (v < vars)
+AtomIn B fresh vars (AtMost r q n v) = RoleIn B r × QualifierIn fresh q × (n ≤ most_number) × (v < vars)
+AtomIn B fresh vars (AtLeast r q n v) = RoleIn B r × QualifierIn fresh q × (n ≤ most_number) × (v < vars)
 AtomIn B fresh vars (Equal u v) = (u < vars) × (v < vars)
 
 pub record ClauseIn (B : Bounds) (fresh vars : ℕ) (c : Clause) : Type 0 where
-  pub bodyIn : Each (AtomIn B fresh vars) c.body
-  pub headIn : Each (AtomIn B fresh vars) c.head
-  pub bodyShort : length c.body ≤ mostInHand
-  pub headShort : length c.head ≤ mostInHand
+  pub body_in : Each (AtomIn B fresh vars) c.body
+  pub head_in : Each (AtomIn B fresh vars) c.head
+  pub body_short : length c.body ≤ most_in_hand
+  pub head_short : length c.head ≤ most_in_hand
 
 -- names rise strictly from q on, below r
 abbrev pub NamesFrom : ℕ → List Limit → ℕ → Type 0
@@ -187,15 +187,15 @@ NamesFrom q (w ∷ l) r = (q ≤ w.name) × NamesFrom (suc w.name) l r
 pub record Emitted (B : Bounds) (vars : ℕ) (s t : Out) : Type 0 where
   pub new : List Clause
   pub clauses : t.clauses ≡ s.clauses ++ new
-  pub newIn : Each (ClauseIn B t.nextFresh vars) new
+  pub new_in : Each (ClauseIn B t.next_fresh vars) new
   pub deferring : List Deferred
   pub deferrals : t.deferrals ≡ s.deferrals ++ deferring
   pub waiting : List Limit
   pub limits : t.limits ≡ s.limits ++ waiting
-  pub named : NamesFrom s.nextFresh waiting t.nextFresh
+  pub named : NamesFrom s.next_fresh waiting t.next_fresh
   pub limit : t.limit ≡ s.limit
   pub line : t.line ≡ s.line
   pub visits : s.visits ≤ t.visits
   pub within : s.visits ≤ s.limit → t.visits ≤ t.limit
-  pub fresh : s.nextFresh ≤ t.nextFresh
-  pub names : t.nextFresh + s.visits ≤ s.nextFresh + t.visits
+  pub fresh : s.next_fresh ≤ t.next_fresh
+  pub names : t.next_fresh + s.visits ≤ s.next_fresh + t.visits

@@ -2,46 +2,46 @@
 use Rattle.std.specs.Prelude.{Bool, true, false, List, [], ◌∷◌, ◌++◌, ℕ, zero, suc, ◌+◌, ◌*◌, ◌-◌, ◌/◌, ◌%◌, length, replicate, ltb}
 use Rattle.ir.specs.Records.{six}
 use Rattle.ir.specs.declared.atom.Atom.{Atom}
-use Rattle.rules.specs.Text.{columnsOfField}
+use Rattle.rules.specs.Text.{columns_of_field}
 use Rattle.rules.specs.State.{Clause}
-use Rattle.rules.specs.Run.{Lengths, Outcome, accepted, refused, Run, scratchBytes, tenNumbers}
+use Rattle.rules.specs.Run.{Lengths, Outcome, accepted, refused, Run, scratch_bytes, ten_numbers}
 
 -- ---- numbers in decimal
-abbrev pub decimalWith : (ℕ → List ℕ → List ℕ) → ℕ → List ℕ → Bool → List ℕ
-decimalWith more n ds true = (48 + n) ∷ ds
-decimalWith more n ds false = more (n / 10) ((48 + n % 10) ∷ ds)
+abbrev pub decimal_with : (ℕ → List ℕ → List ℕ) → ℕ → List ℕ → Bool → List ℕ
+decimal_with more n ds true = (48 + n) ∷ ds
+decimal_with more n ds false = more (n / 10) ((48 + n % 10) ∷ ds)
 
 -- the digits of n before ds; ten digits are enough for a word
-unfoldable pub decimalBy : ℕ → ℕ → List ℕ → List ℕ
-decimalBy zero n ds = ds
-decimalBy (suc f) n ds = decimalWith (λ m es. decimalBy f m es) n ds (ltb n 10)
+unfoldable pub decimal_by : ℕ → ℕ → List ℕ → List ℕ
+decimal_by zero n ds = ds
+decimal_by (suc f) n ds = decimal_with (λ m es. decimal_by f m es) n ds (ltb n 10)
 
 abbrev pub decimal : ℕ → List ℕ
-decimal n = decimalBy 10 n []
+decimal n = decimal_by 10 n []
 
-abbrev pub fieldText : ℕ → List ℕ
-fieldText n = replicate (columnsOfField - length (decimal n)) 32 ++ decimal n
+abbrev pub field_text : ℕ → List ℕ
+field_text n = replicate (columns_of_field - length (decimal n)) 32 ++ decimal n
 
-unfoldable pub fieldsText : List ℕ → List ℕ
-fieldsText [] = 10 ∷ []
-fieldsText (n ∷ l) = fieldText n ++ fieldsText l
+unfoldable pub fields_text : List ℕ → List ℕ
+fields_text [] = 10 ∷ []
+fields_text (n ∷ l) = field_text n ++ fields_text l
 
 -- ---- the listing
-unfoldable pub atomsText : List Atom → List ℕ
-atomsText [] = []
-atomsText (a ∷ l) = fieldsText (42 ∷ six a) ++ atomsText l
+unfoldable pub atoms_text : List Atom → List ℕ
+atoms_text [] = []
+atoms_text (a ∷ l) = fields_text (42 ∷ six a) ++ atoms_text l
 
-unfoldable pub clausesText : ℕ → List Clause → List ℕ
-clausesText i [] = []
-clausesText i (c ∷ l) = fieldsText (41 ∷ i ∷ length c.body ∷ length c.head ∷ []) ++ (atomsText (c.body ++ c.head) ++ clausesText (i + 1) l)
+unfoldable pub clauses_text : ℕ → List Clause → List ℕ
+clauses_text i [] = []
+clauses_text i (c ∷ l) = fields_text (41 ∷ i ∷ length c.body ∷ length c.head ∷ []) ++ (atoms_text (c.body ++ c.head) ++ clauses_text (i + 1) l)
 
-abbrev pub outcomeText : Outcome → List ℕ
-outcomeText (accepted a) = clausesText 0 a.clauses ++ fieldsText (43 ∷ tenNumbers a)
-outcomeText (refused k line) = fieldsText (49 ∷ k ∷ line ∷ [])
+abbrev pub outcome_text : Outcome → List ℕ
+outcome_text (accepted a) = clauses_text 0 a.clauses ++ fields_text (43 ∷ ten_numbers a)
+outcome_text (refused k line) = fields_text (49 ∷ k ∷ line ∷ [])
 
 -- 1,024 clauses, 2,048 atoms, 256 deferrals
-abbrev pub listerLengths : Lengths
-listerLengths = record { clauses = 12 * 1024; atoms = 24 * 2048; deferrals = 8 * 256; scratch = scratchBytes }
+abbrev pub lister_lengths : Lengths
+lister_lengths = record { clauses = 12 * 1024; atoms = 24 * 2048; deferrals = 8 * 256; scratch = scratch_bytes }
 
 unfoldable pub listing : List ℕ → List ℕ
-listing deck = outcomeText (Run deck listerLengths)
+listing deck = outcome_text (Run deck lister_lengths)

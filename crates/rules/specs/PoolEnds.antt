@@ -3,15 +3,15 @@
 use Rattle.std.specs.Prelude.{◌≡◌, refl, Bool, true, false, List, [], ◌∷◌, ℕ, zero, suc}
 use Rattle.rules.specs.Base.{Res, ok, refused}
 use Rattle.rules.specs.Concept.{Concept, And, Atomic}
-use Rattle.rules.specs.Pool.{Pool, find, members, internRaw}
+use Rattle.rules.specs.Pool.{Pool, find, members, intern_raw}
 
 -- what interning answers
 pub data Answer : Type 0 where
   id number : ℕ → Answer
 
-abbrev answerOf : Res Pool ℕ → Answer
-answerOf (ok i p) = id i
-answerOf (refused k) = number k
+abbrev answer_of : Res Pool ℕ → Answer
+answer_of (ok i p) = id i
+answer_of (refused k) = number k
 
 -- the first n classes, the last first
 unfoldable classes : ℕ → Pool
@@ -28,24 +28,24 @@ lists zero = []
 lists (suc n) = And (n ∷ ones 127) ∷ lists n
 
 -- 2,048 concepts
-last-concept : answerOf (internRaw (Atomic 2047) (classes 2047)) ≡ id 2047
-unfolding internRaw find members classes
-last-concept = refl
+last_concept : answer_of (intern_raw (Atomic 2047) (classes 2047)) ≡ id 2047
+unfolding intern_raw find members classes
+last_concept = refl
 
-no-concept : answerOf (internRaw (Atomic 2048) (classes 2048)) ≡ number 11
-unfolding internRaw find members classes
-no-concept = refl
+no_concept : answer_of (intern_raw (Atomic 2048) (classes 2048)) ≡ number 11
+unfolding intern_raw find members classes
+no_concept = refl
 
 -- 16,384 list members: 127 lists and one of 128 more, or of 129
-last-member : answerOf (internRaw (And (127 ∷ ones 127)) (lists 127)) ≡ id 127
-unfolding internRaw find members ones lists
-last-member = refl
+last_member : answer_of (intern_raw (And (127 ∷ ones 127)) (lists 127)) ≡ id 127
+unfolding intern_raw find members ones lists
+last_member = refl
 
-no-member : answerOf (internRaw (And (127 ∷ ones 128)) (lists 127)) ≡ number 11
-unfolding internRaw find members ones lists
-no-member = refl
+no_member : answer_of (intern_raw (And (127 ∷ ones 128)) (lists 127)) ≡ number 11
+unfolding intern_raw find members ones lists
+no_member = refl
 
 -- an equal record is found in a full pool
-found : answerOf (internRaw (Atomic 0) (classes 2048)) ≡ id 2047
-unfolding internRaw find members classes
+found : answer_of (intern_raw (Atomic 0) (classes 2048)) ≡ id 2047
+unfolding intern_raw find members classes
 found = refl

@@ -1,14 +1,14 @@
 -- clause.rs: reflexive_role_ids, apply_reflexive_roles and add_counted_self_loops.
 use Rattle.std.specs.Prelude.{Bool, true, false, ◌&&◌, ◌||◌, List, [], ◌∷◌, ◌++◌, map, ℕ, zero, suc, ◌+◌, length, eqb, ltb}
 use Rattle.ir.specs.Pick.{pick}
-use Rattle.ir.specs.Roles.{roleId}
-use Rattle.ir.specs.Atoms.{atomVars, substituteAtom, replaced}
-use Rattle.ir.specs.Records.{sameAtom}
+use Rattle.ir.specs.Roles.{role_id}
+use Rattle.ir.specs.Atoms.{atom_vars, substitute_atom, replaced}
+use Rattle.ir.specs.Records.{same_atom}
 use Rattle.ir.specs.declared.role.Role.{Role}
 use Rattle.ir.specs.declared.atom.Atom.{Atom}
 use Rattle.ir.specs.declared.atom.Atom.TheVariants.{Class, Exists, AtMost, AtLeast, Equal, Role as RoleAtom}
 use Rattle.ir.specs.declared.deferral.Deferral.TheVariants.{ReflexiveDerivedCap}
-use Rattle.rules.specs.Base.{then, ◌>>=◌, return, refuse, forEach, any, contains, ◌>>◌}
+use Rattle.rules.specs.Base.{then, ◌>>=◌, return, refuse, for_each, any, contains, ◌>>◌}
 use Rattle.rules.specs.Concept.{Axiom}
 use Rattle.rules.specs.Concept.{SubClassOf, EquivalentClasses, DisjointClasses, DisjointUnion, ObjectPropertyDomain, ObjectPropertyRange, SubChain, TransitiveRole, IrreflexiveRole, AsymmetricRole, DisjointObjectProperties, InverseObjectProperties, SubObjectPropertyOf, EquivalentObjectProperties, ReflexiveRole, ClassAssertion}
 use Rattle.rules.specs.State.{Env, E, Clause, clause, canon, with, push, defer}
@@ -19,66 +19,66 @@ abbrev pub inserted : List ℕ → ℕ → List ℕ
 inserted set n = pick (contains set n) set (n ∷ set)
 
 module _ (env : Env) where
-  abbrev pub canonId : Role → ℕ
-  canonId r = roleId (canon env r)
+  abbrev pub canon_id : Role → ℕ
+  canon_id r = role_id (canon env r)
 
   -- the roles declared reflexive
-  abbrev pub declaredReflexive : List ℕ → Axiom → List ℕ
-  declaredReflexive set (SubClassOf _ _) = set
-  declaredReflexive set (EquivalentClasses _) = set
-  declaredReflexive set (DisjointClasses _) = set
-  declaredReflexive set (DisjointUnion _ _) = set
-  declaredReflexive set (ObjectPropertyDomain _ _) = set
-  declaredReflexive set (ObjectPropertyRange _ _) = set
-  declaredReflexive set (SubChain _ _) = set
-  declaredReflexive set (TransitiveRole _) = set
-  declaredReflexive set (IrreflexiveRole _) = set
-  declaredReflexive set (AsymmetricRole _) = set
-  declaredReflexive set (DisjointObjectProperties _) = set
-  declaredReflexive set (InverseObjectProperties _ _) = set
-  declaredReflexive set (SubObjectPropertyOf _ _) = set
-  declaredReflexive set (EquivalentObjectProperties _) = set
-  declaredReflexive set (ReflexiveRole r) = inserted set (canonId r)
-  declaredReflexive set (ClassAssertion _ _) = set
+  abbrev pub declared_reflexive : List ℕ → Axiom → List ℕ
+  declared_reflexive set (SubClassOf _ _) = set
+  declared_reflexive set (EquivalentClasses _) = set
+  declared_reflexive set (DisjointClasses _) = set
+  declared_reflexive set (DisjointUnion _ _) = set
+  declared_reflexive set (ObjectPropertyDomain _ _) = set
+  declared_reflexive set (ObjectPropertyRange _ _) = set
+  declared_reflexive set (SubChain _ _) = set
+  declared_reflexive set (TransitiveRole _) = set
+  declared_reflexive set (IrreflexiveRole _) = set
+  declared_reflexive set (AsymmetricRole _) = set
+  declared_reflexive set (DisjointObjectProperties _) = set
+  declared_reflexive set (InverseObjectProperties _ _) = set
+  declared_reflexive set (SubObjectPropertyOf _ _) = set
+  declared_reflexive set (EquivalentObjectProperties _) = set
+  declared_reflexive set (ReflexiveRole r) = inserted set (canon_id r)
+  declared_reflexive set (ClassAssertion _ _) = set
 
-  unfoldable pub reflexiveFrom : List ℕ → List Axiom → List ℕ
-  reflexiveFrom set [] = set
-  reflexiveFrom set (a ∷ l) = reflexiveFrom (declaredReflexive set a) l
+  unfoldable pub reflexive_from : List ℕ → List Axiom → List ℕ
+  reflexive_from set [] = set
+  reflexive_from set (a ∷ l) = reflexive_from (declared_reflexive set a) l
 
   -- an edge from each role of an equivalence to each other
-  abbrev pub edgeTo : ℕ → ℕ → List (ℕ × ℕ) → Bool → List (ℕ × ℕ)
-  edgeTo a b rest true = rest
-  edgeTo a b rest false = (a, b) ∷ rest
+  abbrev pub edge_to : ℕ → ℕ → List (ℕ × ℕ) → Bool → List (ℕ × ℕ)
+  edge_to a b rest true = rest
+  edge_to a b rest false = (a, b) ∷ rest
 
-  unfoldable pub edgesFrom : ℕ → List ℕ → List (ℕ × ℕ)
-  edgesFrom a [] = []
-  edgesFrom a (b ∷ l) = edgeTo a b (edgesFrom a l) (eqb a b)
+  unfoldable pub edges_from : ℕ → List ℕ → List (ℕ × ℕ)
+  edges_from a [] = []
+  edges_from a (b ∷ l) = edge_to a b (edges_from a l) (eqb a b)
 
-  unfoldable pub edgesAmong : List ℕ → List ℕ → List (ℕ × ℕ)
-  edgesAmong [] l = []
-  edgesAmong (a ∷ k) l = edgesFrom a l ++ edgesAmong k l
+  unfoldable pub edges_among : List ℕ → List ℕ → List (ℕ × ℕ)
+  edges_among [] l = []
+  edges_among (a ∷ k) l = edges_from a l ++ edges_among k l
 
-  abbrev pub roleEdges : Axiom → List (ℕ × ℕ)
-  roleEdges (SubClassOf _ _) = []
-  roleEdges (EquivalentClasses _) = []
-  roleEdges (DisjointClasses _) = []
-  roleEdges (DisjointUnion _ _) = []
-  roleEdges (ObjectPropertyDomain _ _) = []
-  roleEdges (ObjectPropertyRange _ _) = []
-  roleEdges (SubChain _ _) = []
-  roleEdges (TransitiveRole _) = []
-  roleEdges (IrreflexiveRole _) = []
-  roleEdges (AsymmetricRole _) = []
-  roleEdges (DisjointObjectProperties _) = []
-  roleEdges (InverseObjectProperties _ _) = []
-  roleEdges (SubObjectPropertyOf r s) = (canonId r, canonId s) ∷ []
-  roleEdges (EquivalentObjectProperties l) = edgesAmong (map canonId l) (map canonId l)
-  roleEdges (ReflexiveRole _) = []
-  roleEdges (ClassAssertion _ _) = []
+  abbrev pub role_edges : Axiom → List (ℕ × ℕ)
+  role_edges (SubClassOf _ _) = []
+  role_edges (EquivalentClasses _) = []
+  role_edges (DisjointClasses _) = []
+  role_edges (DisjointUnion _ _) = []
+  role_edges (ObjectPropertyDomain _ _) = []
+  role_edges (ObjectPropertyRange _ _) = []
+  role_edges (SubChain _ _) = []
+  role_edges (TransitiveRole _) = []
+  role_edges (IrreflexiveRole _) = []
+  role_edges (AsymmetricRole _) = []
+  role_edges (DisjointObjectProperties _) = []
+  role_edges (InverseObjectProperties _ _) = []
+  role_edges (SubObjectPropertyOf r s) = (canon_id r, canon_id s) ∷ []
+  role_edges (EquivalentObjectProperties l) = edges_among (map canon_id l) (map canon_id l)
+  role_edges (ReflexiveRole _) = []
+  role_edges (ClassAssertion _ _) = []
 
-  unfoldable pub allEdges : List Axiom → List (ℕ × ℕ)
-  allEdges [] = []
-  allEdges (a ∷ l) = roleEdges a ++ allEdges l
+  unfoldable pub all_edges : List Axiom → List (ℕ × ℕ)
+  all_edges [] = []
+  all_edges (a ∷ l) = role_edges a ++ all_edges l
 
 -- one round over the edges
 unfoldable pub round : List (ℕ × ℕ) → List ℕ → List ℕ
@@ -94,66 +94,66 @@ unfoldable pub closed : ℕ → List (ℕ × ℕ) → List ℕ → List ℕ
 closed zero edges set = set
 closed (suc f) edges set = settled (λ k. closed f edges k) set (round edges set) (eqb (length set) (length (round edges set)))
 
-unfoldable pub reflexiveRoleIds : Env → List Axiom → List ℕ
-reflexiveRoleIds env axioms = closed (suc (length (allEdges env axioms))) (allEdges env axioms) (reflexiveFrom env [] axioms)
+unfoldable pub reflexive_role_ids : Env → List Axiom → List ℕ
+reflexive_role_ids env axioms = closed (suc (length (all_edges env axioms))) (all_edges env axioms) (reflexive_from env [] axioms)
 
 -- ---- apply_reflexive_roles
 -- REFLEXIVE_DERIVED_CAP
-abbrev pub reflexiveDerivedCap : ℕ
-reflexiveDerivedCap = 4096
+abbrev pub reflexive_derived_cap : ℕ
+reflexive_derived_cap = 4096
 
-abbrev pub containsAtom : List Atom → Atom → Bool
-containsAtom l a = any (sameAtom a) l
+abbrev pub contains_atom : List Atom → Atom → Bool
+contains_atom l a = any (same_atom a) l
 
-unfoldable pub sameAtoms : List Atom → List Atom → Bool
-sameAtoms [] [] = true
-sameAtoms [] (b ∷ m) = false
-sameAtoms (a ∷ l) [] = false
-sameAtoms (a ∷ l) (b ∷ m) = sameAtom a b && sameAtoms l m
+unfoldable pub same_atoms : List Atom → List Atom → Bool
+same_atoms [] [] = true
+same_atoms [] (b ∷ m) = false
+same_atoms (a ∷ l) [] = false
+same_atoms (a ∷ l) (b ∷ m) = same_atom a b && same_atoms l m
 
 -- clauses are compared by body and head
-abbrev pub sameClause : Clause → Clause → Bool
-sameClause c d = sameAtoms c.body d.body && sameAtoms c.head d.head
+abbrev pub same_clause : Clause → Clause → Bool
+same_clause c d = same_atoms c.body d.body && same_atoms c.head d.head
 
-abbrev pub containsClause : List Clause → Clause → Bool
-containsClause l c = any (sameClause c) l
+abbrev pub contains_clause : List Clause → Clause → Bool
+contains_clause l c = any (same_clause c) l
 
 -- a role atom over a reflexive role
-abbrev pub isReflexive : List ℕ → Atom → Bool
-isReflexive set (Class _ _) = false
-isReflexive set (RoleAtom r _ _) = contains set (roleId r)
-isReflexive set (Exists _ _ _) = false
-isReflexive set (AtMost _ _ _ _) = false
-isReflexive set (AtLeast _ _ _ _) = false
-isReflexive set (Equal _ _) = false
+abbrev pub is_reflexive : List ℕ → Atom → Bool
+is_reflexive set (Class _ _) = false
+is_reflexive set (RoleAtom r _ _) = contains set (role_id r)
+is_reflexive set (Exists _ _ _) = false
+is_reflexive set (AtMost _ _ _ _) = false
+is_reflexive set (AtLeast _ _ _ _) = false
+is_reflexive set (Equal _ _) = false
 
 -- R(v, v) over a reflexive role: it holds everywhere
-abbrev pub isSelfLoop : List ℕ → Atom → Bool
-isSelfLoop set (Class _ _) = false
-isSelfLoop set (RoleAtom r u v) = eqb u v && contains set (roleId r)
-isSelfLoop set (Exists _ _ _) = false
-isSelfLoop set (AtMost _ _ _ _) = false
-isSelfLoop set (AtLeast _ _ _ _) = false
-isSelfLoop set (Equal _ _) = false
+abbrev pub is_self_loop : List ℕ → Atom → Bool
+is_self_loop set (Class _ _) = false
+is_self_loop set (RoleAtom r u v) = eqb u v && contains set (role_id r)
+is_self_loop set (Exists _ _ _) = false
+is_self_loop set (AtMost _ _ _ _) = false
+is_self_loop set (AtLeast _ _ _ _) = false
+is_self_loop set (Equal _ _) = false
 
 -- R(src, tgt) contracted: one variable is put for the other, X being kept
-abbrev pub keptVar : ℕ → ℕ → ℕ
-keptVar src tgt = pick (eqb tgt 0) tgt src
+abbrev pub kept_var : ℕ → ℕ → ℕ
+kept_var src tgt = pick (eqb tgt 0) tgt src
 
-abbrev pub droppedVar : ℕ → ℕ → ℕ
-droppedVar src tgt = pick (eqb tgt 0) src tgt
+abbrev pub dropped_var : ℕ → ℕ → ℕ
+dropped_var src tgt = pick (eqb tgt 0) src tgt
 
 abbrev pub substituted : ℕ → ℕ → List Atom → List Atom
-substituted drop keep l = map (λ a. substituteAtom a (replaced drop keep)) l
+substituted drop keep l = map (λ a. substitute_atom a (replaced drop keep)) l
 
 -- the clause without the atom between `before` and `after`, contracted along it
 abbrev pub contracted : List Atom → List Atom → List Atom → ℕ → ℕ → Clause
 contracted before after head src tgt =
-    clause (substituted (droppedVar src tgt) (keptVar src tgt) (before ++ after)) (substituted (droppedVar src tgt) (keptVar src tgt) head)
+    clause (substituted (dropped_var src tgt) (kept_var src tgt) (before ++ after)) (substituted (dropped_var src tgt) (kept_var src tgt) head)
 
 -- a clause that always holds: a head atom is in the body, or is a self-loop
-abbrev pub isTrivial : List ℕ → Clause → Bool
-isTrivial set c = any (containsAtom c.body) c.head || any (isSelfLoop set) c.head
+abbrev pub is_trivial : List ℕ → Clause → Bool
+is_trivial set c = any (contains_atom c.body) c.head || any (is_self_loop set) c.head
 
 -- what the pass hands on beside the clauses: the queue, its last clause first, and the clauses derived so far
 pub record Derived : Type 0 where
@@ -166,25 +166,25 @@ pub data Unfolded : Type 0 where
   capped : Unfolded
 
 -- ---- of add_counted_self_loops
-unfoldable pub maxVar : ℕ → List ℕ → ℕ
-maxVar m [] = m
-maxVar m (v ∷ l) = maxVar (pick (ltb m v) v m) l
+unfoldable pub max_var : ℕ → List ℕ → ℕ
+max_var m [] = m
+max_var m (v ∷ l) = max_var (pick (ltb m v) v m) l
 
-unfoldable pub atomsVars : List Atom → List ℕ
-atomsVars [] = []
-atomsVars (a ∷ l) = atomVars a ++ atomsVars l
+unfoldable pub atoms_vars : List Atom → List ℕ
+atoms_vars [] = []
+atoms_vars (a ∷ l) = atom_vars a ++ atoms_vars l
 
 -- one more than the greatest variable of the clause
-abbrev pub nextVarOf : Clause → ℕ
-nextVarOf c = maxVar 0 (atomsVars (c.body ++ c.head)) + 1
+abbrev pub next_var_of : Clause → ℕ
+next_var_of c = max_var 0 (atoms_vars (c.body ++ c.head)) + 1
 
-abbrev pub loopKept : List Clause → Clause → Bool → List Clause
-loopKept new c true = new
-loopKept new c false = new ++ (c ∷ [])
+abbrev pub loop_kept : List Clause → Clause → Bool → List Clause
+loop_kept new c true = new
+loop_kept new c false = new ++ (c ∷ [])
 
 module _ (env : Env) (set : List ℕ) where
   abbrev pub queued : Clause → List Clause → List Clause
-  queued c l = pick (any (isReflexive set) c.body) (c ∷ l) l
+  queued c l = pick (any (is_reflexive set) c.body) (c ∷ l) l
 
   -- a new clause, if the cap allows it
   abbrev pub derive : Clause → Derived → Bool → E Unfolded
@@ -195,33 +195,33 @@ module _ (env : Env) (set : List ℕ) where
     push env c.body c.head
     return (more (record { queue = queued c d.queue; seen = d.seen ++ (c ∷ []) }))
 
-  abbrev pub deriveNew : Clause → Derived → Bool → E Unfolded
-  deriveNew c d true = return (more d)
-  deriveNew c d false = derive c d (eqb (length d.seen) reflexiveDerivedCap)
+  abbrev pub derive_new : Clause → Derived → Bool → E Unfolded
+  derive_new c d true = return (more d)
+  derive_new c d false = derive c d (eqb (length d.seen) reflexive_derived_cap)
 
   unfoldable pub contract : Clause → Derived → E Unfolded
-  contract c d = deriveNew c d (isTrivial set c || containsClause d.seen c)
+  contract c d = derive_new c d (is_trivial set c || contains_clause d.seen c)
 
-  abbrev pub goOn : (Derived → E Unfolded) → Unfolded → E Unfolded
-  goOn rest (more d) = rest d
-  goOn rest capped = return capped
+  abbrev pub go_on : (Derived → E Unfolded) → Unfolded → E Unfolded
+  go_on rest (more d) = rest d
+  go_on rest capped = return capped
 
   -- the atoms of a clause's body in turn
-  abbrev pub unfoldRole : (Derived → E Unfolded) → Clause → Derived → Bool → E Unfolded
-  unfoldRole rest c d true = contract c d >>= (λ u. goOn rest u)
-  unfoldRole rest c d false = rest d
+  abbrev pub unfold_role : (Derived → E Unfolded) → Clause → Derived → Bool → E Unfolded
+  unfold_role rest c d true = contract c d >>= (λ u. go_on rest u)
+  unfold_role rest c d false = rest d
 
-  abbrev pub unfoldAt : (Derived → E Unfolded) → List Atom → List Atom → List Atom → Atom → Derived → E Unfolded
-  unfoldAt rest before after head (Class _ _) d = rest d
-  unfoldAt rest before after head (RoleAtom r src tgt) d = unfoldRole rest (contracted before after head src tgt) d (contains set (roleId r))
-  unfoldAt rest before after head (Exists _ _ _) d = rest d
-  unfoldAt rest before after head (AtMost _ _ _ _) d = rest d
-  unfoldAt rest before after head (AtLeast _ _ _ _) d = rest d
-  unfoldAt rest before after head (Equal _ _) d = rest d
+  abbrev pub unfold_at : (Derived → E Unfolded) → List Atom → List Atom → List Atom → Atom → Derived → E Unfolded
+  unfold_at rest before after head (Class _ _) d = rest d
+  unfold_at rest before after head (RoleAtom r src tgt) d = unfold_role rest (contracted before after head src tgt) d (contains set (role_id r))
+  unfold_at rest before after head (Exists _ _ _) d = rest d
+  unfold_at rest before after head (AtMost _ _ _ _) d = rest d
+  unfold_at rest before after head (AtLeast _ _ _ _) d = rest d
+  unfold_at rest before after head (Equal _ _) d = rest d
 
-  unfoldable pub unfoldBody : List Atom → List Atom → List Atom → Derived → E Unfolded
-  unfoldBody before [] head d = return (more d)
-  unfoldBody before (a ∷ l) head d = unfoldAt (λ d₁. unfoldBody (before ++ (a ∷ [])) l head d₁) before l head a d
+  unfoldable pub unfold_body : List Atom → List Atom → List Atom → Derived → E Unfolded
+  unfold_body before [] head d = return (more d)
+  unfold_body before (a ∷ l) head d = unfold_at (λ d₁. unfold_body (before ++ (a ∷ [])) l head d₁) before l head a d
 
   abbrev pub finish : (Derived → E (Unit {0})) → Unfolded → E (Unit {0})
   finish rest (more d) = rest d
@@ -231,12 +231,12 @@ module _ (env : Env) (set : List ℕ) where
   abbrev pub popped : (Derived → E (Unit {0})) → List Clause → List Clause → E (Unit {0})
   popped rest [] seen = return tt
   popped rest (c ∷ q) seen = do
-    u ← unfoldBody [] c.body c.head (record { queue = q; seen = seen })
+    u ← unfold_body [] c.body c.head (record { queue = q; seen = seen })
     finish rest u
 
-  unfoldable pub unfoldBy : ℕ → Derived → E (Unit {0})
-  unfoldBy zero d = refuse 0
-  unfoldBy (suc f) d = popped (λ d₁. unfoldBy f d₁) d.queue d.seen
+  unfoldable pub unfold_by : ℕ → Derived → E (Unit {0})
+  unfold_by zero d = refuse 0
+  unfold_by (suc f) d = popped (λ d₁. unfold_by f d₁) d.queue d.seen
 
   -- the first queue: the clauses with a reflexive body atom, the last on top
   unfoldable pub stacked : List Clause → List Clause → List Clause
@@ -244,36 +244,36 @@ module _ (env : Env) (set : List ℕ) where
   stacked (c ∷ l) q = stacked l (queued c q)
 
   -- each clause is popped once: the first ones, and at most the cap of derived ones
-  unfoldable pub applyReflexiveRoles : E (Unit {0})
-  applyReflexiveRoles s = unfoldBy (length s.clauses + reflexiveDerivedCap + 1) (record { queue = stacked s.clauses []; seen = [] }) s
+  unfoldable pub apply_reflexive_roles : E (Unit {0})
+  apply_reflexive_roles s = unfold_by (length s.clauses + reflexive_derived_cap + 1) (record { queue = stacked s.clauses []; seen = [] }) s
 
   -- ---- add_counted_self_loops
-  abbrev pub loopOver : Clause → Role → ℕ → List Clause → Bool → E (List Clause)
-  loopOver c r v new false = return new
-  loopOver c r v new true = do
-    body ← with c.body (RoleAtom r v (nextVarOf c))
-    return (loopKept new (clause body (RoleAtom r v v ∷ [])) (containsClause new (clause body (RoleAtom r v v ∷ []))))
+  abbrev pub loop_over : Clause → Role → ℕ → List Clause → Bool → E (List Clause)
+  loop_over c r v new false = return new
+  loop_over c r v new true = do
+    body ← with c.body (RoleAtom r v (next_var_of c))
+    return (loop_kept new (clause body (RoleAtom r v v ∷ [])) (contains_clause new (clause body (RoleAtom r v v ∷ []))))
 
   -- body and R(v, fresh) give R(v, v), for an at-most head atom over a reflexive role
-  abbrev pub loopOf : Clause → List Clause → Atom → E (List Clause)
-  loopOf c new (Class _ _) = return new
-  loopOf c new (RoleAtom _ _ _) = return new
-  loopOf c new (Exists _ _ _) = return new
-  loopOf c new (AtMost r q n v) = loopOver c r v new (contains set (roleId r))
-  loopOf c new (AtLeast _ _ _ _) = return new
-  loopOf c new (Equal _ _) = return new
+  abbrev pub loop_of : Clause → List Clause → Atom → E (List Clause)
+  loop_of c new (Class _ _) = return new
+  loop_of c new (RoleAtom _ _ _) = return new
+  loop_of c new (Exists _ _ _) = return new
+  loop_of c new (AtMost r q n v) = loop_over c r v new (contains set (role_id r))
+  loop_of c new (AtLeast _ _ _ _) = return new
+  loop_of c new (Equal _ _) = return new
 
-  unfoldable pub loopsOfHead : Clause → List Atom → List Clause → E (List Clause)
-  loopsOfHead c [] new = return new
-  loopsOfHead c (a ∷ l) new = do
-    k ← loopOf c new a
-    loopsOfHead c l k
+  unfoldable pub loops_of_head : Clause → List Atom → List Clause → E (List Clause)
+  loops_of_head c [] new = return new
+  loops_of_head c (a ∷ l) new = do
+    k ← loop_of c new a
+    loops_of_head c l k
 
-  unfoldable pub selfLoops : List Clause → List Clause → E (List Clause)
-  selfLoops [] new = return new
-  selfLoops (c ∷ l) new = do
-    k ← loopsOfHead c c.head new
-    selfLoops l k
+  unfoldable pub self_loops : List Clause → List Clause → E (List Clause)
+  self_loops [] new = return new
+  self_loops (c ∷ l) new = do
+    k ← loops_of_head c c.head new
+    self_loops l k
 
-  unfoldable pub addCountedSelfLoops : E (Unit {0})
-  addCountedSelfLoops s = then (selfLoops s.clauses [] s) (λ new. forEach (λ c. push env c.body c.head) new)
+  unfoldable pub add_counted_self_loops : E (Unit {0})
+  add_counted_self_loops s = then (self_loops s.clauses [] s) (λ new. for_each (λ c. push env c.body c.head) new)

@@ -8,8 +8,8 @@ use Rattle.rules.specs.Concept.{Concept, Axiom}
 use Rattle.rules.specs.Concept.{Top, Bot, Atomic, Nominal, SelfRestriction, Not, And, Or, Some, All, Min, Max}
 use Rattle.rules.specs.Concept.{SubClassOf, EquivalentClasses, DisjointClasses, DisjointUnion, ObjectPropertyDomain, ObjectPropertyRange, SubChain, TransitiveRole, IrreflexiveRole, AsymmetricRole, DisjointObjectProperties, InverseObjectProperties, SubObjectPropertyOf, EquivalentObjectProperties, ReflexiveRole, ClassAssertion}
 use Rattle.rules.specs.Pool.{Pool}
-use Rattle.rules.specs.Axioms.{paired, laterPairs}
-use Rattle.rules.specs.Semantics.{Interpretation, elementsBelow, meaningsFrom, means, chainRelated, satisfied}
+use Rattle.rules.specs.Axioms.{paired, later_pairs}
+use Rattle.rules.specs.Semantics.{Interpretation, elements_below, meanings_from, means, chain_related, satisfied}
 use Rattle.rules.specs.Tried.{interpretation}
 
 -- concept 0 is Top; the concepts A, B and C are the classes 0, 1 and 2
@@ -101,12 +101,12 @@ concepts =
     (Min 1 r A ∷ Max 1 r 4 ∷ [], 0 ∷ 1 ∷ 2 ∷ 4 ∷ 5 ∷ 6 ∷ 7 ∷ []) ∷
     []
 
-abbrev pub holdsAt : List Concept → ℕ → Bool
-holdsAt l x = means eight (pool ++ l) (3 + length l) x
+abbrev pub holds_at : List Concept → ℕ → Bool
+holds_at l x = means eight (pool ++ l) (3 + length l) x
 
-pub concepts-hold : map (λ c. (c.0, filter (holdsAt c.0) (0 ∷ 1 ∷ 2 ∷ 3 ∷ 4 ∷ 5 ∷ 6 ∷ 7 ∷ []))) concepts ≡ concepts
-unfolding filter elementsBelow meaningsFrom means
-concepts-hold = refl
+pub concepts_hold : map (λ c. (c.0, filter (holds_at c.0) (0 ∷ 1 ∷ 2 ∷ 3 ∷ 4 ∷ 5 ∷ 6 ∷ 7 ∷ []))) concepts ≡ concepts
+unfolding filter elements_below meanings_from means
+concepts_hold = refl
 
 -- ---- axioms, in interpretations with the elements 0 to 3, or 0 to 2 where there are pairs
 -- sets for A, B and C
@@ -135,11 +135,11 @@ apart = sets (0 ∷ []) (1 ∷ []) (2 ∷ [])
 abbrev pub alike : Interpretation
 alike = sets (0 ∷ []) (0 ∷ []) (0 ∷ [])
 
-abbrev pub pairsApart : Interpretation
-pairsApart = pairs ((0, 1) ∷ []) ((1, 2) ∷ []) ((2, 2) ∷ [])
+abbrev pub pairs_apart : Interpretation
+pairs_apart = pairs ((0, 1) ∷ []) ((1, 2) ∷ []) ((2, 2) ∷ [])
 
-abbrev pub pairsAlike : Interpretation
-pairsAlike = pairs ((0, 1) ∷ []) ((0, 1) ∷ []) ((0, 1) ∷ [])
+abbrev pub pairs_alike : Interpretation
+pairs_alike = pairs ((0, 1) ∷ []) ((0, 1) ∷ []) ((0, 1) ∷ [])
 
 pub data Row : Type 0 where
   -- satisfied in the first, not in the second
@@ -147,9 +147,9 @@ pub data Row : Type 0 where
   -- satisfied in every interpretation: tried in two, one of which fails the same kind's list of two different entries
   always : Axiom → Interpretation → Interpretation → Row
 
-abbrev pub axiomOf : Row → Axiom
-axiomOf (both a I J) = a
-axiomOf (always a I J) = a
+abbrev pub axiom_of : Row → Axiom
+axiom_of (both a I J) = a
+axiom_of (always a I J) = a
 
 abbrev pub computes : Row → Bool
 computes (both a I J) = satisfied I pool a && not (satisfied J pool a)
@@ -225,18 +225,18 @@ axioms =
     both (AsymmetricRole r) (pairs [] [] []) (pairs ((0, 1) ∷ (2, 2) ∷ []) [] []) ∷
     both (AsymmetricRole r⁻) (pairs ((0, 1) ∷ (1, 2) ∷ (2, 0) ∷ []) [] []) (pairs ((0, 1) ∷ (1, 0) ∷ []) [] []) ∷
     -- 31: as 23, but equal entries don't clash; a role and its inverse are unequal
-    always (DisjointObjectProperties []) pairsApart pairsAlike ∷
-    always (DisjointObjectProperties (r ∷ [])) pairsApart pairsAlike ∷
-    always (DisjointObjectProperties (r ∷ r ∷ [])) pairsApart pairsAlike ∷
-    always (DisjointObjectProperties (r⁻ ∷ r⁻ ∷ [])) pairsApart pairsAlike ∷
+    always (DisjointObjectProperties []) pairs_apart pairs_alike ∷
+    always (DisjointObjectProperties (r ∷ [])) pairs_apart pairs_alike ∷
+    always (DisjointObjectProperties (r ∷ r ∷ [])) pairs_apart pairs_alike ∷
+    always (DisjointObjectProperties (r⁻ ∷ r⁻ ∷ [])) pairs_apart pairs_alike ∷
     both (DisjointObjectProperties (r ∷ s ∷ [])) (pairs ((0, 1) ∷ []) ((1, 0) ∷ (0, 2) ∷ []) []) (pairs ((0, 1) ∷ (1, 2) ∷ []) ((1, 2) ∷ []) []) ∷
     both (DisjointObjectProperties (r ∷ s⁻ ∷ [])) (pairs ((0, 1) ∷ []) ((0, 1) ∷ []) []) (pairs ((0, 1) ∷ []) ((1, 0) ∷ []) []) ∷
     both (DisjointObjectProperties (r ∷ r⁻ ∷ [])) (pairs ((0, 1) ∷ (1, 2) ∷ []) [] []) (pairs ((0, 1) ∷ (1, 0) ∷ []) [] []) ∷
     both (DisjointObjectProperties (r ∷ r⁻ ∷ [])) (pairs [] [] []) (pairs ((2, 2) ∷ []) [] []) ∷
-    both (DisjointObjectProperties (r ∷ s ∷ t ∷ [])) pairsApart (pairs ((0, 1) ∷ []) ((0, 2) ∷ []) ((0, 1) ∷ [])) ∷
-    both (DisjointObjectProperties (r ∷ s ∷ t ∷ [])) pairsApart (pairs ((0, 1) ∷ []) ((0, 1) ∷ []) ((0, 2) ∷ [])) ∷
-    both (DisjointObjectProperties (r ∷ s ∷ t ∷ [])) pairsApart (pairs ((0, 1) ∷ []) ((0, 2) ∷ []) ((0, 2) ∷ [])) ∷
-    both (DisjointObjectProperties (r ∷ s ∷ r ∷ [])) pairsApart pairsAlike ∷
+    both (DisjointObjectProperties (r ∷ s ∷ t ∷ [])) pairs_apart (pairs ((0, 1) ∷ []) ((0, 2) ∷ []) ((0, 1) ∷ [])) ∷
+    both (DisjointObjectProperties (r ∷ s ∷ t ∷ [])) pairs_apart (pairs ((0, 1) ∷ []) ((0, 1) ∷ []) ((0, 2) ∷ [])) ∷
+    both (DisjointObjectProperties (r ∷ s ∷ t ∷ [])) pairs_apart (pairs ((0, 1) ∷ []) ((0, 2) ∷ []) ((0, 2) ∷ [])) ∷
+    both (DisjointObjectProperties (r ∷ s ∷ r ∷ [])) pairs_apart pairs_alike ∷
     -- 32
     both (InverseObjectProperties r s) (pairs ((0, 1) ∷ (1, 2) ∷ []) ((1, 0) ∷ (2, 1) ∷ []) []) (pairs ((0, 1) ∷ []) ((0, 1) ∷ []) []) ∷
     both (InverseObjectProperties r s) (pairs [] [] []) (pairs ((0, 1) ∷ []) [] []) ∷
@@ -247,15 +247,15 @@ axioms =
     both (SubObjectPropertyOf r s) (pairs ((0, 1) ∷ []) ((0, 1) ∷ (1, 2) ∷ []) []) (pairs ((0, 1) ∷ (1, 2) ∷ []) ((0, 1) ∷ []) []) ∷
     both (SubObjectPropertyOf r s⁻) (pairs ((0, 1) ∷ []) ((1, 0) ∷ []) []) (pairs ((0, 1) ∷ []) ((0, 1) ∷ []) []) ∷
     -- 34: as 22
-    always (EquivalentObjectProperties []) pairsApart pairsAlike ∷
-    always (EquivalentObjectProperties (r ∷ [])) pairsApart pairsAlike ∷
-    always (EquivalentObjectProperties (r ∷ r ∷ [])) pairsApart pairsAlike ∷
+    always (EquivalentObjectProperties []) pairs_apart pairs_alike ∷
+    always (EquivalentObjectProperties (r ∷ [])) pairs_apart pairs_alike ∷
+    always (EquivalentObjectProperties (r ∷ r ∷ [])) pairs_apart pairs_alike ∷
     both (EquivalentObjectProperties (r ∷ s ∷ [])) (pairs ((0, 1) ∷ []) ((0, 1) ∷ []) ((1, 2) ∷ [])) (pairs ((0, 1) ∷ []) [] []) ∷
     both (EquivalentObjectProperties (r ∷ s ∷ [])) (pairs [] [] ((1, 2) ∷ [])) (pairs [] ((0, 1) ∷ []) []) ∷
     both (EquivalentObjectProperties (r ∷ s⁻ ∷ [])) (pairs ((0, 1) ∷ []) ((1, 0) ∷ []) []) (pairs ((0, 1) ∷ []) ((0, 1) ∷ []) []) ∷
-    both (EquivalentObjectProperties (r ∷ s ∷ t ∷ [])) pairsAlike (pairs [] ((0, 1) ∷ []) ((0, 1) ∷ [])) ∷
-    both (EquivalentObjectProperties (r ∷ s ∷ t ∷ [])) pairsAlike (pairs ((0, 1) ∷ []) [] ((0, 1) ∷ [])) ∷
-    both (EquivalentObjectProperties (r ∷ s ∷ t ∷ [])) pairsAlike (pairs ((0, 1) ∷ []) ((0, 1) ∷ []) []) ∷
+    both (EquivalentObjectProperties (r ∷ s ∷ t ∷ [])) pairs_alike (pairs [] ((0, 1) ∷ []) ((0, 1) ∷ [])) ∷
+    both (EquivalentObjectProperties (r ∷ s ∷ t ∷ [])) pairs_alike (pairs ((0, 1) ∷ []) [] ((0, 1) ∷ [])) ∷
+    both (EquivalentObjectProperties (r ∷ s ∷ t ∷ [])) pairs_alike (pairs ((0, 1) ∷ []) ((0, 1) ∷ []) []) ∷
     -- 35
     both (ReflexiveRole r) (pairs loops [] []) (pairs ((0, 0) ∷ (1, 1) ∷ []) [] []) ∷
     both (ReflexiveRole r⁻) (pairs ((0, 1) ∷ loops) [] []) (pairs ((0, 1) ∷ (1, 2) ∷ (2, 0) ∷ []) [] []) ∷
@@ -264,6 +264,6 @@ axioms =
     []
 
 -- the axioms of the rows that compute otherwise: none
-pub axioms-hold : map axiomOf (filter (λ a. not (computes a)) axioms) ≡ []
-unfolding filter elementsBelow meaningsFrom means chainRelated paired laterPairs
-axioms-hold = refl
+pub axioms_hold : map axiom_of (filter (λ a. not (computes a)) axioms) ≡ []
+unfolding filter elements_below meanings_from means chain_related paired later_pairs
+axioms_hold = refl

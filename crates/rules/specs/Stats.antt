@@ -4,14 +4,14 @@ use Rattle.ir.specs.declared.atom.Atom.{Atom}
 use Rattle.ir.specs.declared.atom.Atom.TheVariants.{Class, Exists, AtMost, AtLeast, Equal, Role as RoleAtom}
 use Rattle.rules.specs.Base.{any}
 use Rattle.rules.specs.State.{Clause}
-use Rattle.rules.specs.Branches.{bodyVarCount, maxBodyVars}
+use Rattle.rules.specs.Branches.{body_var_count, max_body_vars}
 
 pub record ClauseStats : Type 0 where
   pub total : ℕ
   pub horn : ℕ
   pub disjunctive : ℕ
-  pub bottomHeaded : ℕ
-  pub withExistsHead : ℕ
+  pub bottom_headed : ℕ
+  pub with_exists_head : ℕ
   pub deferred : ℕ
   pub decomposed : ℕ
   pub refused : ℕ
@@ -20,47 +20,47 @@ abbrev pub one : Bool → ℕ
 one true = 1
 one false = 0
 
-unfoldable pub countOf : (Clause → Bool) → List Clause → ℕ
-countOf p [] = 0
-countOf p (c ∷ l) = one (p c) + countOf p l
+unfoldable pub count_of : (Clause → Bool) → List Clause → ℕ
+count_of p [] = 0
+count_of p (c ∷ l) = one (p c) + count_of p l
 
-abbrev pub isBottomHeaded : Clause → Bool
-isBottomHeaded c = eqb (length c.head) 0
+abbrev pub is_bottom_headed : Clause → Bool
+is_bottom_headed c = eqb (length c.head) 0
 
 -- an empty head is Horn too
-abbrev pub isHorn : Clause → Bool
-isHorn c = leb (length c.head) 1
+abbrev pub is_horn : Clause → Bool
+is_horn c = leb (length c.head) 1
 
-abbrev pub isDisjunctive : Clause → Bool
-isDisjunctive c = ltb 1 (length c.head)
+abbrev pub is_disjunctive : Clause → Bool
+is_disjunctive c = ltb 1 (length c.head)
 
-abbrev pub isExists : Atom → Bool
-isExists (Class _ _) = false
-isExists (RoleAtom _ _ _) = false
-isExists (Exists _ _ _) = true
-isExists (AtMost _ _ _ _) = false
-isExists (AtLeast _ _ _ _) = false
-isExists (Equal _ _) = false
+abbrev pub is_exists : Atom → Bool
+is_exists (Class _ _) = false
+is_exists (RoleAtom _ _ _) = false
+is_exists (Exists _ _ _) = true
+is_exists (AtMost _ _ _ _) = false
+is_exists (AtLeast _ _ _ _) = false
+is_exists (Equal _ _) = false
 
-abbrev pub hasExistsHead : Clause → Bool
-hasExistsHead c = any isExists c.head
+abbrev pub has_exists_head : Clause → Bool
+has_exists_head c = any is_exists c.head
 
-abbrev pub isRefused : Clause → Bool
-isRefused c = ltb maxBodyVars (bodyVarCount c.body)
+abbrev pub is_refused : Clause → Bool
+is_refused c = ltb max_body_vars (body_var_count c.body)
 
 -- of the clauses, the deferrals and the rewritten bodies
-unfoldable pub clauseStats : List Clause → (deferred decomposed : ℕ) → ClauseStats
-clauseStats l d n = record {
+unfoldable pub clause_stats : List Clause → (deferred decomposed : ℕ) → ClauseStats
+clause_stats l d n = record {
   total = length l;
-  horn = countOf isHorn l;
-  disjunctive = countOf isDisjunctive l;
-  bottomHeaded = countOf isBottomHeaded l;
-  withExistsHead = countOf hasExistsHead l;
+  horn = count_of is_horn l;
+  disjunctive = count_of is_disjunctive l;
+  bottom_headed = count_of is_bottom_headed l;
+  with_exists_head = count_of has_exists_head l;
   deferred = d;
   decomposed = n;
-  refused = countOf isRefused l;
+  refused = count_of is_refused l;
 }
 
 -- in the Rust's order
-abbrev pub statsNumbers : ClauseStats → List ℕ
-statsNumbers s = s.total ∷ s.horn ∷ s.disjunctive ∷ s.bottomHeaded ∷ s.withExistsHead ∷ s.deferred ∷ s.decomposed ∷ s.refused ∷ []
+abbrev pub stats_numbers : ClauseStats → List ℕ
+stats_numbers s = s.total ∷ s.horn ∷ s.disjunctive ∷ s.bottom_headed ∷ s.with_exists_head ∷ s.deferred ∷ s.decomposed ∷ s.refused ∷ []

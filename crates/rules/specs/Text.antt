@@ -3,14 +3,14 @@
 use Rattle.std.specs.Prelude.{Bool, true, false, ◌&&◌, List, [], ◌∷◌, ◌++◌, ℕ, zero, suc, ◌+◌, ◌*◌, ◌-◌, length, get_or, take, drop, eqb, leb}
 use Rattle.ir.specs.Pick.{pick}
 
-abbrev pub mostNumber : ℕ
-mostNumber = 4294967295
+abbrev pub most_number : ℕ
+most_number = 4294967295
 
-abbrev pub columnsOfField : ℕ
-columnsOfField = 11
+abbrev pub columns_of_field : ℕ
+columns_of_field = 11
 
-abbrev pub isDigit : ℕ → Bool
-isDigit b = leb 48 b && leb b 57
+abbrev pub is_digit : ℕ → Bool
+is_digit b = leb 48 b && leb b 57
 
 -- what the columns so far are: spaces alone, a number, or no field
 pub data Columns : Type 0 where
@@ -19,12 +19,12 @@ pub data Columns : Type 0 where
   broken : Columns
 
 abbrev pub capped : ℕ → Columns
-capped v = pick (leb v mostNumber) (digits v) broken
+capped v = pick (leb v most_number) (digits v) broken
 
 -- one column more; a number that begins with 0 has no further digit
 unfoldable pub column : Columns → ℕ → Columns
-column spaces b = pick (eqb b 32) spaces (pick (isDigit b) (digits (b - 48)) broken)
-column (digits v) b = pick (eqb v 0) broken (pick (isDigit b) (capped (10 * v + (b - 48))) broken)
+column spaces b = pick (eqb b 32) spaces (pick (is_digit b) (digits (b - 48)) broken)
+column (digits v) b = pick (eqb v 0) broken (pick (is_digit b) (capped (10 * v + (b - 48))) broken)
 column broken b = broken
 
 unfoldable pub columns : Columns → List ℕ → Columns
@@ -32,38 +32,38 @@ columns x [] = x
 columns x (b ∷ s) = columns (column x b) s
 
 -- 4294967296 where there is no number
-abbrev pub numberIn : Columns → ℕ
-numberIn spaces = 4294967296
-numberIn (digits v) = v
-numberIn broken = 4294967296
+abbrev pub number_in : Columns → ℕ
+number_in spaces = 4294967296
+number_in (digits v) = v
+number_in broken = 4294967296
 
 -- the number in the first 11 bytes, the first of them a space
 unfoldable pub number : List ℕ → ℕ
-number s = pick (eqb (get_or s 0 0) 32) (numberIn (columns spaces (take columnsOfField s))) 4294967296
+number s = pick (eqb (get_or s 0 0) 32) (number_in (columns spaces (take columns_of_field s))) 4294967296
 
 -- a line's numbers and the bytes after its line feed
 pub data Row : Type 0 where
   row : List ℕ → List ℕ → Row
-  brokenRow : Row
+  broken_row : Row
 
 -- a line without a number breaks the layout
-abbrev pub rowEnded : List ℕ → List ℕ → Row
-rowEnded [] s = brokenRow
-rowEnded (n ∷ ns) s = row (n ∷ ns) s
+abbrev pub row_ended : List ℕ → List ℕ → Row
+row_ended [] s = broken_row
+row_ended (n ∷ ns) s = row (n ∷ ns) s
 
-abbrev pub rowField : (ℕ → Row) → ℕ → Bool → Row
-rowField rest n true = rest n
-rowField rest n false = brokenRow
+abbrev pub row_field : (ℕ → Row) → ℕ → Bool → Row
+row_field rest n true = rest n
+row_field rest n false = broken_row
 
-abbrev pub rowByte : (ℕ → Row) → List ℕ → List ℕ → ℕ → Bool → Row
-rowByte rest ns s b true = rowEnded ns s
-rowByte rest ns s b false = rowField rest (number (b ∷ s)) (leb 10 (length s) && leb (number (b ∷ s)) mostNumber)
+abbrev pub row_byte : (ℕ → Row) → List ℕ → List ℕ → ℕ → Bool → Row
+row_byte rest ns s b true = row_ended ns s
+row_byte rest ns s b false = row_field rest (number (b ∷ s)) (leb 10 (length s) && leb (number (b ∷ s)) most_number)
 
 -- the row that begins with the numbers ns and goes on with these bytes; it ends by its line feed alone
-unfoldable pub rowBy : ℕ → List ℕ → List ℕ → Row
-rowBy zero ns s = brokenRow
-rowBy (suc f) ns [] = brokenRow
-rowBy (suc f) ns (b ∷ s) = rowByte (λ n. rowBy f (ns ++ (n ∷ [])) (drop 10 s)) ns s b (eqb b 10)
+unfoldable pub row_by : ℕ → List ℕ → List ℕ → Row
+row_by zero ns s = broken_row
+row_by (suc f) ns [] = broken_row
+row_by (suc f) ns (b ∷ s) = row_byte (λ n. row_by f (ns ++ (n ∷ [])) (drop 10 s)) ns s b (eqb b 10)
 
-unfoldable pub rowOf : List ℕ → Row
-rowOf s = rowBy (length s) [] s
+unfoldable pub row_of : List ℕ → Row
+row_of s = row_by (length s) [] s

@@ -4,7 +4,7 @@ use Rattle.ir.specs.declared.counters.Counters.{Counters}
 use Rattle.rules.specs.State.{Rooms}
 use Rattle.rules.specs.Deck.{Known}
 use Rattle.rules.specs.DeckLaws.{DeckIn}
-use Rattle.rules.specs.Run.{firstFresh, scratchBytes}
+use Rattle.rules.specs.Run.{first_fresh, scratch_bytes}
 use Rattle.staging.specs.Stage.{Staged}
 
 -- in scratch's bytes s and the words c, a, d of the tables; the deck has n axioms
@@ -14,5 +14,5 @@ pub record Before (s : List ℕ) (k : Counters) (n first : ℕ) (c a d : List �
   pub known : Known
   pub inside : DeckIn known
   pub staged : Staged limit rooms known s n k c a d
-  pub fresh : first ≡ firstFresh known
-  pub space : scratchBytes ≤ length s
+  pub fresh : first ≡ first_fresh known
+  pub space : scratch_bytes ≤ length s

@@ -2,8 +2,8 @@
 use Rattle.std.specs.Prelude.{◌≡◌, List, ℕ, ◌*◌, ◌-◌, ◌≤◌, length}
 use Rattle.ir.specs.declared.counters.Counters.{Counters}
 use Rattle.rules.specs.State.{Rooms}
-use Rattle.rules.specs.Stats.{clauseStats}
-use Rattle.rules.specs.Run.{Accepted, Outcome, accepted, refused, clauseWords, atomWords, deferralWords, clauseRecords, atomRecords, deferralRecords}
+use Rattle.rules.specs.Stats.{clause_stats}
+use Rattle.rules.specs.Run.{Accepted, Outcome, accepted, refused, clause_words, atom_words, deferral_words, clause_records, atom_records, deferral_records}
 use Rattle.tables.specs.Drawn.{padded}
 use Rattle.run.specs.declared.Ran.{Ran}
 use Rattle.run.specs.declared.Ran.TheVariants as Rans
@@ -11,14 +11,14 @@ use Rattle.run.specs.declared.Ran.TheVariants as Rans
 -- what an accepted run left: its records in the words of the tables, then zeros; its numbers in the counters, the first fresh
 -- class and the number of decomposed bodies
 pub record Left (rooms : Rooms) (x : Accepted) (k : Counters) (first decomposed : ℕ) (c a d : List ℕ) : Type 0 where
-  pub clauses : c ≡ padded (clauseWords * rooms.clauses) (clauseRecords 0 x.clauses)
-  pub atoms : a ≡ padded (atomWords * rooms.atoms) (atomRecords x.clauses)
-  pub deferrals : d ≡ padded (deferralWords * rooms.deferrals) (deferralRecords x.deferrals)
+  pub clauses : c ≡ padded (clause_words * rooms.clauses) (clause_records 0 x.clauses)
+  pub atoms : a ≡ padded (atom_words * rooms.atoms) (atom_records x.clauses)
+  pub deferrals : d ≡ padded (deferral_words * rooms.deferrals) (deferral_records x.deferrals)
   pub many : k.clauses ≡ length x.clauses
   pub deferred : k.deferrals ≡ length x.deferrals
-  pub stats : x.stats ≡ clauseStats x.clauses k.deferrals decomposed
+  pub stats : x.stats ≡ clause_stats x.clauses k.deferrals decomposed
   pub low : first ≤ k.next_class
-  pub fresh : x.freshIds ≡ k.next_class - first
+  pub fresh : x.fresh_ids ≡ k.next_class - first
   pub visits : x.visits ≡ k.visits
 
 abbrev pub RanAs : Rooms → Outcome → List ℕ → List ℕ → List ℕ → Ran → Type 0

@@ -3,8 +3,8 @@ use Rattle.std.specs.Prelude.{◌≡◌, List, ℕ, length}
 use Rattle.std.proofs.Math.Path.{refl, ap, subst}
 use Rattle.std.proofs.Common.{sym, ◌∙◌, arith}
 use Prim.{tt}
-use Rattle.ir.specs.Counts.{atLine}
-use Rattle.ir.specs.Options.{bodyDecompose}
+use Rattle.ir.specs.Counts.{at_line}
+use Rattle.ir.specs.Options.{body_decompose}
 use Rattle.ir.specs.declared.counters.Counters.{Counters}
 use Rattle.ir.specs.declared.answer.Answer.{Answer}
 use Rattle.ir.specs.declared.answer.Answer.TheVariants.{Done, Refused}
@@ -12,13 +12,13 @@ use Rattle.rules.specs.Base.{Res, ok, refused as refuses}
 use Rattle.rules.specs.Concept.{Axiom}
 use Rattle.rules.specs.Normalize.{St}
 use Rattle.rules.specs.State.{Rooms, Out}
-use Rattle.rules.specs.Deck.{Known, Told, refused as unread, axiomLine}
+use Rattle.rules.specs.Deck.{Known, Told, refused as unread, axiom_line}
 use Rattle.rules.specs.DeckLaws.{DeckIn}
-use Rattle.rules.specs.LinedPost.{LinedPost, done-post}
-use Rattle.rules.specs.Run.{Lined, done, stopped, lined, linedThen, atLine as line_at, clausifyAxioms, latePasses, Outcome, refused, firstFresh, envOf, acceptedOf, outcomeOf, start, clausifyNormal, runDeck, runRead}
-use Rattle.rules.specs.RunLaws.{RunIn, deckRun, run-in}
+use Rattle.rules.specs.LinedPost.{LinedPost, done_post}
+use Rattle.rules.specs.Run.{Lined, done, stopped, lined, lined_then, at_line as line_at, clausify_axioms, late_passes, Outcome, refused, first_fresh, env_of, accepted_of, outcome_of, start, clausify_normal, run_deck, run_read}
+use Rattle.rules.specs.RunLaws.{RunIn, deck_run, run_in}
 use Rattle.normalize.specs.Loaded.{normalized}
-use Rattle.tables.specs.Drawn.{Tables, tables, countersIn, clausesIn, atomsIn, deferralsIn, show, shown, after}
+use Rattle.tables.specs.Drawn.{Tables, tables, counters_in, clauses_in, atoms_in, deferrals_in, show, shown, after}
 use Rattle.staging.specs.Stage.{staged}
 use Rattle.run.specs.declared.Ran.{Ran}
 use Rattle.run.specs.declared.Ran.TheVariants as Rans
@@ -30,87 +30,87 @@ use Rattle.run.specs.LateLaws.{later}
 -- ---- the rules' run
 -- refused before the later passes
 module _ (limit : ℕ) (rooms : Rooms) (d : Known) (e line : ℕ) where
-  stops : (x : Lined St (List Axiom)) → linedThen x (λ axioms s. clausifyAxioms (envOf d rooms axioms) (axiomLine d 0) axioms (start d s)) ≡ stopped e line → linedThen x (λ axioms s. clausifyNormal d rooms axioms s) ≡ stopped e line
-  unfolding clausifyNormal
+  stops : (x : Lined St (List Axiom)) → lined_then x (λ axioms s. clausify_axioms (env_of d rooms axioms) (axiom_line d 0) axioms (start d s)) ≡ stopped e line → lined_then x (λ axioms s. clausify_normal d rooms axioms s) ≡ stopped e line
+  unfolding clausify_normal
   stops (done axioms s) h = rw h refl
   stops (stopped n l) h = cc
 
-  pub run-stops : staged limit rooms d ≡ stopped e line → runDeck limit rooms d ≡ refused e line
-  unfolding runDeck
-  run-stops h = ap (outcomeOf d) (stops (normalized d limit) h)
+  pub run_stops : staged limit rooms d ≡ stopped e line → run_deck limit rooms d ≡ refused e line
+  unfolding run_deck
+  run_stops h = ap (outcome_of d) (stops (normalized d limit) h)
 
 -- what the later passes do
 module _ (s : List ℕ) (k : Counters) (n first : ℕ) (c a d : List ℕ) (B : Before s k n first c a d) where
   abbrev pub latest : Res Out ℕ
-  latest = latePasses (envOf B.known B.rooms B.staged.normal) B.staged.normal (bodyDecompose B.known.header.options) (line_at 0 B.staged.state.out)
+  latest = late_passes (env_of B.known B.rooms B.staged.normal) B.staged.normal (body_decompose B.known.header.options) (line_at 0 B.staged.state.out)
 
-  clausified : clausifyAxioms (envOf B.known B.rooms B.staged.normal) (axiomLine B.known 0) B.staged.normal (start B.known B.staged.begun) ≡ done tt B.staged.state
+  clausified : clausify_axioms (env_of B.known B.rooms B.staged.normal) (axiom_line B.known 0) B.staged.normal (start B.known B.staged.begun) ≡ done tt B.staged.state
   clausified = rw B.staged.formed at B.staged.made
 
-  pub run-latest : deckRun B.limit B.rooms B.known ≡ lined 0 latest
-  unfolding clausifyNormal
-  run-latest = rw (B.staged.formed, clausified) refl
+  pub run_latest : deck_run B.limit B.rooms B.known ≡ lined 0 latest
+  unfolding clausify_normal
+  run_latest = rw (B.staged.formed, clausified) refl
 
 -- ---- the later passes' answer
-abbrev pub ranOf : ℕ → Answer → Ran
-ranOf first (Done k m) = Rans.Accepted k first m
-ranOf first (Refused e) = Rans.Refused e 0
+abbrev pub ran_of : ℕ → Answer → Ran
+ran_of first (Done k m) = Rans.Accepted k first m
+ran_of first (Refused e) = Rans.Refused e 0
 
-left-of : (d : Known) (limit : ℕ) (rooms : Rooms) (k l : Counters) (first m : ℕ) (s : Out) (c a f : List ℕ) → first ≡ firstFresh d → RunIn d limit rooms m s → tables l c a f ≡ show k rooms s → Left rooms (acceptedOf d m s) l first m c a f
+left_of : (d : Known) (limit : ℕ) (rooms : Rooms) (k l : Counters) (first m : ℕ) (s : Out) (c a f : List ℕ) → first ≡ first_fresh d → RunIn d limit rooms m s → tables l c a f ≡ show k rooms s → Left rooms (accepted_of d m s) l first m c a f
 unfolding show
-left-of d limit rooms k l first m s c a f e R h =
-    let next : l.next_class ≡ s.nextFresh = ap (λ (t : Tables). (countersIn t).next_class) h in
-    let deferred : l.deferrals ≡ length s.deferrals = ap (λ (t : Tables). (countersIn t).deferrals) h in
+left_of d limit rooms k l first m s c a f e R h =
+    let next : l.next_class ≡ s.next_fresh = ap (λ (t : Tables). (counters_in t).next_class) h in
+    let deferred : l.deferrals ≡ length s.deferrals = ap (λ (t : Tables). (counters_in t).deferrals) h in
     record {
-      clauses = ap clausesIn h;
-      atoms = ap atomsIn h;
-      deferrals = ap deferralsIn h;
-      many = ap (λ (t : Tables). (countersIn t).clauses) h;
+      clauses = ap clauses_in h;
+      atoms = ap atoms_in h;
+      deferrals = ap deferrals_in h;
+      many = ap (λ (t : Tables). (counters_in t).clauses) h;
       deferred = deferred;
       stats = rw deferred refl;
       low = omega (arith, R.first);
       fresh = rw (next, e) refl;
-      visits = sym (ap (λ (t : Tables). (countersIn t).visits) h);
+      visits = sym (ap (λ (t : Tables). (counters_in t).visits) h);
     }
 
-module _ (d : Known) (D : DeckIn d) (limit : ℕ) (rooms : Rooms) (k : Counters) (first : ℕ) (e : first ≡ firstFresh d) (c a f : List ℕ) where
-  ran-late : (x : Res Out ℕ) (r : Answer) → deckRun limit rooms d ≡ lined 0 x → after r c a f ≡ shown (λ m. m) k rooms x → RanAs rooms (outcomeOf d (lined 0 x)) c a f (ranOf first r)
-  ran-late (ok m s) (Done l i) q h =
-      let R : RunIn d limit rooms m s = done-post (subst (LinedPost (RunIn d limit rooms)) q (run-in limit rooms d D)) in
+module _ (d : Known) (D : DeckIn d) (limit : ℕ) (rooms : Rooms) (k : Counters) (first : ℕ) (e : first ≡ first_fresh d) (c a f : List ℕ) where
+  ran_late : (x : Res Out ℕ) (r : Answer) → deck_run limit rooms d ≡ lined 0 x → after r c a f ≡ shown (λ m. m) k rooms x → RanAs rooms (outcome_of d (lined 0 x)) c a f (ran_of first r)
+  ran_late (ok m s) (Done l i) q h =
+      let R : RunIn d limit rooms m s = done_post (subst (LinedPost (RunIn d limit rooms)) q (run_in limit rooms d D)) in
       let same : i ≡ m = cc in
       let t : tables l c a f ≡ show k rooms s = cc in
-      subst (λ (j : ℕ). Left rooms (acceptedOf d m s) l first j c a f) (sym same) (left-of d limit rooms k l first m s c a f e R t)
-  ran-late (ok m s) (Refused n) q h = absurd (let z : ◌≡◌ {A = ℕ} 0 1 = cc in omega arith)
-  ran-late (refuses m) (Done l i) q h = absurd (let z : ◌≡◌ {A = ℕ} 0 1 = cc in omega arith)
-  ran-late (refuses m) (Refused n) q h = let z : n ≡ m = cc in (z, refl)
+      subst (λ (j : ℕ). Left rooms (accepted_of d m s) l first j c a f) (sym same) (left_of d limit rooms k l first m s c a f e R t)
+  ran_late (ok m s) (Refused n) q h = absurd (let z : ◌≡◌ {A = ℕ} 0 1 = cc in omega arith)
+  ran_late (refuses m) (Done l i) q h = absurd (let z : ◌≡◌ {A = ℕ} 0 1 = cc in omega arith)
+  ran_late (refuses m) (Refused n) q h = let z : n ≡ m = cc in (z, refl)
 
 -- the run's answer is the rules', where late_passes was called with the counters k'
-module _ (s : List ℕ) (k : Counters) (n first : ℕ) (c a d : List ℕ) (B : Before s k n first c a d) (k' : Counters) (at : k' ≡ atLine 0 k) (c' a' d' : List ℕ) (r : Answer)
-    (h : (L : Later s k' n c a d) → after r c' a' d' ≡ shown (λ m. m) k' L.env.rooms (latePasses L.env L.axioms (bodyDecompose k'.options) L.state)) where
-  abbrev latestOf : ℕ → Res Out ℕ
-  latestOf options = latePasses (envOf B.known B.rooms B.staged.normal) B.staged.normal (bodyDecompose options) (line_at 0 B.staged.state.out)
+module _ (s : List ℕ) (k : Counters) (n first : ℕ) (c a d : List ℕ) (B : Before s k n first c a d) (k' : Counters) (at : k' ≡ at_line 0 k) (c' a' d' : List ℕ) (r : Answer)
+    (h : (L : Later s k' n c a d) → after r c' a' d' ≡ shown (λ m. m) k' L.env.rooms (late_passes L.env L.axioms (body_decompose k'.options) L.state)) where
+  abbrev latest_of : ℕ → Res Out ℕ
+  latest_of options = late_passes (env_of B.known B.rooms B.staged.normal) B.staged.normal (body_decompose options) (line_at 0 B.staged.state.out)
 
-  late-is : after r c' a' d' ≡ shown (λ m. m) (atLine 0 k) B.rooms (latest s k n first c a d B)
-  late-is =
-      subst (λ (j : Counters). (L : Later s j n c a d) → after r c' a' d' ≡ shown (λ m. m) j L.env.rooms (latePasses L.env L.axioms (bodyDecompose j.options) L.state)) at h (later s k n first c a d B)
-      ∙ ap (λ (w : ℕ). shown (λ m. m) (atLine 0 k) B.rooms (latestOf w)) B.staged.options
+  late_is : after r c' a' d' ≡ shown (λ m. m) (at_line 0 k) B.rooms (latest s k n first c a d B)
+  late_is =
+      subst (λ (j : Counters). (L : Later s j n c a d) → after r c' a' d' ≡ shown (λ m. m) j L.env.rooms (late_passes L.env L.axioms (body_decompose j.options) L.state)) at h (later s k n first c a d B)
+      ∙ ap (λ (w : ℕ). shown (λ m. m) (at_line 0 k) B.rooms (latest_of w)) B.staged.options
 
-  ran-as : RanAs B.rooms (runDeck B.limit B.rooms B.known) c' a' d' (ranOf first r)
-  unfolding runDeck
-  ran-as =
-      let q = run-latest s k n first c a d B in
-      subst (λ (y : Lined Out ℕ). RanAs B.rooms (outcomeOf B.known y) c' a' d' (ranOf first r)) (sym q)
-      (ran-late B.known B.inside B.limit B.rooms (atLine 0 k) first B.fresh c' a' d' (latest s k n first c a d B) r q late-is)
+  ran_as : RanAs B.rooms (run_deck B.limit B.rooms B.known) c' a' d' (ran_of first r)
+  unfolding run_deck
+  ran_as =
+      let q = run_latest s k n first c a d B in
+      subst (λ (y : Lined Out ℕ). RanAs B.rooms (outcome_of B.known y) c' a' d' (ran_of first r)) (sym q)
+      (ran_late B.known B.inside B.limit B.rooms (at_line 0 k) first B.fresh c' a' d' (latest s k n first c a d B) r q late_is)
 
-  pub ran-done : (l : Counters) (m : ℕ) → r ≡ Done l m → RanAs B.rooms (runDeck B.limit B.rooms B.known) c' a' d' (Rans.Accepted l first m)
-  ran-done l m e = subst (λ (o : Answer). RanAs B.rooms (runDeck B.limit B.rooms B.known) c' a' d' (ranOf first o)) e ran-as
+  pub ran_done : (l : Counters) (m : ℕ) → r ≡ Done l m → RanAs B.rooms (run_deck B.limit B.rooms B.known) c' a' d' (Rans.Accepted l first m)
+  ran_done l m e = subst (λ (o : Answer). RanAs B.rooms (run_deck B.limit B.rooms B.known) c' a' d' (ran_of first o)) e ran_as
 
-  pub ran-refused : (m : ℕ) → r ≡ Refused m → RanAs B.rooms (runDeck B.limit B.rooms B.known) c' a' d' (Rans.Refused m 0)
-  ran-refused m e = subst (λ (o : Answer). RanAs B.rooms (runDeck B.limit B.rooms B.known) c' a' d' (ranOf first o)) e ran-as
+  pub ran_refused : (m : ℕ) → r ≡ Refused m → RanAs B.rooms (run_deck B.limit B.rooms B.known) c' a' d' (Rans.Refused m 0)
+  ran_refused m e = subst (λ (o : Answer). RanAs B.rooms (run_deck B.limit B.rooms B.known) c' a' d' (ran_of first o)) e ran_as
 
 -- ---- refused before the later passes
-pub ran-stopped : (limit : ℕ) (rooms : Rooms) (d : Known) (c a f : List ℕ) (e line : ℕ) → staged limit rooms d ≡ stopped e line → RanAs rooms (runDeck limit rooms d) c a f (Rans.Refused e line)
-ran-stopped limit rooms d c a f e line h = subst (λ (o : Outcome). RanAs rooms o c a f (Rans.Refused e line)) (sym (run-stops limit rooms d e line h)) (refl, refl)
+pub ran_stopped : (limit : ℕ) (rooms : Rooms) (d : Known) (c a f : List ℕ) (e line : ℕ) → staged limit rooms d ≡ stopped e line → RanAs rooms (run_deck limit rooms d) c a f (Rans.Refused e line)
+ran_stopped limit rooms d c a f e line h = subst (λ (o : Outcome). RanAs rooms o c a f (Rans.Refused e line)) (sym (run_stops limit rooms d e line h)) (refl, refl)
 
-pub ran-unread : (limit : ℕ) (rooms : Rooms) (t : Told) (c a f : List ℕ) (e line : ℕ) → t ≡ unread e line → RanAs rooms (runRead limit rooms t) c a f (Rans.Refused e line)
-ran-unread limit rooms t c a f e line h = subst (λ (o : Told). RanAs rooms (runRead limit rooms o) c a f (Rans.Refused e line)) (sym h) (refl, refl)
+pub ran_unread : (limit : ℕ) (rooms : Rooms) (t : Told) (c a f : List ℕ) (e line : ℕ) → t ≡ unread e line → RanAs rooms (run_read limit rooms t) c a f (Rans.Refused e line)
+ran_unread limit rooms t c a f e line h = subst (λ (o : Told). RanAs rooms (run_read limit rooms o) c a f (Rans.Refused e line)) (sym h) (refl, refl)

@@ -4,8 +4,8 @@
 ghost use Rattle.std.specs.Prelude.{◌≤◌, length};
 ghost use Rattle.words.specs.Words.{words};
 ghost use Rattle.rules.specs.State.{Rooms};
-ghost use Rattle.rules.specs.Deck.{readDeck};
-ghost use Rattle.rules.specs.Run.{runDeck, runRead, scratchBytes};
+ghost use Rattle.rules.specs.Deck.{read_deck};
+ghost use Rattle.rules.specs.Run.{run_deck, run_read, scratch_bytes};
 ghost use Rattle.tables.specs.Drawn.{Sized};
 ghost use Rattle.clausifier.specs.Prepare.{Preparing};
 ghost use Rattle.staging.specs.Stage.{Blank};
@@ -35,7 +35,7 @@ fn run_late(
     first: u32,
 ) -> Ran
     requires { Before scratch.old k n first (words clauses.old) (words atoms.old) (words deferrals.old) × Sized (length clauses.old) (length atoms.old) (length deferrals.old) }
-    ensures { (B : Before scratch.old k n first (words clauses.old) (words atoms.old) (words deferrals.old)) → RanAs B.rooms (runDeck B.limit B.rooms B.known) (words clauses.new) (words atoms.new) (words deferrals.new) result }
+    ensures { (B : Before scratch.old k n first (words clauses.old) (words atoms.old) (words deferrals.old)) → RanAs B.rooms (run_deck B.limit B.rooms B.known) (words clauses.new) (words atoms.new) (words deferrals.new) result }
 {
     match late::late_passes(scratch, clauses, atoms, deferrals, k.at_line(0), n) {
         Answer::Done(l, m) => Ran::Accepted(l, first, m),
@@ -52,8 +52,8 @@ fn run_loaded(
     k: Counters,
     n: u32,
 ) -> Ran
-    requires { Preparing scratch.old k n × (scratchBytes ≤ length scratch.old) × ((rooms : Rooms) × Blank rooms (words clauses.old) (words atoms.old) (words deferrals.old)) × Sized (length clauses.old) (length atoms.old) (length deferrals.old) }
-    ensures { (P : Preparing scratch.old k n) (rooms : Rooms) → Blank rooms (words clauses.old) (words atoms.old) (words deferrals.old) → RanAs rooms (runDeck P.limit rooms P.known) (words clauses.new) (words atoms.new) (words deferrals.new) result }
+    requires { Preparing scratch.old k n × (scratch_bytes ≤ length scratch.old) × ((rooms : Rooms) × Blank rooms (words clauses.old) (words atoms.old) (words deferrals.old)) × Sized (length clauses.old) (length atoms.old) (length deferrals.old) }
+    ensures { (P : Preparing scratch.old k n) (rooms : Rooms) → Blank rooms (words clauses.old) (words atoms.old) (words deferrals.old) → RanAs rooms (run_deck P.limit rooms P.known) (words clauses.new) (words atoms.new) (words deferrals.new) result }
 {
     match staging::clausify_deck(scratch, clauses, atoms, deferrals, k, n) {
         Lined::Finished(v) => run_late(scratch, clauses, atoms, deferrals, v, n, k.next_class),
@@ -70,8 +70,8 @@ pub fn run(
     deferrals: &mut [u8],
     limit: u32,
 ) -> Ran
-    requires { (limit ≤ 1000000) × (scratchBytes ≤ length scratch.old) × ((rooms : Rooms) × Blank rooms (words clauses.old) (words atoms.old) (words deferrals.old)) × Sized (length clauses.old) (length atoms.old) (length deferrals.old) }
-    ensures { (rooms : Rooms) → Blank rooms (words clauses.old) (words atoms.old) (words deferrals.old) → RanAs rooms (runRead limit rooms (readDeck deck.now)) (words clauses.new) (words atoms.new) (words deferrals.new) result }
+    requires { (limit ≤ 1000000) × (scratch_bytes ≤ length scratch.old) × ((rooms : Rooms) × Blank rooms (words clauses.old) (words atoms.old) (words deferrals.old)) × Sized (length clauses.old) (length atoms.old) (length deferrals.old) }
+    ensures { (rooms : Rooms) → Blank rooms (words clauses.old) (words atoms.old) (words deferrals.old) → RanAs rooms (run_read limit rooms (read_deck deck.now)) (words clauses.new) (words atoms.new) (words deferrals.new) result }
 {
     match load::load(deck, scratch, limit) {
         Loaded::Accepted(k, n) => run_loaded(scratch, clauses, atoms, deferrals, k, n),

@@ -7,11 +7,11 @@ use lib.Dec.{eqb}
 use lib.Pow.{pow-lt}
 use Rattle.rules.specs.Semantics.{one}
 
-pub power-small : (x : ℕ) → x < 64 → 2 ^ x < 2 ^ 64
-power-small x h = pow-lt h
+pub power_small : (x : ℕ) → x < 64 → 2 ^ x < 2 ^ 64
+power_small x h = pow-lt h
 
 pub shifted : (x : ℕ) → x < 64 → 1 * 2 ^ x % 2 ^ 64 ≡ 2 ^ x
-shifted x h = ap (λ (k : ℕ). k % 2 ^ 64) (one-mul (2 ^ x)) ∙ mod-eq_of_lt (power-small x h)
+shifted x h = ap (λ (k : ℕ). k % 2 ^ 64) (one-mul (2 ^ x)) ∙ mod-eq_of_lt (power_small x h)
 
 pub digit : (b : Bool) → eqb (one b) 1 ≡ b
 digit true = refl

@@ -2,33 +2,33 @@
 use Rattle.std.specs.Prelude.{◌≡◌, refl, List, [], ◌∷◌, ℕ, ◌+◌, ◌*◌, ◌/◌, ◌%◌, ◌<◌, ◌≤◌, length, get_or}
 use Rattle.std.proofs.Common.{sym, ap, ap₂, ◌∙◌, arith, add-zero}
 use Rattle.std.proofs.lemmas.List.Edits.{sets}
-use Rattle.words.specs.Runs.{getD-sets-in, getD-sets-before, getD-sets-after}
-use Rattle.sets.specs.Kept.{setAt, setPut}
+use Rattle.words.specs.Runs.{get_d_sets_in, get_d_sets_before, get_d_sets_after}
+use Rattle.sets.specs.Kept.{set_at, set_put}
 
 module _ (w : List ℕ) (i m : ℕ) where
   abbrev pair : List ℕ
   pair = (m % 4294967296) ∷ (m / 4294967296) ∷ []
 
-  pub set-put : 2 * i + 2 ≤ length w → setAt (setPut w i m) i ≡ m
-  set-put h =
-      let a : get_or (setPut w i m) (2 * i) 0 ≡ m % 4294967296 = ap (λ (k : ℕ). get_or (setPut w i m) k 0) (sym (add-zero (2 * i))) ∙ getD-sets-in pair w (2 * i) 0 0 (omega arith) h in
-      let b : get_or (setPut w i m) (2 * i + 1) 0 ≡ m / 4294967296 = getD-sets-in pair w (2 * i) 1 0 (omega arith) h in
+  pub set_put_lem : 2 * i + 2 ≤ length w → set_at (set_put w i m) i ≡ m
+  set_put_lem h =
+      let a : get_or (set_put w i m) (2 * i) 0 ≡ m % 4294967296 = ap (λ (k : ℕ). get_or (set_put w i m) k 0) (sym (add-zero (2 * i))) ∙ get_d_sets_in pair w (2 * i) 0 0 (omega arith) h in
+      let b : get_or (set_put w i m) (2 * i + 1) 0 ≡ m / 4294967296 = get_d_sets_in pair w (2 * i) 1 0 (omega arith) h in
       omega (arith, a, b)
 
   -- every other word
-  pub word-before : (k : ℕ) → k < 2 * i → get_or (setPut w i m) k 0 ≡ get_or w k 0
-  word-before k h = getD-sets-before pair w (2 * i) k 0 h
+  pub word_before : (k : ℕ) → k < 2 * i → get_or (set_put w i m) k 0 ≡ get_or w k 0
+  word_before k h = get_d_sets_before pair w (2 * i) k 0 h
 
-  pub word-behind : (k : ℕ) → 2 * i + 2 ≤ k → get_or (setPut w i m) k 0 ≡ get_or w k 0
-  word-behind k h = getD-sets-after pair w (2 * i) k 0 h
+  pub word_behind : (k : ℕ) → 2 * i + 2 ≤ k → get_or (set_put w i m) k 0 ≡ get_or w k 0
+  word_behind k h = get_d_sets_after pair w (2 * i) k 0 h
 
   -- every other set
-  pub set-before : (j : ℕ) → j < i → setAt (setPut w i m) j ≡ setAt w j
-  set-before j h = ap₂ (λ (a b : ℕ). a + 4294967296 * b) (word-before (2 * j) (omega arith)) (word-before (2 * j + 1) (omega arith))
+  pub set_before : (j : ℕ) → j < i → set_at (set_put w i m) j ≡ set_at w j
+  set_before j h = ap₂ (λ (a b : ℕ). a + 4294967296 * b) (word_before (2 * j) (omega arith)) (word_before (2 * j + 1) (omega arith))
 
-  pub set-behind : (j : ℕ) → i < j → setAt (setPut w i m) j ≡ setAt w j
-  set-behind j h = ap₂ (λ (a b : ℕ). a + 4294967296 * b) (word-behind (2 * j) (omega arith)) (word-behind (2 * j + 1) (omega arith))
+  pub set_behind_lem : (j : ℕ) → i < j → set_at (set_put w i m) j ≡ set_at w j
+  set_behind_lem j h = ap₂ (λ (a b : ℕ). a + 4294967296 * b) (word_behind (2 * j) (omega arith)) (word_behind (2 * j + 1) (omega arith))
 
 -- sets whose words are the same
-pub set-same : (w v : List ℕ) (i : ℕ) → get_or v (2 * i) 0 ≡ get_or w (2 * i) 0 → get_or v (2 * i + 1) 0 ≡ get_or w (2 * i + 1) 0 → setAt v i ≡ setAt w i
-set-same w v i a b = ap₂ (λ (x y : ℕ). x + 4294967296 * y) a b
+pub set_same : (w v : List ℕ) (i : ℕ) → get_or v (2 * i) 0 ≡ get_or w (2 * i) 0 → get_or v (2 * i + 1) 0 ≡ get_or w (2 * i + 1) 0 → set_at v i ≡ set_at w i
+set_same w v i a b = ap₂ (λ (x y : ℕ). x + 4294967296 * y) a b

@@ -1,29 +1,29 @@
 -- An interpretation laid out: the words w of the store have a set for each class, the words v of scratch what each element is
 -- related to by each role code.
 use Rattle.std.specs.Prelude.{◌≡◌, Bool, List, ℕ, ◌+◌, ◌*◌, ◌<◌, ◌≤◌, length, get_or}
-use Rattle.ir.specs.Roles.{roleOf}
+use Rattle.ir.specs.Roles.{role_of}
 use Rattle.rules.specs.Base.{contains}
 use Rattle.rules.specs.Semantics.{Interpretation, related}
-use Rattle.states.specs.State.{mostElements}
-use Rattle.states.specs.Masks.{maskOf}
+use Rattle.states.specs.State.{most_elements}
+use Rattle.states.specs.Masks.{mask_of}
 use Rattle.states.specs.ScanLaws.{scanned}
-use Rattle.sets.specs.Kept.{setAt}
-use Rattle.sets.specs.Places.{rowsAt}
+use Rattle.sets.specs.Kept.{set_at}
+use Rattle.sets.specs.Places.{rows_at}
 
 -- what element x is related to by a role code
-abbrev pub rowOf : List ℕ → ℕ → ℕ → ℕ
-rowOf v code x = setAt v (rowsAt + 64 * code + x)
+abbrev pub row_of : List ℕ → ℕ → ℕ → ℕ
+row_of v code x = set_at v (rows_at + 64 * code + x)
 
 -- what each of n elements is related to by it
 abbrev pub Rows : List ℕ → ℕ → ℕ → (ℕ → ℕ → Bool) → Type 0
-Rows v code n f = (x : ℕ) → x < n → rowOf v code x ≡ maskOf n (f x)
+Rows v code n f = (x : ℕ) → x < n → row_of v code x ≡ mask_of n (f x)
 
 -- every class that the store has room for, and the codes of so many roles
 pub record Laid (I : Interpretation) (roles : ℕ) (w v : List ℕ) : Type 0 where
   pub some : 0 < I.size
-  pub few : I.size ≤ mostElements
-  pub classes : (c : ℕ) → 2 * c + 2 ≤ length w → setAt w c ≡ maskOf I.size (I.class c)
-  pub rows : (code x : ℕ) → code < 2 * roles → x < I.size → rowOf v code x ≡ maskOf I.size (related I (roleOf code) x)
+  pub few : I.size ≤ most_elements
+  pub classes : (c : ℕ) → 2 * c + 2 ≤ length w → set_at w c ≡ mask_of I.size (I.class c)
+  pub rows : (code x : ℕ) → code < 2 * roles → x < I.size → row_of v code x ≡ mask_of I.size (related I (role_of code) x)
 
 -- every class beyond its room, in the state's text
 pub record Found (I : Interpretation) (text w : List ℕ) : Type 0 where

@@ -1,36 +1,36 @@
--- Where the words of a trial stand in scratch, beside the loaded deck below `deckWords`. Sets are counted by two words.
+-- Where the words of a trial stand in scratch, beside the loaded deck below `deck_words`. Sets are counted by two words.
 use Rattle.std.specs.Prelude.{ℕ}
 
 -- the words that a trial leaves alone: the loaded deck
-abbrev pub deckWords : ℕ
-deckWords = 81920
+abbrev pub deck_words : ℕ
+deck_words = 81920
 
 -- a set for each concept
-abbrev pub conceptsAt : ℕ
-conceptsAt = 40960
+abbrev pub concepts_at : ℕ
+concepts_at = 40960
 
 -- a set for each of four variables, and 64 for each of their six pairs
-abbrev pub varsAt : ℕ
-varsAt = 43008
+abbrev pub vars_at : ℕ
+vars_at = 43008
 
-abbrev pub pairsAt : ℕ
-pairsAt = 43072
+abbrev pub pairs_at : ℕ
+pairs_at = 43072
 
 -- the elements that are shown, a word each
-abbrev pub shownAt : ℕ
-shownAt = 88064
+abbrev pub shown_at : ℕ
+shown_at = 88064
 
 -- from where a chain can still be broken: a set for each number of its parts that are left
-abbrev pub leftAt : ℕ
-leftAt = 44544
+abbrev pub left_at : ℕ
+left_at = 44544
 
 -- the numbers of one line, a word each
-abbrev pub lineAt : ℕ
-lineAt = 90112
+abbrev pub line_at : ℕ
+line_at = 90112
 
-abbrev pub lineWords : ℕ
-lineWords = 40960
+abbrev pub line_words : ℕ
+line_words = 40960
 
 -- 64 sets for each role code: what an element is related to
-abbrev pub rowsAt : ℕ
-rowsAt = 65536
+abbrev pub rows_at : ℕ
+rows_at = 65536

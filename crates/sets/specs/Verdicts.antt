@@ -4,12 +4,12 @@ use Rattle.states.specs.Test.{holds, broken}
 use Rattle.states.specs.Test as Test
 use Rattle.sets.specs.declared.verdict.Verdict.{Verdict}
 use Rattle.sets.specs.declared.verdict.Verdict.TheVariants.{Holds, Broken}
-use Rattle.sets.specs.Places.{shownAt}
+use Rattle.sets.specs.Places.{shown_at}
 
 -- the elements that are shown
 abbrev pub shown : List ℕ → ℕ → List ℕ
-shown v k = take k (drop shownAt v)
+shown v k = take k (drop shown_at v)
 
-abbrev pub verdictIn : List ℕ → Verdict → Test.Verdict
-verdictIn v Holds = holds
-verdictIn v (Broken n k) = broken n (shown v k)
+abbrev pub verdict_in : List ℕ → Verdict → Test.Verdict
+verdict_in v Holds = holds
+verdict_in v (Broken n k) = broken n (shown v k)

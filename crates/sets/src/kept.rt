@@ -1,16 +1,16 @@
 // Sets in lent words, two words each.
 ghost use Rattle.std.specs.Prelude.{◌≡◌, Bool, ℕ, ◌≤◌, ◌<◌, ◌+◌, ◌*◌, length};
 ghost use Rattle.words.specs.Words.{words};
-ghost use Rattle.rules.specs.Run.{scratchBytes};
-ghost use Rattle.states.specs.Masks.{maskOf};
-ghost use Rattle.sets.specs.Kept.{setAt, setPut};
-ghost use Rattle.sets.specs.Laid.{rowOf, Rows};
+ghost use Rattle.rules.specs.Run.{scratch_bytes};
+ghost use Rattle.states.specs.Masks.{mask_of};
+ghost use Rattle.sets.specs.Kept.{set_at, set_put};
+ghost use Rattle.sets.specs.Laid.{row_of, Rows};
 
 use crate::places::ROWS;
 
 pub fn get_set(s: &[u8], i: usize) -> u64
     requires { 8 * i + 8 ≤ length s.now }
-    ensures { result ≡ setAt (words s.now) i }
+    ensures { result ≡ set_at (words s.now) i }
 {
     let low = words::get_word(s, 2 * i) as u64;
     let high = words::get_word(s, 2 * i + 1) as u64;
@@ -19,7 +19,7 @@ pub fn get_set(s: &[u8], i: usize) -> u64
 
 pub fn put_set(s: &mut [u8], i: usize, m: u64)
     requires { 8 * i + 8 ≤ length s.old }
-    ensures { words s.new ≡ setPut (words s.old) i m }
+    ensures { words s.new ≡ set_put (words s.old) i m }
 {
     words::put_word(s, 2 * i, (m % 4294967296) as u32);
     words::put_word(s, 2 * i + 1, (m / 4294967296) as u32);
@@ -27,8 +27,8 @@ pub fn put_set(s: &mut [u8], i: usize, m: u64)
 
 // What element x is related to by a role code.
 pub fn row(scratch: &[u8], code: u32, x: u32) -> u64
-    requires { (code < 2048) × (x < 64) × (scratchBytes ≤ length scratch.now) }
-    ensures { result ≡ rowOf (words scratch.now) code x }
+    requires { (code < 2048) × (x < 64) × (scratch_bytes ≤ length scratch.now) }
+    ensures { result ≡ row_of (words scratch.now) code x }
 {
     let at = ROWS + 64 * (code as usize) + x as usize;
     get_set(scratch, at)
@@ -36,8 +36,8 @@ pub fn row(scratch: &[u8], code: u32, x: u32) -> u64
 
 // The elements, of the first n, that are related to themselves.
 pub fn loops(scratch: &[u8], code: u32, n: u32) -> u64
-    requires { (code < 2048) × (n ≤ 64) × (scratchBytes ≤ length scratch.now) }
-    ensures { (f : ℕ → ℕ → Bool) → Rows (words scratch.now) code n f → result ≡ maskOf n (λ x. f x x) }
+    requires { (code < 2048) × (n ≤ 64) × (scratch_bytes ≤ length scratch.now) }
+    ensures { (f : ℕ → ℕ → Bool) → Rows (words scratch.now) code n f → result ≡ mask_of n (λ x. f x x) }
 {
     let mut m: u64 = 0;
     let mut x: u32 = 0;

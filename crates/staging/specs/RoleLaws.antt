@@ -2,18 +2,18 @@
 use Rattle.std.specs.Prelude.{◌≡◌, List, ℕ, ◌+◌, ◌*◌, ◌<◌, ◌≤◌, get_or}
 use Rattle.std.proofs.Common.{subst, arith}
 use Rattle.words.specs.Words.{words}
-use Rattle.ir.specs.Scratch.{rolesAt}
-use Rattle.ir.specs.Roles.{roleCode, code-below}
+use Rattle.ir.specs.Scratch.{roles_at}
+use Rattle.ir.specs.Roles.{role_code, code_below}
 use Rattle.ir.specs.declared.role.Role.{Role}
 use Rattle.ir.specs.declared.role.Role.TheVariants.{Named}
 use Rattle.rules.specs.Concept.{Axiom}
 use Rattle.rules.specs.Concept.{SubClassOf, EquivalentClasses, DisjointClasses, DisjointUnion, ObjectPropertyDomain, ObjectPropertyRange, SubChain, TransitiveRole, IrreflexiveRole, AsymmetricRole, DisjointObjectProperties, InverseObjectProperties, SubObjectPropertyOf, EquivalentObjectProperties, ReflexiveRole, ClassAssertion}
-use Rattle.rules.specs.Inverse.{buildInverseCanon, canonRole}
-use Rattle.rules.specs.Deck.{mostRoles}
+use Rattle.rules.specs.Inverse.{build_inverse_canon, canon_role}
+use Rattle.rules.specs.Deck.{most_roles}
 use Rattle.rules.specs.Invariants.{Each, Bounds, RoleIn, AxiomIn}
-use Rattle.rules.specs.EachLaws.{each-map}
-use Rattle.rules.specs.AntecedentLaws.{canon-in}
-use Rattle.ontology.specs.Layout.{axiomsOf}
+use Rattle.rules.specs.EachLaws.{each_map}
+use Rattle.rules.specs.AntecedentLaws.{canon_in}
+use Rattle.ontology.specs.Layout.{axioms_of}
 use Rattle.inverse.specs.Layout.{RolesHeld, Building}
 
 -- ---- more roles
@@ -21,36 +21,36 @@ module _ (B : Bounds) (m : ℕ) (l : B.roles ≤ m) where
   abbrev pub wider : Bounds
   wider = record { classes = B.classes; individuals = B.individuals; roles = m }
 
-  role-wider : (r : Role) → RoleIn B r → RoleIn wider r
-  role-wider r h = omega arith
+  role_wider : (r : Role) → RoleIn B r → RoleIn wider r
+  role_wider r h = omega arith
 
-  pub axiom-wider : (n : ℕ) (a : Axiom) → AxiomIn B n a → AxiomIn wider n a
-  axiom-wider n (SubClassOf _ _) h = h
-  axiom-wider n (EquivalentClasses _) h = h
-  axiom-wider n (DisjointClasses _) h = h
-  axiom-wider n (DisjointUnion _ _) h = h
-  axiom-wider n (ObjectPropertyDomain r _) h = (role-wider r h.0, h.1)
-  axiom-wider n (ObjectPropertyRange r _) h = (role-wider r h.0, h.1)
-  axiom-wider n (SubChain r k) h = (role-wider r h.0, each-map (RoleIn B) (RoleIn wider) role-wider k h.1)
-  axiom-wider n (TransitiveRole r) h = role-wider r h
-  axiom-wider n (IrreflexiveRole r) h = role-wider r h
-  axiom-wider n (AsymmetricRole r) h = role-wider r h
-  axiom-wider n (DisjointObjectProperties k) h = each-map (RoleIn B) (RoleIn wider) role-wider k h
-  axiom-wider n (InverseObjectProperties r s) h = (role-wider r h.0, role-wider s h.1)
-  axiom-wider n (SubObjectPropertyOf r s) h = (role-wider r h.0, role-wider s h.1)
-  axiom-wider n (EquivalentObjectProperties k) h = each-map (RoleIn B) (RoleIn wider) role-wider k h
-  axiom-wider n (ReflexiveRole r) h = role-wider r h
-  axiom-wider n (ClassAssertion _ _) h = h
+  pub axiom_wider : (n : ℕ) (a : Axiom) → AxiomIn B n a → AxiomIn wider n a
+  axiom_wider n (SubClassOf _ _) h = h
+  axiom_wider n (EquivalentClasses _) h = h
+  axiom_wider n (DisjointClasses _) h = h
+  axiom_wider n (DisjointUnion _ _) h = h
+  axiom_wider n (ObjectPropertyDomain r _) h = (role_wider r h.0, h.1)
+  axiom_wider n (ObjectPropertyRange r _) h = (role_wider r h.0, h.1)
+  axiom_wider n (SubChain r k) h = (role_wider r h.0, each_map (RoleIn B) (RoleIn wider) role_wider k h.1)
+  axiom_wider n (TransitiveRole r) h = role_wider r h
+  axiom_wider n (IrreflexiveRole r) h = role_wider r h
+  axiom_wider n (AsymmetricRole r) h = role_wider r h
+  axiom_wider n (DisjointObjectProperties k) h = each_map (RoleIn B) (RoleIn wider) role_wider k h
+  axiom_wider n (InverseObjectProperties r s) h = (role_wider r h.0, role_wider s h.1)
+  axiom_wider n (SubObjectPropertyOf r s) h = (role_wider r h.0, role_wider s h.1)
+  axiom_wider n (EquivalentObjectProperties k) h = each_map (RoleIn B) (RoleIn wider) role_wider k h
+  axiom_wider n (ReflexiveRole r) h = role_wider r h
+  axiom_wider n (ClassAssertion _ _) h = h
 
 -- ---- the codes of the map
 -- of axioms whose roles are below m
-pub canon-below : (B : Bounds) (n m : ℕ) (l : List Axiom) → B.roles ≤ m → Each (AxiomIn B n) l → (r : ℕ) → r < m → roleCode (canonRole (buildInverseCanon l) (Named r)) < 2 * m
-canon-below B n m l h u r i =
-    code-below (canonRole (buildInverseCanon l) (Named r)) m
-    (canon-in (wider B m h) n l (each-map (AxiomIn B n) (AxiomIn (wider B m h) n) (axiom-wider B m h n) l u) (Named r) i)
+pub canon_below : (B : Bounds) (n m : ℕ) (l : List Axiom) → B.roles ≤ m → Each (AxiomIn B n) l → (r : ℕ) → r < m → role_code (canon_role (build_inverse_canon l) (Named r)) < 2 * m
+canon_below B n m l h u r i =
+    code_below (canon_role (build_inverse_canon l) (Named r)) m
+    (canon_in (wider B m h) n l (each_map (AxiomIn B n) (AxiomIn (wider B m h) n) (axiom_wider B m h n) l u) (Named r) i)
 
 -- in scratch's bytes s
-pub map-within : (s : List ℕ) (n : ℕ) (l : List Axiom) → Building s n → axiomsOf (words s) n ≡ l → RolesHeld (words s) (buildInverseCanon l) → (r : ℕ) → r < mostRoles → get_or (words s) (rolesAt + r) 0 < 2 * mostRoles
-map-within s n l A e R r h =
+pub map_within : (s : List ℕ) (n : ℕ) (l : List Axiom) → Building s n → axioms_of (words s) n ≡ l → RolesHeld (words s) (build_inverse_canon l) → (r : ℕ) → r < most_roles → get_or (words s) (roles_at + r) 0 < 2 * most_roles
+map_within s n l A e R r h =
     let u : Each (AxiomIn A.bounds A.concepts) l = subst (Each (AxiomIn A.bounds A.concepts)) e A.inside in
-    omega (arith, R.mapped r h, canon-below A.bounds A.concepts mostRoles l A.few u r h)
+    omega (arith, R.mapped r h, canon_below A.bounds A.concepts most_roles l A.few u r h)

@@ -2,21 +2,21 @@
 use Rattle.std.specs.Prelude.{◌≡◌, List, ℕ, ◌+◌, ◌*◌, ◌<◌, length, get_or, replicate}
 use Prim.{Unit, tt}
 use Rattle.words.specs.Words.{words}
-use Rattle.ir.specs.Scratch.{rolesAt}
+use Rattle.ir.specs.Scratch.{roles_at}
 use Rattle.ir.specs.declared.counters.Counters.{Counters}
 use Rattle.ir.specs.declared.answer.Lined.{Lined as CodeLined}
 use Rattle.ir.specs.declared.answer.Lined.TheVariants.{Finished, Stopped}
 use Rattle.rules.specs.Concept.{Axiom}
 use Rattle.rules.specs.Normalize.{St}
-use Rattle.rules.specs.Inverse.{buildInverseCanon}
+use Rattle.rules.specs.Inverse.{build_inverse_canon}
 use Rattle.rules.specs.State.{Rooms}
 use Rattle.rules.specs.Axioms.{Clausifier}
-use Rattle.rules.specs.Deck.{Known, mostRoles, axiomLine}
+use Rattle.rules.specs.Deck.{Known, most_roles, axiom_line}
 use Rattle.rules.specs.Invariants.{Each, ClauseIn}
-use Rattle.rules.specs.DeckLaws.{boundsOf}
-use Rattle.rules.specs.Run.{Lined, done, stopped, linedThen, clausifyAxioms, envOf, start}
+use Rattle.rules.specs.DeckLaws.{bounds_of}
+use Rattle.rules.specs.Run.{Lined, done, stopped, lined_then, clausify_axioms, env_of, start}
 use Rattle.pool.specs.Answers.{sized}
-use Rattle.ontology.specs.Layout.{axiomsOf}
+use Rattle.ontology.specs.Layout.{axioms_of}
 use Rattle.normalize.specs.Loaded.{normalized}
 use Rattle.inverse.specs.Layout.{RolesHeld, Building}
 use Rattle.tables.specs.Drawn.{tables, show, Lent}
@@ -24,7 +24,7 @@ use Rattle.tables.specs.Good.{Good}
 
 -- the rules' answer
 abbrev pub staged : ℕ → Rooms → Known → Lined Clausifier (Unit {0})
-staged limit rooms d = linedThen (normalized d limit) (λ axioms s. clausifyAxioms (envOf d rooms axioms) (axiomLine d 0) axioms (start d s))
+staged limit rooms d = lined_then (normalized d limit) (λ axioms s. clausify_axioms (env_of d rooms axioms) (axiom_line d 0) axioms (start d s))
 
 -- ---- in the words of the lent tables
 -- a state is drawn in tables of these rooms
@@ -45,11 +45,11 @@ pub record Staged (limit : ℕ) (rooms : Rooms) (deck : Known) (s : List ℕ) (n
   pub formed : normalized deck limit ≡ done normal begun
   pub made : staged limit rooms deck ≡ done tt state
   pub shows : Shows rooms k c a d state
-  pub listed : axiomsOf (words s) n ≡ normal
-  pub map : RolesHeld (words s) (buildInverseCanon normal)
-  pub within : (r : ℕ) → r < mostRoles → get_or (words s) (rolesAt + r) 0 < 2 * mostRoles
+  pub listed : axioms_of (words s) n ≡ normal
+  pub map : RolesHeld (words s) (build_inverse_canon normal)
+  pub within : (r : ℕ) → r < most_roles → get_or (words s) (roles_at + r) 0 < 2 * most_roles
   pub building : Building s n
-  pub inside : Each (ClauseIn (boundsOf deck) state.out.nextFresh (state.out.visits + 3)) state.out.clauses
+  pub inside : Each (ClauseIn (bounds_of deck) state.out.next_fresh (state.out.visits + 3)) state.out.clauses
   pub good : Good k
   pub options : k.options ≡ deck.header.options
 

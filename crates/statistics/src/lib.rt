@@ -6,11 +6,11 @@ ghost use Rattle.words.specs.Words.{words};
 ghost use Rattle.ir.specs.declared.atom.Atom.{Atom};
 ghost use Rattle.rules.specs.Base.{any};
 ghost use Rattle.rules.specs.State.{Clause};
-ghost use Rattle.rules.specs.Run.{mostClauses};
-ghost use Rattle.rules.specs.Stats.{clauseStats, isExists, one as oneIf};
+ghost use Rattle.rules.specs.Run.{most_clauses};
+ghost use Rattle.rules.specs.Stats.{clause_stats, is_exists, one as one_if};
 ghost use Rattle.tables.specs.Drawn.{Sized};
 ghost use Rattle.tables.specs.Tabled.{Tabled, TableThere, Run};
-ghost use Rattle.statistics.specs.Counted.{statsOf};
+ghost use Rattle.statistics.specs.Counted.{stats_of};
 ghost use Rattle.statistics.specs.Counting.{counted, Within};
 
 use branches::vars;
@@ -31,7 +31,7 @@ pub struct ClauseStats {
 
 // One of the atoms is Exists.
 fn has_exists(head: &[u8]) -> bool
-    ensures { (l : List Atom) → Run head.now l → result ≡ any isExists l }
+    ensures { (l : List Atom) → Run head.now l → result ≡ any is_exists l }
 {
     let n = read::atom_room(head);
     let mut i: usize = 0;
@@ -45,7 +45,7 @@ fn has_exists(head: &[u8]) -> bool
 }
 
 fn one(b: bool) -> u32
-    ensures { (result ≡ oneIf b) × (result ≤ 1) }
+    ensures { (result ≡ one_if b) × (result ≤ 1) }
 {
     if b { 1 } else { 0 }
 }
@@ -53,8 +53,8 @@ fn one(b: bool) -> u32
 impl ClauseStats {
     // A clause more.
     fn add(mut self, body: &[u8], head: &[u8]) -> ClauseStats
-        requires { Within mostClauses self }
-        ensures { (x : Clause) → Run body.now x.body → Run head.now x.head → statsOf result ≡ counted x (statsOf self) }
+        requires { Within most_clauses self }
+        ensures { (x : Clause) → Run body.now x.body → Run head.now x.head → stats_of result ≡ counted x (stats_of self) }
     {
         let nh = read::atom_room(head);
         let exists = has_exists(head);
@@ -78,7 +78,7 @@ pub fn clause_stats(
     decomposed: u32,
 ) -> ClauseStats
     requires { TableThere (words clauses.now) (words atoms.now) n × Sized (length clauses.now) (length atoms.now) 0 }
-    ensures { (l : List Clause) → Tabled (words clauses.now) (words atoms.now) n l → statsOf result ≡ clauseStats l deferred decomposed }
+    ensures { (l : List Clause) → Tabled (words clauses.now) (words atoms.now) n l → stats_of result ≡ clause_stats l deferred decomposed }
 {
     let mut s = ClauseStats {
         total: 0,

@@ -6,7 +6,7 @@ use Rattle.ir.specs.declared.answer.Answer.{Answer}
 use Rattle.ir.specs.declared.answer.Answer.TheVariants.{Done, Refused}
 use Rattle.rules.specs.Base.{Res, ok, refused}
 use Rattle.rules.specs.State.{Rooms, Out, total}
-use Rattle.rules.specs.Run.{clauseWords, atomWords, deferralWords, clauseRecords, atomRecords, deferralRecords, mostClauses, mostAtoms, mostDeferrals}
+use Rattle.rules.specs.Run.{clause_words, atom_words, deferral_words, clause_records, atom_records, deferral_records, most_clauses, most_atoms, most_deferrals}
 
 -- n words: these, then zeros
 unfoldable pub padded : ℕ → List ℕ → List ℕ
@@ -16,24 +16,24 @@ padded n l = l ++ replicate (n - length l) 0
 pub data Tables : Type 0 where
   tables : Counters → List ℕ → List ℕ → List ℕ → Tables
 
-abbrev pub countersIn : Tables → Counters
-countersIn (tables k c a d) = k
+abbrev pub counters_in : Tables → Counters
+counters_in (tables k c a d) = k
 
-abbrev pub clausesIn : Tables → List ℕ
-clausesIn (tables k c a d) = c
+abbrev pub clauses_in : Tables → List ℕ
+clauses_in (tables k c a d) = c
 
-abbrev pub atomsIn : Tables → List ℕ
-atomsIn (tables k c a d) = a
+abbrev pub atoms_in : Tables → List ℕ
+atoms_in (tables k c a d) = a
 
-abbrev pub deferralsIn : Tables → List ℕ
-deferralsIn (tables k c a d) = d
+abbrev pub deferrals_in : Tables → List ℕ
+deferrals_in (tables k c a d) = d
 
 -- the counters of a state; what a state does not have is k's
-abbrev pub countersOf : Counters → Out → Counters
-countersOf k s = counters s.visits s.limit k.concepts k.members s.nextVar s.nextFresh (length s.clauses) (total s.clauses) (length s.deferrals) s.line k.nominal_base k.options
+abbrev pub counters_of : Counters → Out → Counters
+counters_of k s = counters s.visits s.limit k.concepts k.members s.next_var s.next_fresh (length s.clauses) (total s.clauses) (length s.deferrals) s.line k.nominal_base k.options
 
 unfoldable pub show : Counters → Rooms → Out → Tables
-show k rooms s = tables (countersOf k s) (padded (clauseWords * rooms.clauses) (clauseRecords 0 s.clauses)) (padded (atomWords * rooms.atoms) (atomRecords s.clauses)) (padded (deferralWords * rooms.deferrals) (deferralRecords s.deferrals))
+show k rooms s = tables (counters_of k s) (padded (clause_words * rooms.clauses) (clause_records 0 s.clauses)) (padded (atom_words * rooms.atoms) (atom_records s.clauses)) (padded (deferral_words * rooms.deferrals) (deferral_records s.deferrals))
 
 -- a rule's answer, drawn; n: the number that the code answers with
 abbrev pub shown : {A : Type 0} → (A → ℕ) → Counters → Rooms → Res Out A → Res Tables ℕ
@@ -47,12 +47,12 @@ after (Refused e) c a d = refused e
 
 -- tables of these words have these rooms
 pub record Lent (rooms : Rooms) (c a d : List ℕ) : Type 0 where
-  pub clauses : length c ≡ clauseWords * rooms.clauses
-  pub atoms : length a ≡ atomWords * rooms.atoms
-  pub deferrals : length d ≡ deferralWords * rooms.deferrals
+  pub clauses : length c ≡ clause_words * rooms.clauses
+  pub atoms : length a ≡ atom_words * rooms.atoms
+  pub deferrals : length d ≡ deferral_words * rooms.deferrals
 
 -- tables of so many bytes, and no more records than document 01 allows
 pub record Sized (c a d : ℕ) : Type 0 where
-  pub clauses : c ≤ 4 * clauseWords * mostClauses
-  pub atoms : a ≤ 4 * atomWords * mostAtoms
-  pub deferrals : d ≤ 4 * deferralWords * mostDeferrals
+  pub clauses : c ≤ 4 * clause_words * most_clauses
+  pub atoms : a ≤ 4 * atom_words * most_atoms
+  pub deferrals : d ≤ 4 * deferral_words * most_deferrals

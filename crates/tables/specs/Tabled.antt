@@ -4,40 +4,40 @@ use Rattle.std.proofs.lemmas.List.Edits.{sets}
 use Rattle.words.specs.Words.{words}
 use Rattle.ir.specs.declared.atom.Atom.{Atom}
 use Rattle.rules.specs.State.{Clause, clause, total}
-use Rattle.rules.specs.Run.{clauseWords, atomWords, deferralWords, flat, clauseRecords, atomRecords}
+use Rattle.rules.specs.Run.{clause_words, atom_words, deferral_words, flat, clause_records, atom_records}
 
 -- ---- a clause's record: where its atoms begin, and how many its body and its head have
-abbrev pub firstAtom : List ℕ → ℕ → ℕ
-firstAtom c i = get_or c (clauseWords * i) 0
+abbrev pub first_atom : List ℕ → ℕ → ℕ
+first_atom c i = get_or c (clause_words * i) 0
 
-abbrev pub bodyCount : List ℕ → ℕ → ℕ
-bodyCount c i = get_or c (clauseWords * i + 1) 0
+abbrev pub body_count : List ℕ → ℕ → ℕ
+body_count c i = get_or c (clause_words * i + 1) 0
 
-abbrev pub headCount : List ℕ → ℕ → ℕ
-headCount c i = get_or c (clauseWords * i + 2) 0
+abbrev pub head_count : List ℕ → ℕ → ℕ
+head_count c i = get_or c (clause_words * i + 2) 0
 
-abbrev pub atomCount : List ℕ → ℕ → ℕ
-atomCount c i = bodyCount c i + headCount c i
+abbrev pub atom_count : List ℕ → ℕ → ℕ
+atom_count c i = body_count c i + head_count c i
 
 -- written: the whole record; only where the atoms begin; only how many the body has
-abbrev pub clausePut : List ℕ → ℕ → ℕ → ℕ → ℕ → List ℕ
-clausePut c i first body head = sets c (clauseWords * i) (first ∷ body ∷ head ∷ [])
+abbrev pub clause_put : List ℕ → ℕ → ℕ → ℕ → ℕ → List ℕ
+clause_put c i first body head = sets c (clause_words * i) (first ∷ body ∷ head ∷ [])
 
-abbrev pub firstPut : List ℕ → ℕ → ℕ → List ℕ
-firstPut c i first = set c (clauseWords * i) first
+abbrev pub first_put : List ℕ → ℕ → ℕ → List ℕ
+first_put c i first = set c (clause_words * i) first
 
-abbrev pub bodyPut : List ℕ → ℕ → ℕ → List ℕ
-bodyPut c i body = set c (clauseWords * i + 1) body
+abbrev pub body_put : List ℕ → ℕ → ℕ → List ℕ
+body_put c i body = set c (clause_words * i + 1) body
 
 -- ---- a deferral's record
-abbrev pub deferredLine : List ℕ → ℕ → ℕ
-deferredLine d i = get_or d (deferralWords * i) 0
+abbrev pub deferred_line : List ℕ → ℕ → ℕ
+deferred_line d i = get_or d (deferral_words * i) 0
 
-abbrev pub deferredKind : List ℕ → ℕ → ℕ
-deferredKind d i = get_or d (deferralWords * i + 1) 0
+abbrev pub deferred_kind : List ℕ → ℕ → ℕ
+deferred_kind d i = get_or d (deferral_words * i + 1) 0
 
-abbrev pub deferralPut : List ℕ → ℕ → ℕ → ℕ → List ℕ
-deferralPut d i line kind = sets d (deferralWords * i) (line ∷ kind ∷ [])
+abbrev pub deferral_put : List ℕ → ℕ → ℕ → ℕ → List ℕ
+deferral_put d i line kind = sets d (deferral_words * i) (line ∷ kind ∷ [])
 
 -- ---- words and bytes that stand somewhere
 -- the words xs, from word i on
@@ -46,33 +46,33 @@ At w i xs = take (length xs) (drop i w) ≡ xs
 
 -- these bytes are the atoms l and no more
 pub record Run (s : List ℕ) (l : List Atom) : Type 0 where
-  pub long : length s ≡ 4 * (atomWords * length l)
+  pub long : length s ≡ 4 * (atom_words * length l)
   pub are : words s ≡ flat l
 
 -- ---- clauses
 -- a clause where there is none
-abbrev pub noClause : Clause
-noClause = clause [] []
+abbrev pub no_clause : Clause
+no_clause = clause [] []
 
 -- clause i is x
 pub record ClauseAt (c a : List ℕ) (i : ℕ) (x : Clause) : Type 0 where
-  pub row : clauseWords * i + clauseWords ≤ length c
-  pub body : bodyCount c i ≡ length x.body
-  pub head : headCount c i ≡ length x.head
-  pub room : atomWords * (firstAtom c i + atomCount c i) ≤ length a
-  pub atoms : At a (atomWords * firstAtom c i) (flat (x.body ++ x.head))
+  pub row : clause_words * i + clause_words ≤ length c
+  pub body : body_count c i ≡ length x.body
+  pub head : head_count c i ≡ length x.head
+  pub room : atom_words * (first_atom c i + atom_count c i) ≤ length a
+  pub atoms : At a (atom_words * first_atom c i) (flat (x.body ++ x.head))
 
 -- the records of the clauses l stand from clause j and atom f on
 pub record From (c a : List ℕ) (j f : ℕ) (l : List Clause) : Type 0 where
-  pub rows : At c (clauseWords * j) (clauseRecords f l)
-  pub atoms : At a (atomWords * f) (atomRecords l)
-  pub room : atomWords * (f + total l) ≤ length a
+  pub rows : At c (clause_words * j) (clause_records f l)
+  pub atoms : At a (atom_words * f) (atom_records l)
+  pub room : atom_words * (f + total l) ≤ length a
 
 -- the tables begin with the records of the clauses l
 pub record Tabled (c a : List ℕ) (n : ℕ) (l : List Clause) : Type 0 where
   pub count : n ≡ length l
-  pub clauses : take (clauseWords * n) c ≡ clauseRecords 0 l
-  pub atoms : take (atomWords * total l) a ≡ atomRecords l
+  pub clauses : take (clause_words * n) c ≡ clause_records 0 l
+  pub atoms : take (atom_words * total l) a ≡ atom_records l
 
 -- ---- for some atoms, some clause, some clauses
 pub record RunThere (s : List ℕ) : Type 0 where

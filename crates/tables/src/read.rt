@@ -3,8 +3,8 @@
 ghost use Rattle.std.specs.Prelude.{◌≡◌, ◌++◌, ◌+◌, ◌*◌, ◌/◌, ◌≤◌, length};
 ghost use Rattle.words.specs.Words.{words};
 ghost use Rattle.rules.specs.State.{Clause};
-ghost use Rattle.rules.specs.Run.{clauseWords, atomWords, deferralWords};
-ghost use Rattle.tables.specs.Tabled.{firstAtom, bodyCount, headCount, deferredLine, deferredKind, ClauseAt, ClauseThere, Run};
+ghost use Rattle.rules.specs.Run.{clause_words, atom_words, deferral_words};
+ghost use Rattle.tables.specs.Tabled.{first_atom, body_count, head_count, deferred_line, deferred_kind, ClauseAt, ClauseThere, Run};
 
 // The words of a clause's record.
 pub const CLAUSE: usize = 3;
@@ -14,45 +14,45 @@ pub const DEFERRAL: usize = 2;
 
 // How many clauses there is room for.
 pub fn clause_room(clauses: &[u8]) -> usize
-    ensures { result ≡ length clauses.now / (4 * clauseWords) }
+    ensures { result ≡ length clauses.now / (4 * clause_words) }
 {
     clauses.len() / 12
 }
 
 // How many atoms.
 pub fn atom_room(atoms: &[u8]) -> usize
-    ensures { result ≡ length atoms.now / (4 * atomWords) }
+    ensures { result ≡ length atoms.now / (4 * atom_words) }
 {
     atoms.len() / 24
 }
 
 // How many deferrals.
 pub fn deferral_room(deferrals: &[u8]) -> usize
-    ensures { result ≡ length deferrals.now / (4 * deferralWords) }
+    ensures { result ≡ length deferrals.now / (4 * deferral_words) }
 {
     deferrals.len() / 8
 }
 
 // Where its atoms begin.
 pub fn first_atom(clauses: &[u8], i: u32) -> u32
-    requires { 4 * (clauseWords * i + clauseWords) ≤ length clauses.now }
-    ensures { result ≡ firstAtom (words clauses.now) i }
+    requires { 4 * (clause_words * i + clause_words) ≤ length clauses.now }
+    ensures { result ≡ first_atom (words clauses.now) i }
 {
     words::get_word(clauses, CLAUSE * (i as usize))
 }
 
 // The atoms of its body.
 pub fn body_count(clauses: &[u8], i: u32) -> u32
-    requires { 4 * (clauseWords * i + clauseWords) ≤ length clauses.now }
-    ensures { result ≡ bodyCount (words clauses.now) i }
+    requires { 4 * (clause_words * i + clause_words) ≤ length clauses.now }
+    ensures { result ≡ body_count (words clauses.now) i }
 {
     words::get_word(clauses, CLAUSE * (i as usize) + 1)
 }
 
 // The atoms of its head.
 pub fn head_count(clauses: &[u8], i: u32) -> u32
-    requires { 4 * (clauseWords * i + clauseWords) ≤ length clauses.now }
-    ensures { result ≡ headCount (words clauses.now) i }
+    requires { 4 * (clause_words * i + clause_words) ≤ length clauses.now }
+    ensures { result ≡ head_count (words clauses.now) i }
 {
     words::get_word(clauses, CLAUSE * (i as usize) + 2)
 }
@@ -97,16 +97,16 @@ pub fn atoms_of<'a>(clauses: &[u8], atoms: &'a [u8], i: u32) -> &'a [u8]
 
 // Deferral i: its axiom's line.
 pub fn deferral_line(deferrals: &[u8], i: u32) -> u32
-    requires { 4 * (deferralWords * i + deferralWords) ≤ length deferrals.now }
-    ensures { result ≡ deferredLine (words deferrals.now) i }
+    requires { 4 * (deferral_words * i + deferral_words) ≤ length deferrals.now }
+    ensures { result ≡ deferred_line (words deferrals.now) i }
 {
     words::get_word(deferrals, DEFERRAL * (i as usize))
 }
 
 // Its kind.
 pub fn deferral_kind(deferrals: &[u8], i: u32) -> u32
-    requires { 4 * (deferralWords * i + deferralWords) ≤ length deferrals.now }
-    ensures { result ≡ deferredKind (words deferrals.now) i }
+    requires { 4 * (deferral_words * i + deferral_words) ≤ length deferrals.now }
+    ensures { result ≡ deferred_kind (words deferrals.now) i }
 {
     words::get_word(deferrals, DEFERRAL * (i as usize) + 1)
 }

@@ -4,8 +4,8 @@ use Rattle.std.proofs.Math.Option.{none}
 use Rattle.ir.specs.Pick.{pick}
 use Rattle.ir.specs.declared.atom.Atom.{Atom}
 use Rattle.rules.specs.Base.{contains}
-use Rattle.rules.specs.Branches.{Tree, scanAtom, scanned, treeOf, below, topOf, parentOf}
-use Rattle.branches.specs.Layout.{boundAt, topsAt, metAt}
+use Rattle.rules.specs.Branches.{Tree, scan_atom, scanned, tree_of, below, top_of, parent_of}
+use Rattle.branches.specs.Layout.{bound_at, tops_at, met_at}
 use Rattle.branches.specs.Wide.{AtomsAre}
 use Rattle.branches.specs.AtomsLaws.{WordsAre}
 
@@ -19,29 +19,29 @@ trues [] = 0
 trues (p ∷ l) = one p + trues l
 
 -- the n bound variables
-abbrev pub boundOf : List ℕ → ℕ → List ℕ
-boundOf w n = take n (drop boundAt w)
+abbrev pub bound_of : List ℕ → ℕ → List ℕ
+bound_of w n = take n (drop bound_at w)
 
 -- one more, v, below the variable at place i, unless it is bound
-abbrev pub topFor : List ℕ → ℕ → ℕ → ℕ
-topFor w i v = pick (eqb i 0) v (get_or w (topsAt + i) 0)
+abbrev pub top_for : List ℕ → ℕ → ℕ → ℕ
+top_for w i v = pick (eqb i 0) v (get_or w (tops_at + i) 0)
 
-abbrev pub bindOf : List ℕ → ℕ → ℕ → ℕ → Bool → List ℕ
-bindOf w n i v b = pick b w (set (set w (boundAt + n) v) (topsAt + n) (topFor w i v))
+abbrev pub bind_of : List ℕ → ℕ → ℕ → ℕ → Bool → List ℕ
+bind_of w n i v b = pick b w (set (set w (bound_at + n) v) (tops_at + n) (top_for w i v))
 
 -- only the tree's words were written
 pub record Kept (w w' : List ℕ) : Type 0 where
-  pub front : take boundAt w' ≡ take boundAt w
-  pub back : drop metAt w' ≡ drop metAt w
+  pub front : take bound_at w' ≡ take bound_at w
+  pub back : drop met_at w' ≡ drop met_at w
 
 -- the n bound variables are the rule's, the root first; the tops of all but the root; what is not bound has no parent
 pub record Growing (w : List ℕ) (root n : ℕ) (vs : List ℕ) (parents : List (ℕ × ℕ)) : Type 0 where
   pub long : n ≡ length vs
   pub filled : 1 ≤ n
-  pub vars : boundOf w n ≡ vs
+  pub vars : bound_of w n ≡ vs
   pub first : get_or vs 0 0 ≡ root
-  pub tops : (i : ℕ) → 1 ≤ i → i < n → topOf parents root (get_or vs i 0) ≡ below (get_or w (topsAt + i) 0)
-  pub alone : (v : ℕ) → contains vs v ≡ false → parentOf parents v ≡ none
+  pub tops : (i : ℕ) → 1 ≤ i → i < n → top_of parents root (get_or vs i 0) ≡ below (get_or w (tops_at + i) 0)
+  pub alone : (v : ℕ) → contains vs v ≡ false → parent_of parents v ≡ none
 
 -- a tree in the middle of a round: the flags of the atoms before j are new
 pub record Midway (w : List ℕ) (flags : List Bool) (root j n : ℕ) (more : Bool) (t : Tree) : Type 0 where
@@ -51,7 +51,7 @@ pub record Midway (w : List ℕ) (flags : List Bool) (root j n : ℕ) (more : Bo
 
 -- atom j at word `at`; n and more become n' and more'
 pub record Visited (w : List ℕ) (flags : List Bool) (at j n : ℕ) (more : Bool) (n' : ℕ) (more' : Bool) (w' : List ℕ) (flags' : List Bool) : Type 0 where
-  pub rule : (root : ℕ) (t : Tree) (a : Atom) → WordsAre w at a → Midway w flags root j n more t → Midway w' flags' root (j + 1) n' more' (scanAtom t a (get_or flags j false))
+  pub rule : (root : ℕ) (t : Tree) (a : Atom) → WordsAre w at a → Midway w flags root j n more t → Midway w' flags' root (j + 1) n' more' (scan_atom t a (get_or flags j false))
   pub rest : drop (j + 1) flags' ≡ drop (j + 1) flags
   pub kept : Kept w w'
   pub gained : ℕ
@@ -69,6 +69,6 @@ pub record Rounded (w : List ℕ) (flags : List Bool) (base count n n' : ℕ) (m
 -- all rounds, from the root alone
 pub record Grown (w : List ℕ) (base count n : ℕ) (w' : List ℕ) (flags' : List Bool) : Type 0 where
   pub rule : (root : ℕ) (l : List Atom) → AtomsAre w base count l → Growing w root 1 (root ∷ []) []
-      → Growing w' root n (treeOf l root).bound (treeOf l root).parents × ((treeOf l root).placed ≡ take count flags')
+      → Growing w' root n (tree_of l root).bound (tree_of l root).parents × ((tree_of l root).placed ≡ take count flags')
   pub kept : Kept w w'
   pub few : n ≤ 257

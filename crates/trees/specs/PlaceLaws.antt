@@ -7,86 +7,86 @@ use native.Mathlib.Omega.{arith}
 use borrow.Author.Tests.{eq-eqb, ne_eqb, eqb-true, eqb-false}
 use Rattle.std.proofs.Math.ListN.{length}
 use Rattle.rules.specs.Base.{contains}
-use Rattle.rules.specs.Branches.{placeIn, placeOf}
-use Rattle.branches.specs.Layout.{boundAt, workWords}
-use Rattle.trees.specs.Growth.{boundOf}
+use Rattle.rules.specs.Branches.{place_in, place_of}
+use Rattle.branches.specs.Layout.{bound_at, work_words}
+use Rattle.trees.specs.Growth.{bound_of}
 
 -- ---- found or not
-pub eqb-sym : (a b : ℕ) → eqb a b ≡ eqb b a
-eqb-sym a b = go (eqb a b) refl
+pub eqb_sym : (a b : ℕ) → eqb a b ≡ eqb b a
+eqb_sym a b = go (eqb a b) refl
   where
     go : (t : Bool) → eqb a b ≡ t → t ≡ eqb b a
     go true e = sym (eq-eqb b a (sym (eqb-true a b e)))
     go false e = sym (ne_eqb b a (λ q. eqb-false a b e (sym q)))
 
-pub place-in : (l : List ℕ) (v : ℕ) → placeOf l v < length l → (contains l v ≡ true) × (get_or l (placeOf l v) 0 ≡ v)
-unfolding placeOf
-place-in [] v h = absurd (omega arith)
-place-in (u ∷ l) v h = rw (eqb-sym v u) (go (eqb u v) (place-in l v) refl h)
+pub place_in_lem : (l : List ℕ) (v : ℕ) → place_of l v < length l → (contains l v ≡ true) × (get_or l (place_of l v) 0 ≡ v)
+unfolding place_of
+place_in_lem [] v h = absurd (omega arith)
+place_in_lem (u ∷ l) v h = rw (eqb_sym v u) (go (eqb u v) (place_in_lem l v) refl h)
   where
-    go : (b : Bool) → (placeOf l v < length l → (contains l v ≡ true) × (get_or l (placeOf l v) 0 ≡ v)) → eqb u v ≡ b → placeIn b (placeOf l v) < suc (length l) → ((b || contains l v) ≡ true) × (get_or (u ∷ l) (placeIn b (placeOf l v)) 0 ≡ v)
+    go : (b : Bool) → (place_of l v < length l → (contains l v ≡ true) × (get_or l (place_of l v) 0 ≡ v)) → eqb u v ≡ b → place_in b (place_of l v) < suc (length l) → ((b || contains l v) ≡ true) × (get_or (u ∷ l) (place_in b (place_of l v)) 0 ≡ v)
     go true f e k = (refl, eqb-true u v e)
     go false f e k = f (omega arith)
 
-pub place-out : (l : List ℕ) (v : ℕ) → length l ≤ placeOf l v → contains l v ≡ false
-unfolding placeOf
-place-out [] v h = refl
-place-out (u ∷ l) v h = rw (eqb-sym v u) (go (eqb u v) (place-out l v) h)
+pub place_out : (l : List ℕ) (v : ℕ) → length l ≤ place_of l v → contains l v ≡ false
+unfolding place_of
+place_out [] v h = refl
+place_out (u ∷ l) v h = rw (eqb_sym v u) (go (eqb u v) (place_out l v) h)
   where
-    go : (b : Bool) → (length l ≤ placeOf l v → contains l v ≡ false) → suc (length l) ≤ placeIn b (placeOf l v) → (b || contains l v) ≡ false
+    go : (b : Bool) → (length l ≤ place_of l v → contains l v ≡ false) → suc (length l) ≤ place_in b (place_of l v) → (b || contains l v) ≡ false
     go true f k = absurd (omega arith)
     go false f k = f (omega arith)
 
 -- ---- what is not among them
-pub not-first : (l : List ℕ) (v : ℕ) → contains l v ≡ false → 1 ≤ length l → eqb v (get_or l 0 0) ≡ false
-not-first [] v h k = absurd (omega arith)
-not-first (u ∷ l) v h k = go (eqb v u) h
+pub not_first : (l : List ℕ) (v : ℕ) → contains l v ≡ false → 1 ≤ length l → eqb v (get_or l 0 0) ≡ false
+not_first [] v h k = absurd (omega arith)
+not_first (u ∷ l) v h k = go (eqb v u) h
   where
     go : (b : Bool) → (b || contains l v) ≡ false → b ≡ false
     go true e = e
     go false e = refl
 
-pub not-more : (l : List ℕ) (v x : ℕ) → contains (l ++ (v ∷ [])) x ≡ false → (contains l x ≡ false) × (eqb x v ≡ false)
-not-more [] v x h = go (eqb x v) h
+pub not_more : (l : List ℕ) (v x : ℕ) → contains (l ++ (v ∷ [])) x ≡ false → (contains l x ≡ false) × (eqb x v ≡ false)
+not_more [] v x h = go (eqb x v) h
   where
     go : (b : Bool) → (b || false) ≡ false → (false ≡ false) × (b ≡ false)
     go true e = (refl, e)
     go false e = (refl, refl)
-not-more (u ∷ l) v x h = go (eqb x u) (not-more l v x) h
+not_more (u ∷ l) v x h = go (eqb x u) (not_more l v x) h
   where
     go : (b : Bool) → (contains (l ++ (v ∷ [])) x ≡ false → (contains l x ≡ false) × (eqb x v ≡ false)) → (b || contains (l ++ (v ∷ [])) x) ≡ false → ((b || contains l x) ≡ false) × (eqb x v ≡ false)
     go true f e = absurd (let z : ◌≡◌ {A = ℕ} 0 1 = cc in omega arith)
     go false f e = f e
 
 -- ---- the search, at i
-pub place-start : (w : List ℕ) (n v : ℕ) → placeOf (boundOf w n) v ≡ 0 + placeOf (drop 0 (boundOf w n)) v
-place-start w n v = let z : 0 + placeOf (boundOf w n) v ≡ placeOf (boundOf w n) v = omega arith in rw z refl
+pub place_start : (w : List ℕ) (n v : ℕ) → place_of (bound_of w n) v ≡ 0 + place_of (drop 0 (bound_of w n)) v
+place_start w n v = let z : 0 + place_of (bound_of w n) v ≡ place_of (bound_of w n) v = omega arith in rw z refl
 
-pub bound-long : (w : List ℕ) (n : ℕ) → n ≤ 257 → workWords ≤ length w → length (boundOf w n) ≡ n
-bound-long w n few long = length-take-le n (drop boundAt w) (omega (arith, length-drop boundAt w))
+pub bound_long : (w : List ℕ) (n : ℕ) → n ≤ 257 → work_words ≤ length w → length (bound_of w n) ≡ n
+bound_long w n few long = length-take-le n (drop bound_at w) (omega (arith, length-drop bound_at w))
 
-module _ (w : List ℕ) (n v i : ℕ) (few : n ≤ 257) (long : workWords ≤ length w) where
-  bound-from : i < n → drop i (boundOf w n) ≡ get_or w (boundAt + i) 0 ∷ drop (i + 1) (boundOf w n)
-  bound-from h =
-      rw (add-one i) (drop-cons (boundOf w n) i 0 (omega (arith, bound-long w n few long))
-      ∙ ap (λ (x : ℕ). x ∷ drop (suc i) (boundOf w n)) (get_or-take n (drop boundAt w) i 0 h ∙ get_or-drop boundAt w i 0))
+module _ (w : List ℕ) (n v i : ℕ) (few : n ≤ 257) (long : work_words ≤ length w) where
+  bound_from : i < n → drop i (bound_of w n) ≡ get_or w (bound_at + i) 0 ∷ drop (i + 1) (bound_of w n)
+  bound_from h =
+      rw (add-one i) (drop-cons (bound_of w n) i 0 (omega (arith, bound_long w n few long))
+      ∙ ap (λ (x : ℕ). x ∷ drop (suc i) (bound_of w n)) (get_or-take n (drop bound_at w) i 0 h ∙ get_or-drop bound_at w i 0))
 
-  module _ (m : ℕ) (e : m ≡ i + placeOf (drop i (boundOf w n)) v) where
-    pub place-found : i < n → get_or w (boundAt + i) 0 ≡ v → i ≡ m
-    unfolding placeOf
-    place-found h q =
-        let z : placeOf (drop i (boundOf w n)) v ≡ 0 = rw (bound-from h, eq-eqb (get_or w (boundAt + i) 0) v q) refl in
+  module _ (m : ℕ) (e : m ≡ i + place_of (drop i (bound_of w n)) v) where
+    pub place_found : i < n → get_or w (bound_at + i) 0 ≡ v → i ≡ m
+    unfolding place_of
+    place_found h q =
+        let z : place_of (drop i (bound_of w n)) v ≡ 0 = rw (bound_from h, eq-eqb (get_or w (bound_at + i) 0) v q) refl in
         omega arith
 
-    pub place-on : i < n → (get_or w (boundAt + i) 0 ≡ v → ⊥) → m ≡ i + 1 + placeOf (drop (i + 1) (boundOf w n)) v
-    unfolding placeOf
-    place-on h q =
-        let z : placeOf (drop i (boundOf w n)) v ≡ suc (placeOf (drop (i + 1) (boundOf w n)) v) = rw (bound-from h, ne_eqb (get_or w (boundAt + i) 0) v q) refl in
+    pub place_on : i < n → (get_or w (bound_at + i) 0 ≡ v → ⊥) → m ≡ i + 1 + place_of (drop (i + 1) (bound_of w n)) v
+    unfolding place_of
+    place_on h q =
+        let z : place_of (drop i (bound_of w n)) v ≡ suc (place_of (drop (i + 1) (bound_of w n)) v) = rw (bound_from h, ne_eqb (get_or w (bound_at + i) 0) v q) refl in
         omega arith
 
-    pub place-end : n ≤ i → i ≤ n → n ≡ m
-    unfolding placeOf
-    place-end h k =
-        let y : length (boundOf w n) ≤ i = omega (arith, bound-long w n few long) in
-        let z : placeOf (drop i (boundOf w n)) v ≡ 0 = rw (drop_of_length-le (boundOf w n) y) refl in
+    pub place_end : n ≤ i → i ≤ n → n ≡ m
+    unfolding place_of
+    place_end h k =
+        let y : length (bound_of w n) ≤ i = omega (arith, bound_long w n few long) in
+        let z : place_of (drop i (bound_of w n)) v ≡ 0 = rw (drop_of_length-le (bound_of w n) y) refl in
         omega arith

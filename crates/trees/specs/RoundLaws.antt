@@ -5,28 +5,28 @@ use Rattle.std.proofs.Common.{sym, ap, ◌∙◌, arith, get_or-take}
 use mathlib.Core.List.{List, [], ◌∷◌}
 use Rattle.std.proofs.Math.ListN.{drop, drop_of_length-le}
 use Rattle.ir.specs.declared.atom.Atom.{Atom}
-use Rattle.rules.specs.Branches.{Tree, scanAtom, scan, scanned}
-use Rattle.branches.specs.Layout.{boundAt}
+use Rattle.rules.specs.Branches.{Tree, scan_atom, scan, scanned}
+use Rattle.branches.specs.Layout.{bound_at}
 use Rattle.branches.specs.Wide.{AtomsAre}
-use Rattle.branches.specs.AtomsLaws.{WordsAre, atom-at}
+use Rattle.branches.specs.AtomsLaws.{WordsAre, atom_at_lem}
 use Rattle.trees.specs.Growth.{one, trues, Kept, Growing, Midway, Visited, Rounded}
-use Rattle.trees.specs.FlagLaws.{trues-room, flags-from, flags-same}
+use Rattle.trees.specs.FlagLaws.{trues_room, flags_from, flags_same}
 
 -- ---- words that stay
-pub kept-same : (w : List ℕ) → Kept w w
-kept-same w = record { front = refl; back = refl }
+pub kept_same : (w : List ℕ) → Kept w w
+kept_same w = record { front = refl; back = refl }
 
-pub kept-then : {w x y : List ℕ} → Kept w x → Kept x y → Kept w y
-kept-then a b = record { front = b.front ∙ a.front; back = b.back ∙ a.back }
+pub kept_then : {w x y : List ℕ} → Kept w x → Kept x y → Kept w y
+kept_then a b = record { front = b.front ∙ a.front; back = b.back ∙ a.back }
 
-pub kept-get : (w x : List ℕ) → Kept w x → (j : ℕ) → j < boundAt → get_or x j 0 ≡ get_or w j 0
-kept-get w x k j h = sym (get_or-take boundAt x j 0 h) ∙ ap (λ (l : List ℕ). get_or l j 0) k.front ∙ get_or-take boundAt w j 0 h
+pub kept_get : (w x : List ℕ) → Kept w x → (j : ℕ) → j < bound_at → get_or x j 0 ≡ get_or w j 0
+kept_get w x k j h = sym (get_or-take bound_at x j 0 h) ∙ ap (λ (l : List ℕ). get_or l j 0) k.front ∙ get_or-take bound_at w j 0 h
 
-words-kept : (w x : List ℕ) (at : ℕ) (a : Atom) → Kept w x → at + 6 ≤ boundAt → WordsAre w at a → WordsAre x at a
-words-kept w x at a k h e = record {
-  kind = kept-get w x k at (omega arith) ∙ e.kind;
-  var = kept-get w x k (at + 4) (omega arith) ∙ e.var;
-  other = kept-get w x k (at + 5) (omega arith) ∙ e.other;
+words_kept : (w x : List ℕ) (at : ℕ) (a : Atom) → Kept w x → at + 6 ≤ bound_at → WordsAre w at a → WordsAre x at a
+words_kept w x at a k h e = record {
+  kind = kept_get w x k at (omega arith) ∙ e.kind;
+  var = kept_get w x k (at + 4) (omega arith) ∙ e.var;
+  other = kept_get w x k (at + 5) (omega arith) ∙ e.other;
 }
 
 -- ---- the round before atom j: the rule's tree so far, from which the atoms left make the rule's tree
@@ -43,59 +43,59 @@ pub record Walking (w0 : List ℕ) (flags0 : List Bool) (base count n0 : ℕ) (w
   pub up : trues (take count flags0) + one more ≤ trues (take count flags)
 
 module _ (w0 : List ℕ) (flags0 : List Bool) (base count n0 : ℕ) where
-  pub walking-start : n0 ≤ 1 + trues (take count flags0) → Walking w0 flags0 base count n0 w0 flags0 n0 false 0
-  walking-start h = record {
+  pub walking_start : n0 ≤ 1 + trues (take count flags0) → Walking w0 flags0 base count n0 w0 flags0 n0 false 0
+  walking_start h = record {
     here = omega arith;
     rule = λ root t l A G p. record {
       now = record { bound = t.bound; parents = t.parents; placed = []; progressed = false };
       midway = record { growing = G; placed = refl; progressed = refl };
       left = ap (λ (f : List Bool). scan (record { bound = t.bound; parents = t.parents; placed = []; progressed = false }) l f) p;
     };
-    kept = kept-same w0;
+    kept = kept_same w0;
     few = h;
     up = omega arith;
   }
 
   module _ (w : List ℕ) (flags : List Bool) (n : ℕ) (more : Bool) (j : ℕ) (W : Walking w0 flags0 base count n0 w flags n more j) where
     -- an atom that is not placed leaves room for a variable
-    pub walking-room : count ≤ 256 → count ≤ length flags → j < count → get_or flags j false ≡ false → n ≤ 256
-    walking-room h k g e = omega (arith, trues-room count flags j g k e, W.few)
+    pub walking_room : count ≤ 256 → count ≤ length flags → j < count → get_or flags j false ≡ false → n ≤ 256
+    walking_room h k g e = omega (arith, trues_room count flags j g k e, W.few)
 
-    module _ (h : j < count) (inside : 6 * (base + count) ≤ boundAt) (long : count ≤ length flags)
+    module _ (h : j < count) (inside : 6 * (base + count) ≤ bound_at) (long : count ≤ length flags)
         (n' : ℕ) (more' : Bool) (w' : List ℕ) (flags' : List Bool) (S : Visited w flags (6 * (base + j)) j n more n' more' w' flags') where
-      scan-one : (t : Tree) (a : Atom) (l m : List Atom) → l ≡ a ∷ m
-          → scan t l (drop j (take count flags)) ≡ scan (scanAtom t a (get_or flags j false)) m (drop (j + 1) (take count flags'))
+      scan_one : (t : Tree) (a : Atom) (l m : List Atom) → l ≡ a ∷ m
+          → scan t l (drop j (take count flags)) ≡ scan (scan_atom t a (get_or flags j false)) m (drop (j + 1) (take count flags'))
       unfolding scan
-      scan-one t a l m e = rw (e, flags-from flags j count h long, flags-same flags flags' (j + 1) count (omega arith) S.rest) refl
+      scan_one t a l m e = rw (e, flags_from flags j count h long, flags_same flags flags' (j + 1) count (omega arith) S.rest) refl
 
-      reached-next : (root : ℕ) (t : Tree) (l : List Atom) → AtomsAre w0 base count l → Reached w flags root count n more j l t → Reached w' flags' root count n' more' (j + 1) l t
-      reached-next root t l A R =
-          let a = atom-at w0 base count j l A h in
-          let k = words-kept w0 w (6 * (base + j)) a.atom W.kept (omega arith) a.words in
+      reached_next : (root : ℕ) (t : Tree) (l : List Atom) → AtomsAre w0 base count l → Reached w flags root count n more j l t → Reached w' flags' root count n' more' (j + 1) l t
+      reached_next root t l A R =
+          let a = atom_at_lem w0 base count j l A h in
+          let k = words_kept w0 w (6 * (base + j)) a.atom W.kept (omega arith) a.words in
           record {
-            now = scanAtom R.now a.atom (get_or flags j false);
+            now = scan_atom R.now a.atom (get_or flags j false);
             midway = S.rule root R.now a.atom k R.midway;
-            left = R.left ∙ scan-one R.now a.atom (drop j l) (drop (j + 1) l) a.split;
+            left = R.left ∙ scan_one R.now a.atom (drop j l) (drop (j + 1) l) a.split;
           }
 
-      pub walking-next : Walking w0 flags0 base count n0 w' flags' n' more' (j + 1)
-      walking-next = record {
+      pub walking_next : Walking w0 flags0 base count n0 w' flags' n' more' (j + 1)
+      walking_next = record {
         here = omega arith;
-        rule = λ root t l A G p. reached-next root t l A (W.rule root t l A G p);
-        kept = kept-then W.kept S.kept;
+        rule = λ root t l A G p. reached_next root t l A (W.rule root t l A G p);
+        kept = kept_then W.kept S.kept;
         few = omega (arith, S.counted count h, S.fewer, W.few);
         up = omega (arith, S.counted count h, S.moved, W.up);
       }
 
-    scan-end : (root : ℕ) (t : Tree) (l : List Atom) → AtomsAre w0 base count l → count ≤ j → (R : Reached w flags root count n more j l t) → scanned l t ≡ R.now
+    scan_end : (root : ℕ) (t : Tree) (l : List Atom) → AtomsAre w0 base count l → count ≤ j → (R : Reached w flags root count n more j l t) → scanned l t ≡ R.now
     unfolding scan
-    scan-end root t l A h R =
+    scan_end root t l A h R =
         let z : drop j l ≡ [] = drop_of_length-le l {i = j} (omega (arith, A.long)) in
         R.left ∙ rw z refl
 
-    pub walking-end : count ≤ j → Rounded w0 flags0 base count n0 n more w flags
-    walking-end h = record {
-      rule = λ root t l A G p. let R = W.rule root t l A G p in let z : j ≡ count = omega (arith, W.here) in rw (scan-end root t l A h R, ← z) R.midway;
+    pub walking_end : count ≤ j → Rounded w0 flags0 base count n0 n more w flags
+    walking_end h = record {
+      rule = λ root t l A G p. let R = W.rule root t l A G p in let z : j ≡ count = omega (arith, W.here) in rw (scan_end root t l A h R, ← z) R.midway;
       kept = W.kept;
       few = W.few;
       up = W.up;

@@ -4,11 +4,11 @@ ghost use Rattle.words.specs.Words.{words};
 ghost use Rattle.ir.specs.Pick.{pick};
 ghost use Rattle.ir.specs.declared.atom.Atom.{Atom};
 ghost use Rattle.rules.specs.Base.{contains};
-ghost use Rattle.rules.specs.Branches.{placeOf, anyDisconnected};
-ghost use Rattle.branches.specs.Layout.{boundAt, workWords};
+ghost use Rattle.rules.specs.Branches.{place_of, any_disconnected};
+ghost use Rattle.branches.specs.Layout.{bound_at, work_words};
 ghost use Rattle.branches.specs.Wide.{AtomsAre, AtomsThere};
 ghost use Rattle.branches.specs.Trees.{TreeIs, OnlyTree};
-ghost use Rattle.trees.specs.Growth.{trues, boundOf, bindOf, Visited, Rounded, Grown};
+ghost use Rattle.trees.specs.Growth.{trues, bound_of, bind_of, Visited, Rounded, Grown};
 
 use branches::layout::{BOUND, TOPS};
 
@@ -21,8 +21,8 @@ struct Step {
 
 // The place of v among the n bound variables, or n.
 pub fn place(scratch: &[u8], n: usize, v: u32) -> usize
-    requires { (n ≤ 257) × (4 * workWords ≤ length scratch.now) }
-    ensures { result ≡ placeOf (take n (drop boundAt (words scratch.now))) v }
+    requires { (n ≤ 257) × (4 * work_words ≤ length scratch.now) }
+    ensures { result ≡ place_of (take n (drop bound_at (words scratch.now))) v }
 {
     let mut i: usize = 0;
     while i < n {
@@ -36,9 +36,9 @@ pub fn place(scratch: &[u8], n: usize, v: u32) -> usize
 
 // R(u, v), with u at place i of the n bound variables: binds v, unless it is bound; how many there are then.
 fn bind(scratch: &mut [u8], n: usize, i: usize, v: u32) -> usize
-    requires { (n ≤ 256) × (i < n) × (4 * workWords ≤ length scratch.old) }
-    ensures value { result ≡ pick (contains (boundOf (words scratch.old) n) v) n (n + 1) }
-    ensures scratch_after { words scratch.new ≡ bindOf (words scratch.old) n i v (contains (boundOf (words scratch.old) n) v) }
+    requires { (n ≤ 256) × (i < n) × (4 * work_words ≤ length scratch.old) }
+    ensures value { result ≡ pick (contains (bound_of (words scratch.old) n) v) n (n + 1) }
+    ensures scratch_after { words scratch.new ≡ bind_of (words scratch.old) n i v (contains (bound_of (words scratch.old) n) v) }
 {
     if place(scratch, n, v) < n {
         return n;
@@ -55,7 +55,7 @@ fn bind(scratch: &mut [u8], n: usize, i: usize, v: u32) -> usize
 
 // Atom j, at word `at`: a role atom that is not placed is, where its first variable is bound.
 fn visit(scratch: &mut [u8], placed: &mut [bool], at: usize, j: usize, s: Step) -> Step
-    requires { (at + 6 ≤ boundAt) × (j < length placed.old) × (4 * workWords ≤ length scratch.old) × (get_or placed.old j false ≡ false → s.bound ≤ 256) }
+    requires { (at + 6 ≤ bound_at) × (j < length placed.old) × (4 * work_words ≤ length scratch.old) × (get_or placed.old j false ≡ false → s.bound ≤ 256) }
     ensures { Visited (words scratch.old) placed.old at j s.bound s.more result.bound result.more (words scratch.new) placed.new }
 {
     if placed[j] {
@@ -80,7 +80,7 @@ fn visit(scratch: &mut [u8], placed: &mut [bool], at: usize, j: usize, s: Step) 
 
 // One round over the `count` atoms from record `base` on.
 fn round(scratch: &mut [u8], placed: &mut [bool], base: usize, count: usize, bound: usize) -> Step
-    requires { (6 * (base + count) ≤ boundAt) × (count ≤ length placed.old) × (count ≤ 256) × (4 * workWords ≤ length scratch.old) × (bound ≤ 1 + trues (take count placed.old)) }
+    requires { (6 * (base + count) ≤ bound_at) × (count ≤ length placed.old) × (count ≤ 256) × (4 * work_words ≤ length scratch.old) × (bound ≤ 1 + trues (take count placed.old)) }
     ensures { Rounded (words scratch.old) placed.old base count bound result.bound result.more (words scratch.new) placed.new }
 {
     let mut s = Step { bound, more: false };
@@ -94,7 +94,7 @@ fn round(scratch: &mut [u8], placed: &mut [bool], base: usize, count: usize, bou
 
 // Rounds until one places no atom; how many variables are bound then.
 fn grow(scratch: &mut [u8], placed: &mut [bool], base: usize, count: usize) -> usize
-    requires { (6 * (base + count) ≤ boundAt) × (take count placed.old ≡ replicate count false) × (count ≤ length placed.old) × (count ≤ 256) × (4 * workWords ≤ length scratch.old) }
+    requires { (6 * (base + count) ≤ bound_at) × (take count placed.old ≡ replicate count false) × (count ≤ length placed.old) × (count ≤ 256) × (4 * work_words ≤ length scratch.old) }
     ensures { Grown (words scratch.old) base count result (words scratch.new) placed.new }
 {
     let mut s = Step {
@@ -109,8 +109,8 @@ fn grow(scratch: &mut [u8], placed: &mut [bool], base: usize, count: usize) -> u
 
 // A role atom that is not placed is disconnected from the root.
 fn any_disconnected(scratch: &[u8], placed: &[bool], base: usize, count: usize) -> bool
-    requires { (6 * (base + count) ≤ boundAt) × (count ≤ length placed.now) × (4 * workWords ≤ length scratch.now) }
-    ensures { (l : List Atom) → AtomsAre (words scratch.now) base count l → result ≡ anyDisconnected l (take count placed.now) }
+    requires { (6 * (base + count) ≤ bound_at) × (count ≤ length placed.now) × (4 * work_words ≤ length scratch.now) }
+    ensures { (l : List Atom) → AtomsAre (words scratch.now) base count l → result ≡ any_disconnected l (take count placed.now) }
 {
     let mut j: usize = 0;
     while j < count {
@@ -124,7 +124,7 @@ fn any_disconnected(scratch: &[u8], placed: &[bool], base: usize, count: usize) 
 
 // How many variables are bound, or 0 where a role atom is disconnected.
 pub fn tree(scratch: &mut [u8], base: usize, count: usize, root: u32) -> usize
-    requires { AtomsThere (words scratch.old) base count × (count ≤ 256) × (6 * (base + count) ≤ boundAt) × (4 * workWords ≤ length scratch.old) }
+    requires { AtomsThere (words scratch.old) base count × (count ≤ 256) × (6 * (base + count) ≤ bound_at) × (4 * work_words ≤ length scratch.old) }
     ensures tree_is { (l : List Atom) → AtomsAre (words scratch.old) base count l → TreeIs (words scratch.new) root l result }
     ensures only_tree { OnlyTree (words scratch.old) (words scratch.new) }
 {

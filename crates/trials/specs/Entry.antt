@@ -8,17 +8,17 @@ use Rattle.trials.specs.declared.judged.Tried.{Tried}
 use Rattle.trials.specs.declared.judged.Tried.TheVariants as Replies
 
 -- the lengths of what is lent
-abbrev pub lentAll : List ℕ → List ℕ → List ℕ → List ℕ → List ℕ → Lent
-lentAll clauses atoms deferrals store scratch = record { run = lent clauses atoms deferrals scratch; store = length store }
+abbrev pub lent_all : List ℕ → List ℕ → List ℕ → List ℕ → List ℕ → Lent
+lent_all clauses atoms deferrals store scratch = record { run = lent clauses atoms deferrals scratch; store = length store }
 
 -- what is broken, by an axiom's line or a clause's number, and how many elements are shown
-abbrev pub verdictReply : Verdict → Tried
-verdictReply holds = Replies.Holds
-verdictReply (broken n l) = Replies.Broken n (length l)
+abbrev pub verdict_reply : Verdict → Tried
+verdict_reply holds = Replies.Holds
+verdict_reply (broken n l) = Replies.Broken n (length l)
 
-abbrev pub triedOf : Tested → Tried
-triedOf (told a v) = verdictReply v
-triedOf (refused n line) = Replies.Refused n line
+abbrev pub tried_of : Tested → Tried
+tried_of (told a v) = verdict_reply v
+tried_of (refused n line) = Replies.Refused n line
 
 -- demand 3 of the clauses in these bytes, by the ten numbers in the store's front
 abbrev pub MeaningStored : (deck clauses atoms store : List ℕ) → Type 0

@@ -5,9 +5,9 @@ use Rattle.rules.specs.State.{Clause}
 use Rattle.rules.specs.Deck.{Known}
 use Rattle.rules.specs.Run.{Accepted}
 use Rattle.rules.specs.Semantics.{Interpretation}
-use Rattle.states.specs.State.{StateTold, stated, bad, unread, interpretationOf}
-use Rattle.states.specs.Test.{Test, axioms, clauses, Verdict, Tested, told, refused, axiomsVerdict, clausesVerdict, wideClause, unlessWide, verdictOn, onState}
-use Rattle.sets.specs.Verdicts.{verdictIn}
+use Rattle.states.specs.State.{StateTold, stated, bad, unread, interpretation_of}
+use Rattle.states.specs.Test.{Test, axioms, clauses, Verdict, Tested, told, refused, axioms_verdict, clauses_verdict, wide_clause, unless_wide, verdict_on, on_state}
+use Rattle.sets.specs.Verdicts.{verdict_in}
 use Rattle.trials.specs.declared.judged.Judged.{Judged}
 use Rattle.trials.specs.declared.judged.Judged.TheVariants as Code
 
@@ -15,37 +15,37 @@ pub data Judgement : Type 0 where
   given : Verdict → Judgement
   denied : ℕ → ℕ → Judgement
 
-abbrev pub unlessDenied : Verdict → Bool → Judgement
-unlessDenied v true = denied 14 0
-unlessDenied v false = given v
+abbrev pub unless_denied : Verdict → Bool → Judgement
+unless_denied v true = denied 14 0
+unless_denied v false = given v
 
-abbrev pub judgedIn : Test → Known → List Clause → Interpretation → Judgement
-judgedIn axioms d l I = given (axiomsVerdict I d)
-judgedIn clauses d l I = unlessDenied (clausesVerdict I l) (any wideClause l)
+abbrev pub judged_in : Test → Known → List Clause → Interpretation → Judgement
+judged_in axioms d l I = given (axioms_verdict I d)
+judged_in clauses d l I = unless_denied (clauses_verdict I l) (any wide_clause l)
 
-abbrev pub judgedOf : Test → Known → List Clause → StateTold → Judgement
-judgedOf k d l (stated s) = judgedIn k d l (interpretationOf d s)
-judgedOf k d l (bad line) = denied 13 line
-judgedOf k d l unread = denied 0 0
+abbrev pub judged_of : Test → Known → List Clause → StateTold → Judgement
+judged_of k d l (stated s) = judged_in k d l (interpretation_of d s)
+judged_of k d l (bad line) = denied 13 line
+judged_of k d l unread = denied 0 0
 
 -- with the run's answer
-abbrev pub testedAs : Accepted → Judgement → Tested
-testedAs a (given v) = told a v
-testedAs a (denied n line) = refused n line
+abbrev pub tested_as : Accepted → Judgement → Tested
+tested_as a (given v) = told a v
+tested_as a (denied n line) = refused n line
 
-pub on-state : (k : Test) (d : Known) (a : Accepted) (x : StateTold) → onState k d a x ≡ testedAs a (judgedOf k d a.clauses x)
-on-state axioms d a (stated s) = refl
-on-state axioms d a (bad line) = refl
-on-state axioms d a unread = refl
-on-state clauses d a (stated s) = wide (any wideClause a.clauses)
+pub on_state_lem : (k : Test) (d : Known) (a : Accepted) (x : StateTold) → on_state k d a x ≡ tested_as a (judged_of k d a.clauses x)
+on_state_lem axioms d a (stated s) = refl
+on_state_lem axioms d a (bad line) = refl
+on_state_lem axioms d a unread = refl
+on_state_lem clauses d a (stated s) = wide (any wide_clause a.clauses)
   where
-    wide : (b : Bool) → unlessWide a (clausesVerdict (interpretationOf d s) a.clauses) b ≡ testedAs a (unlessDenied (clausesVerdict (interpretationOf d s) a.clauses) b)
+    wide : (b : Bool) → unless_wide a (clauses_verdict (interpretation_of d s) a.clauses) b ≡ tested_as a (unless_denied (clauses_verdict (interpretation_of d s) a.clauses) b)
     wide true = refl
     wide false = refl
-on-state clauses d a (bad line) = refl
-on-state clauses d a unread = refl
+on_state_lem clauses d a (bad line) = refl
+on_state_lem clauses d a unread = refl
 
 -- what the code says, with the words v of scratch
-abbrev pub saidIn : List ℕ → Judged → Judgement
-saidIn v (Code.Given x) = given (verdictIn v x)
-saidIn v (Code.Denied n line) = denied n line
+abbrev pub said_in : List ℕ → Judged → Judgement
+said_in v (Code.Given x) = given (verdict_in v x)
+said_in v (Code.Denied n line) = denied n line

@@ -1,40 +1,40 @@
 -- The front of the store: the ten numbers, and the verdict.
 use Rattle.std.specs.Prelude.{◌≡◌, List, [], ◌∷◌, ◌++◌, ℕ, ◌+◌, ◌*◌, ◌≤◌, length}
 use Prim.{Unit}
-use Rattle.rules.specs.Run.{Accepted, accepted, scratchBytes}
+use Rattle.rules.specs.Run.{Accepted, accepted, scratch_bytes}
 use Rattle.statistics.specs.declared.ClauseStats.{ClauseStats}
 use Rattle.clausify.specs.declared.Reply.TheVariants as Replies
-use Rattle.clausify.specs.Entry.{replyOf}
-use Rattle.clausify.specs.Answer.{tenOf}
+use Rattle.clausify.specs.Entry.{reply_of}
+use Rattle.clausify.specs.Answer.{ten_of}
 use Rattle.words.specs.Words.{words}
-use Rattle.states.specs.Test.{storeBytes, verdictWords}
+use Rattle.states.specs.Test.{store_bytes, verdict_words}
 use Rattle.states.specs.Test as Test
 use Rattle.sets.specs.declared.verdict.Verdict.{Verdict}
 use Rattle.sets.specs.declared.verdict.Verdict.TheVariants.{Holds, Broken}
-use Rattle.sets.specs.Verdicts.{verdictIn}
-use Rattle.trials.specs.Judged.{Judgement, given, denied, saidIn}
+use Rattle.sets.specs.Verdicts.{verdict_in}
+use Rattle.trials.specs.Judged.{Judgement, given, denied, said_in}
 use Rattle.trials.specs.declared.judged.Judged.{Judged}
 
 -- ten numbers, two, and at most 129 elements
-abbrev pub frontWords : ℕ
-frontWords = 141
+abbrev pub front_words : ℕ
+front_words = 141
 
-abbrev pub mostShown : ℕ
-mostShown = 129
+abbrev pub most_shown : ℕ
+most_shown = 129
 
 -- what is shown has its words
 abbrev pub Shows : Verdict → Type 0
 Shows Holds = Unit {0}
-Shows (Broken n k) = k ≤ mostShown
+Shows (Broken n k) = k ≤ most_shown
 
 -- of scratch's words v
-abbrev pub frontOf : List ℕ → ClauseStats → ℕ → ℕ → Verdict → List ℕ
-frontOf v s freshIds visits x = tenOf s freshIds visits ++ verdictWords (verdictIn v x)
+abbrev pub front_of : List ℕ → ClauseStats → ℕ → ℕ → Verdict → List ℕ
+front_of v s fresh_ids visits x = ten_of s fresh_ids visits ++ verdict_words (verdict_in v x)
 
 -- a verdict shows at most so many elements
 abbrev pub ShortVerdict : Test.Verdict → Type 0
 ShortVerdict Test.holds = Unit {0}
-ShortVerdict (Test.broken n l) = length l ≤ mostShown
+ShortVerdict (Test.broken n l) = length l ≤ most_shown
 
 abbrev pub Short : Judgement → Type 0
 Short (given v) = ShortVerdict v
@@ -42,11 +42,11 @@ Short (denied n line) = Unit {0}
 
 -- the run's reply
 abbrev pub Counted : Accepted → ClauseStats → ℕ → ℕ → Type 0
-Counted a s freshIds visits = replyOf (accepted a) ≡ Replies.Accepted s freshIds visits
+Counted a s fresh_ids visits = reply_of (accepted a) ≡ Replies.Accepted s fresh_ids visits
 
-pub record ReportThere (store scratch : List ℕ) (x : Judged) (s : ClauseStats) (freshIds visits : ℕ) : Type 0 where
+pub record ReportThere (store scratch : List ℕ) (x : Judged) (s : ClauseStats) (fresh_ids visits : ℕ) : Type 0 where
   pub run : Accepted
-  pub counted : Counted run s freshIds visits
-  pub short : Short (saidIn (words scratch) x)
-  pub room : storeBytes ≤ length store
-  pub space : scratchBytes ≤ length scratch
+  pub counted : Counted run s fresh_ids visits
+  pub short : Short (said_in (words scratch) x)
+  pub room : store_bytes ≤ length store
+  pub space : scratch_bytes ≤ length scratch

@@ -2,17 +2,17 @@
 ghost use Rattle.std.specs.Prelude.{◌≡◌, List, ℕ, ◌≤◌, length};
 ghost use Rattle.words.specs.Words.{words};
 ghost use Rattle.rules.specs.State.{Clause};
-ghost use Rattle.rules.specs.Deck.{Known, fine, readDeck};
-ghost use Rattle.rules.specs.Run.{scratchBytes};
+ghost use Rattle.rules.specs.Deck.{Known, fine, read_deck};
+ghost use Rattle.rules.specs.Run.{scratch_bytes};
 ghost use Rattle.rules.specs.Semantics.{Interpretation};
-ghost use Rattle.states.specs.State.{readState};
-ghost use Rattle.states.specs.Test.{storeBytes, axiomsVerdict};
+ghost use Rattle.states.specs.State.{read_state};
+ghost use Rattle.states.specs.Test.{store_bytes, axioms_verdict};
 ghost use Rattle.states.specs.Test as Test;
-ghost use Rattle.sets.specs.Verdicts.{verdictIn};
+ghost use Rattle.sets.specs.Verdicts.{verdict_in};
 ghost use Rattle.extents.specs.Ready.{Ready, Fits, ReadyThere};
 ghost use Rattle.layouts.specs.Read.{Limited, Declares};
-ghost use Rattle.trials.specs.Judged.{judgedOf, saidIn};
-ghost use Rattle.trials.specs.Judging.{trialOf, LoadedThere, InScratch};
+ghost use Rattle.trials.specs.Judged.{judged_of, said_in};
+ghost use Rattle.trials.specs.Judging.{trial_of, LoadedThere, InScratch};
 
 use crate::judged::Judged;
 use crate::opened;
@@ -26,7 +26,7 @@ use sets::verdict::Verdict;
 // In a state that is laid out.
 fn verdict(store: &[u8], scratch: &mut [u8], t: Trial) -> Verdict
     requires { ReadyThere store.now scratch.old t }
-    ensures { (d : Known) (I : Interpretation) → Ready d I (words store.now) (words scratch.old) → Fits d I t → verdictIn (words scratch.new) result ≡ axiomsVerdict I d }
+    ensures { (d : Known) (I : Interpretation) → Ready d I (words store.now) (words scratch.old) → Fits d I t → verdict_in (words scratch.new) result ≡ axioms_verdict I d }
 {
     extents::concept_sets(store, scratch, t);
     axiomtests::axioms_verdict(store, scratch, t)
@@ -34,7 +34,7 @@ fn verdict(store: &[u8], scratch: &mut [u8], t: Trial) -> Verdict
 
 // The numbers of a deck that stands in scratch, and a state of so many elements.
 fn trial(k: Counters, n: u32, size: u32) -> Trial
-    ensures { result ≡ trialOf k n size }
+    ensures { result ≡ trial_of k n size }
 {
     Trial {
         size,
@@ -55,7 +55,7 @@ fn loaded(
     n: u32,
 ) -> Judged
     requires { LoadedThere store.old scratch.old m k n }
-    ensures { (d : Known) (l : List Clause) → InScratch d (words scratch.old) k n → Declares d m → saidIn (words scratch.new) result ≡ judgedOf Test.axioms d l (readState d m.fresh state.now) }
+    ensures { (d : Known) (l : List Clause) → InScratch d (words scratch.old) k n → Declares d m → said_in (words scratch.new) result ≡ judged_of Test.axioms d l (read_state d m.fresh state.now) }
 {
     match layouts::read_state(state, store, scratch, m) {
         Stated::Stated(size) => Judged::Given(verdict(store, scratch, trial(k, n, size))),
@@ -64,8 +64,8 @@ fn loaded(
 }
 
 pub fn judge(deck: &[u8], state: &[u8], store: &mut [u8], scratch: &mut [u8], fresh: u32) -> Judged
-    requires { (storeBytes ≤ length store.old) × (scratchBytes ≤ length scratch.old) × («fresh» ≤ 2000000) × ((d : Known) × (readDeck deck.now ≡ fine d)) }
-    ensures { (d : Known) (l : List Clause) → readDeck deck.now ≡ fine d → saidIn (words scratch.new) result ≡ judgedOf Test.axioms d l (readState d «fresh» state.now) }
+    requires { (store_bytes ≤ length store.old) × (scratch_bytes ≤ length scratch.old) × («fresh» ≤ 2000000) × ((d : Known) × (read_deck deck.now ≡ fine d)) }
+    ensures { (d : Known) (l : List Clause) → read_deck deck.now ≡ fine d → said_in (words scratch.new) result ≡ judged_of Test.axioms d l (read_state d «fresh» state.now) }
 {
     let m = opened::limits(deck, scratch, fresh);
     match load::load(deck, scratch, 0) {

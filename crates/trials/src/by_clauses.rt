@@ -3,12 +3,12 @@ ghost use Rattle.std.specs.Prelude.{◌≡◌, List, ℕ, ◌≤◌, length};
 ghost use Rattle.words.specs.Words.{words};
 ghost use Rattle.rules.specs.Base.{any};
 ghost use Rattle.rules.specs.State.{Clause};
-ghost use Rattle.rules.specs.Deck.{Known, fine, readDeck};
+ghost use Rattle.rules.specs.Deck.{Known, fine, read_deck};
 ghost use Rattle.rules.specs.Semantics.{Interpretation};
-ghost use Rattle.states.specs.State.{readState};
-ghost use Rattle.states.specs.Test.{clausesVerdict, wideClause};
+ghost use Rattle.states.specs.State.{read_state};
+ghost use Rattle.states.specs.Test.{clauses_verdict, wide_clause};
 ghost use Rattle.states.specs.Test as Test;
-ghost use Rattle.trials.specs.Judged.{unlessDenied, judgedOf, saidIn};
+ghost use Rattle.trials.specs.Judged.{unless_denied, judged_of, said_in};
 ghost use Rattle.trials.specs.Judging.{Clausal, ClausalThere, Clauses, JudgeThere};
 
 use crate::judged::Judged;
@@ -27,7 +27,7 @@ fn tested(
     size: u32,
 ) -> Judged
     requires { ClausalThere size count state.now clauses.now atoms.now store.now scratch.old }
-    ensures { (I : Interpretation) (roles : ℕ) (l : List Clause) → Clausal I roles size count l state.now (words clauses.now) (words atoms.now) (words store.now) (words scratch.old) → saidIn (words scratch.new) result ≡ unlessDenied (clausesVerdict I l) (any wideClause l) }
+    ensures { (I : Interpretation) (roles : ℕ) (l : List Clause) → Clausal I roles size count l state.now (words clauses.now) (words atoms.now) (words store.now) (words scratch.old) → said_in (words scratch.new) result ≡ unless_denied (clauses_verdict I l) (any wide_clause l) }
 {
     if vars::wide(clauses, atoms, count) {
         return Judged::Denied(14, 0);
@@ -46,7 +46,7 @@ pub fn judge(
     fresh: u32,
 ) -> Judged
     requires { JudgeThere deck.now clauses.now atoms.now store.old scratch.old count «fresh» }
-    ensures { (d : Known) (l : List Clause) → readDeck deck.now ≡ fine d → Clauses d count l (words clauses.now) (words atoms.now) → saidIn (words scratch.new) result ≡ judgedOf Test.clauses d l (readState d «fresh» state.now) }
+    ensures { (d : Known) (l : List Clause) → read_deck deck.now ≡ fine d → Clauses d count l (words clauses.now) (words atoms.now) → said_in (words scratch.new) result ≡ judged_of Test.clauses d l (read_state d «fresh» state.now) }
 {
     let m = opened::limits(deck, scratch, fresh);
     match layouts::read_state(state, store, scratch, m) {

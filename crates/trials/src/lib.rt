@@ -11,11 +11,11 @@ mod report;
 mod tell;
 
 ghost use Rattle.std.specs.Prelude.{◌≡◌};
-ghost use Rattle.rules.specs.Run.{scratchTable};
-ghost use Rattle.states.specs.Test.{testState, testedClauses, testedAtoms, testedDeferrals, storeTable};
+ghost use Rattle.rules.specs.Run.{scratch_table};
+ghost use Rattle.states.specs.Test.{test_state, tested_clauses, tested_atoms, tested_deferrals, store_table};
 ghost use Rattle.states.specs.Test as Test;
 ghost use Rattle.states.specs.Seen.{SeenByAxioms, SeenByClauses};
-ghost use Rattle.trials.specs.Entry.{lentAll, triedOf, MeantTried};
+ghost use Rattle.trials.specs.Entry.{lent_all, tried_of, MeantTried};
 
 use clausify::fitted;
 use judged::Tried;
@@ -33,26 +33,26 @@ pub fn try_axioms(
     store: &mut [u8],
     scratch: &mut [u8],
 ) -> Tried
-    ensures reply { let t = lentAll clauses.old atoms.old deferrals.old store.old scratch.old in
-        let o = testState Test.axioms deck.now state.now t in
-        result ≡ triedOf o }
-    ensures clauses { let t = lentAll clauses.old atoms.old deferrals.old store.old scratch.old in
-        let o = testState Test.axioms deck.now state.now t in
-        clauses.new ≡ testedClauses t o }
-    ensures atoms { let t = lentAll clauses.old atoms.old deferrals.old store.old scratch.old in
-        let o = testState Test.axioms deck.now state.now t in
-        atoms.new ≡ testedAtoms t o }
-    ensures deferrals { let t = lentAll clauses.old atoms.old deferrals.old store.old scratch.old in
-        let o = testState Test.axioms deck.now state.now t in
-        deferrals.new ≡ testedDeferrals t o }
-    ensures store { let t = lentAll clauses.old atoms.old deferrals.old store.old scratch.old in
-        let o = testState Test.axioms deck.now state.now t in
-        store.new ≡ storeTable t o }
-    ensures scratch { let t = lentAll clauses.old atoms.old deferrals.old store.old scratch.old in
-        scratch.new ≡ scratchTable t.run }
+    ensures reply { let t = lent_all clauses.old atoms.old deferrals.old store.old scratch.old in
+        let o = test_state Test.axioms deck.now state.now t in
+        result ≡ tried_of o }
+    ensures clauses { let t = lent_all clauses.old atoms.old deferrals.old store.old scratch.old in
+        let o = test_state Test.axioms deck.now state.now t in
+        clauses.new ≡ tested_clauses t o }
+    ensures atoms { let t = lent_all clauses.old atoms.old deferrals.old store.old scratch.old in
+        let o = test_state Test.axioms deck.now state.now t in
+        atoms.new ≡ tested_atoms t o }
+    ensures deferrals { let t = lent_all clauses.old atoms.old deferrals.old store.old scratch.old in
+        let o = test_state Test.axioms deck.now state.now t in
+        deferrals.new ≡ tested_deferrals t o }
+    ensures store { let t = lent_all clauses.old atoms.old deferrals.old store.old scratch.old in
+        let o = test_state Test.axioms deck.now state.now t in
+        store.new ≡ store_table t o }
+    ensures scratch { let t = lent_all clauses.old atoms.old deferrals.old store.old scratch.old in
+        scratch.new ≡ scratch_table t.run }
     ensures meaning { MeantTried deck.now clauses.new atoms.new store.new result }
-    ensures seen { let t = lentAll clauses.old atoms.old deferrals.old store.old scratch.old in
-        SeenByAxioms deck.now state.now t (testState Test.axioms deck.now state.now t) }
+    ensures seen { let t = lent_all clauses.old atoms.old deferrals.old store.old scratch.old in
+        SeenByAxioms deck.now state.now t (test_state Test.axioms deck.now state.now t) }
 {
     let fit = STORE <= store.len();
     let reply = fitted::answer_if(fit, deck, clauses, atoms, deferrals, scratch);
@@ -72,26 +72,26 @@ pub fn try_clauses(
     store: &mut [u8],
     scratch: &mut [u8],
 ) -> Tried
-    ensures reply { let t = lentAll clauses.old atoms.old deferrals.old store.old scratch.old in
-        let o = testState Test.clauses deck.now state.now t in
-        result ≡ triedOf o }
-    ensures clauses { let t = lentAll clauses.old atoms.old deferrals.old store.old scratch.old in
-        let o = testState Test.clauses deck.now state.now t in
-        clauses.new ≡ testedClauses t o }
-    ensures atoms { let t = lentAll clauses.old atoms.old deferrals.old store.old scratch.old in
-        let o = testState Test.clauses deck.now state.now t in
-        atoms.new ≡ testedAtoms t o }
-    ensures deferrals { let t = lentAll clauses.old atoms.old deferrals.old store.old scratch.old in
-        let o = testState Test.clauses deck.now state.now t in
-        deferrals.new ≡ testedDeferrals t o }
-    ensures store { let t = lentAll clauses.old atoms.old deferrals.old store.old scratch.old in
-        let o = testState Test.clauses deck.now state.now t in
-        store.new ≡ storeTable t o }
-    ensures scratch { let t = lentAll clauses.old atoms.old deferrals.old store.old scratch.old in
-        scratch.new ≡ scratchTable t.run }
+    ensures reply { let t = lent_all clauses.old atoms.old deferrals.old store.old scratch.old in
+        let o = test_state Test.clauses deck.now state.now t in
+        result ≡ tried_of o }
+    ensures clauses { let t = lent_all clauses.old atoms.old deferrals.old store.old scratch.old in
+        let o = test_state Test.clauses deck.now state.now t in
+        clauses.new ≡ tested_clauses t o }
+    ensures atoms { let t = lent_all clauses.old atoms.old deferrals.old store.old scratch.old in
+        let o = test_state Test.clauses deck.now state.now t in
+        atoms.new ≡ tested_atoms t o }
+    ensures deferrals { let t = lent_all clauses.old atoms.old deferrals.old store.old scratch.old in
+        let o = test_state Test.clauses deck.now state.now t in
+        deferrals.new ≡ tested_deferrals t o }
+    ensures store { let t = lent_all clauses.old atoms.old deferrals.old store.old scratch.old in
+        let o = test_state Test.clauses deck.now state.now t in
+        store.new ≡ store_table t o }
+    ensures scratch { let t = lent_all clauses.old atoms.old deferrals.old store.old scratch.old in
+        scratch.new ≡ scratch_table t.run }
     ensures meaning { MeantTried deck.now clauses.new atoms.new store.new result }
-    ensures seen { let t = lentAll clauses.old atoms.old deferrals.old store.old scratch.old in
-        SeenByClauses deck.now state.now t (testState Test.clauses deck.now state.now t) }
+    ensures seen { let t = lent_all clauses.old atoms.old deferrals.old store.old scratch.old in
+        SeenByClauses deck.now state.now t (test_state Test.clauses deck.now state.now t) }
 {
     let fit = STORE <= store.len();
     let reply = fitted::answer_if(fit, deck, clauses, atoms, deferrals, scratch);

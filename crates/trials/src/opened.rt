@@ -1,7 +1,7 @@
 // What an accepted deck declares.
 ghost use Rattle.std.specs.Prelude.{◌≡◌, ◌≤◌, length};
-ghost use Rattle.rules.specs.Deck.{Known, fine, readDeck};
-ghost use Rattle.rules.specs.Run.{scratchBytes};
+ghost use Rattle.rules.specs.Deck.{Known, fine, read_deck};
+ghost use Rattle.rules.specs.Run.{scratch_bytes};
 ghost use Rattle.layouts.specs.Read.{Limited, Declares};
 
 use deck::Answer;
@@ -14,8 +14,8 @@ const TABLE_END: usize = 233472;
 
 // Its classes, individuals and roles, and so many fresh classes.
 pub fn limits(deck: &[u8], scratch: &mut [u8], fresh: u32) -> Limits
-    requires { (scratchBytes ≤ length scratch.old) × («fresh» ≤ 2000000) × ((d : Known) × (readDeck deck.now ≡ fine d)) }
-    ensures { Limited result × (result.fresh ≡ «fresh») × ((d : Known) → readDeck deck.now ≡ fine d → Declares d result) }
+    requires { (scratch_bytes ≤ length scratch.old) × («fresh» ≤ 2000000) × ((d : Known) × (read_deck deck.now ≡ fine d)) }
+    ensures { Limited result × (result.fresh ≡ «fresh») × ((d : Known) → read_deck deck.now ≡ fine d → Declares d result) }
 {
     let answer = deck::read(deck, &mut scratch[TABLE..TABLE_END]);
     match answer {

@@ -2,15 +2,15 @@
 ghost use Rattle.std.specs.Prelude.{◌≡◌, List, [], ◌∷◌, ◌++◌, ℕ, ◌+◌, ◌*◌, ◌≤◌, length, replicate, take, drop};
 ghost use Rattle.std.proofs.lemmas.List.Edits.{sets};
 ghost use Rattle.words.specs.Words.{words};
-ghost use Rattle.rules.specs.Run.{Accepted, scratchBytes};
-ghost use Rattle.states.specs.Test.{verdictWords, Lent, storeTable};
-ghost use Rattle.sets.specs.Verdicts.{shown, verdictIn};
+ghost use Rattle.rules.specs.Run.{Accepted, scratch_bytes};
+ghost use Rattle.states.specs.Test.{verdict_words, Lent, store_table};
+ghost use Rattle.sets.specs.Verdicts.{shown, verdict_in};
 ghost use Rattle.tables.specs.Drawn.{padded};
-ghost use Rattle.clausify.specs.Answer.{tenOf};
-ghost use Rattle.trials.specs.Judged.{saidIn, testedAs};
-ghost use Rattle.trials.specs.Entry.{verdictReply, triedOf};
+ghost use Rattle.clausify.specs.Answer.{ten_of};
+ghost use Rattle.trials.specs.Judged.{said_in, tested_as};
+ghost use Rattle.trials.specs.Entry.{verdict_reply, tried_of};
 ghost use Rattle.trials.specs.Tells.{NumberedAs};
-ghost use Rattle.trials.specs.Stored.{frontWords, mostShown, Shows, frontOf, Counted, ReportThere};
+ghost use Rattle.trials.specs.Stored.{front_words, most_shown, Shows, front_of, Counted, ReportThere};
 
 use crate::judged::{Judged, Tried};
 use clausify::numbers;
@@ -20,7 +20,7 @@ use statistics::ClauseStats;
 
 // Behind the ten numbers: what is broken, how many elements are shown, and these.
 fn put_broken(front: &mut [u8], scratch: &[u8], n: u32, k: u32)
-    requires { (length front.old ≡ 4 * frontWords) × (k ≤ mostShown) × (scratchBytes ≤ length scratch.now) }
+    requires { (length front.old ≡ 4 * front_words) × (k ≤ most_shown) × (scratch_bytes ≤ length scratch.now) }
     ensures { words front.new ≡ sets (words front.old) 10 (n ∷ k ∷ shown (words scratch.now) k) }
 {
     words::put_word(front, 10, n);
@@ -32,8 +32,8 @@ fn put_broken(front: &mut [u8], scratch: &[u8], n: u32, k: u32)
 
 // The verdict behind the ten numbers of a front that was zeros.
 fn put_verdict(front: &mut [u8], scratch: &[u8], v: Verdict)
-    requires { (length front.old ≡ 4 * frontWords) × Shows v × (scratchBytes ≤ length scratch.now) }
-    ensures { (l : List ℕ) → length l ≡ 10 → words front.old ≡ padded frontWords l → words front.new ≡ padded frontWords (l ++ verdictWords (verdictIn (words scratch.now) v)) }
+    requires { (length front.old ≡ 4 * front_words) × Shows v × (scratch_bytes ≤ length scratch.now) }
+    ensures { (l : List ℕ) → length l ≡ 10 → words front.old ≡ padded front_words l → words front.new ≡ padded front_words (l ++ verdict_words (verdict_in (words scratch.now) v)) }
 {
     match v {
         Verdict::Holds => {}
@@ -50,8 +50,8 @@ fn put_front(
     visits: u32,
     v: Verdict,
 )
-    requires { (front.old ≡ replicate (length front.old) 0) × (length front.old ≡ 4 * frontWords) × Shows v × (scratchBytes ≤ length scratch.now) }
-    ensures { words front.new ≡ padded frontWords (frontOf (words scratch.now) s fresh_ids visits v) }
+    requires { (front.old ≡ replicate (length front.old) 0) × (length front.old ≡ 4 * front_words) × Shows v × (scratch_bytes ≤ length scratch.now) }
+    ensures { words front.new ≡ padded front_words (front_of (words scratch.now) s fresh_ids visits v) }
 {
     numbers::put_ten(front, s, fresh_ids, visits);
     put_verdict(front, scratch, v);
@@ -59,7 +59,7 @@ fn put_front(
 
 // The reply.
 fn tried(v: Verdict) -> Tried
-    ensures { (w : List ℕ) → Shows v → scratchBytes ≤ 4 * length w → result ≡ verdictReply (verdictIn w v) }
+    ensures { (w : List ℕ) → Shows v → scratch_bytes ≤ 4 * length w → result ≡ verdict_reply (verdict_in w v) }
 {
     match v {
         Verdict::Holds => Tried::Holds,
@@ -79,8 +79,8 @@ pub fn report(
     scratch: &[u8],
 ) -> Tried
     requires { ReportThere store.old scratch.now told s fresh_ids visits }
-    ensures value { (a : Accepted) → Counted a s fresh_ids visits → result ≡ triedOf (testedAs a (saidIn (words scratch.now) told)) }
-    ensures store_after { (a : Accepted) (t : Lent) → t.store ≡ length store.old → Counted a s fresh_ids visits → store.new ≡ storeTable t (testedAs a (saidIn (words scratch.now) told)) }
+    ensures value { (a : Accepted) → Counted a s fresh_ids visits → result ≡ tried_of (tested_as a (said_in (words scratch.now) told)) }
+    ensures store_after { (a : Accepted) (t : Lent) → t.store ≡ length store.old → Counted a s fresh_ids visits → store.new ≡ store_table t (tested_as a (said_in (words scratch.now) told)) }
     ensures numbered_as { NumberedAs (words store.new) s fresh_ids result }
 {
     words::clear(store);

@@ -2,7 +2,7 @@
 ghost use Rattle.std.specs.Prelude.{◌≡◌, List, ℕ, length, replicate};
 ghost use Rattle.states.specs.Test as Test;
 ghost use Rattle.trials.specs.declared.judged.Tried.TheVariants as Said;
-ghost use Rattle.trials.specs.Tells.{TellThere, TellsAs, keptOf};
+ghost use Rattle.trials.specs.Tells.{TellThere, TellsAs, kept_of};
 
 use crate::judged::Tried;
 use crate::{by_axioms, by_clauses, report};
@@ -63,9 +63,9 @@ pub fn tell_clauses(
 
 // A refusal leaves zeros in the run's tables.
 pub fn settle(tried: Tried, clauses: &mut [u8], atoms: &mut [u8], deferrals: &mut [u8])
-    ensures clauses_after { clauses.new ≡ keptOf tried clauses.old }
-    ensures atoms_after { atoms.new ≡ keptOf tried atoms.old }
-    ensures deferrals_after { deferrals.new ≡ keptOf tried deferrals.old }
+    ensures clauses_after { clauses.new ≡ kept_of tried clauses.old }
+    ensures atoms_after { atoms.new ≡ kept_of tried atoms.old }
+    ensures deferrals_after { deferrals.new ≡ kept_of tried deferrals.old }
 {
     match tried {
         Tried::Holds => {}

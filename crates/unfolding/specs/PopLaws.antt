@@ -12,65 +12,65 @@ use Rattle.ir.specs.declared.counters.Counters.{Counters}
 use Rattle.rules.specs.Base.{then, any}
 use Rattle.rules.specs.State.{Env, Out, Clause}
 use Rattle.rules.specs.Invariants.{Each, ClauseIn}
-use Rattle.rules.specs.Run.{clauseWords}
-use Rattle.rules.specs.Reflexive.{reflexiveDerivedCap, Derived, isReflexive, queued, unfoldBody, finish, popped, unfoldBy, stacked, applyReflexiveRoles}
+use Rattle.rules.specs.Run.{clause_words}
+use Rattle.rules.specs.Reflexive.{reflexive_derived_cap, Derived, is_reflexive, queued, unfold_body, finish, popped, unfold_by, stacked, apply_reflexive_roles}
 use Rattle.tables.specs.Drawn.{tables, show}
-use Rattle.tables.specs.DrawnLaws.{clauses-count, atoms-count}
+use Rattle.tables.specs.DrawnLaws.{clauses_count, atoms_count}
 use Rattle.tables.specs.Good.{Good}
 use Rattle.hands.specs.Hands.{Four}
-use Rattle.leaves.specs.StepLaws.{alike-same}
+use Rattle.leaves.specs.StepLaws.{alike_same}
 use Rattle.contraction.specs.Passes.{Standing, Drawn}
-use Rattle.tables.specs.Tabled.{noClause}
-use Rattle.unfolding.specs.Unfolding.{waiting, queueOf, Inside}
+use Rattle.tables.specs.Tabled.{no_clause}
+use Rattle.unfolding.specs.Unfolding.{waiting, queue_of, Inside}
 use Rattle.unfolding.specs.Passing.{ForDrawn, Enough, Turn, Turning, Poised}
-use Rattle.tables.specs.ClauseLaws.{show-tabled, tabled-same, tabled-long}
-use Rattle.unfolding.specs.QueueLaws.{queue-first, queue-short, body-none}
-use Rattle.unfolding.specs.DeriveLaws.{seen-long}
-use Rattle.unfolding.specs.FlagSet.{flagSet, flag-set}
+use Rattle.tables.specs.ClauseLaws.{show_tabled, tabled_same, tabled_long}
+use Rattle.unfolding.specs.QueueLaws.{queue_first, queue_short, body_none}
+use Rattle.unfolding.specs.DeriveLaws.{seen_long}
+use Rattle.unfolding.specs.FlagSet.{flag_set, flag_set_lem}
 
 -- ---- for some state
 module _ (k : Counters) (x : Four) (W : Drawn k x.clauses x.atoms x.deferrals) where
-  pub at-drawn : (P : Env → List ℕ → Out → Type 0) → ForDrawn k x P → P W.env (flagSet x.scratch) W.state
-  at-drawn P f = f W.env (flagSet x.scratch) W.state (flag-set x.scratch) W.lent W.drawn
+  pub at_drawn : (P : Env → List ℕ → Out → Type 0) → ForDrawn k x P → P W.env (flag_set x.scratch) W.state
+  at_drawn P f = f W.env (flag_set x.scratch) W.state (flag_set_lem x.scratch) W.lent W.drawn
 
   module _ (S : Standing k x.clauses x.atoms) where
-    drawn-in : Each (ClauseIn S.bounds S.fresh S.vars) W.state.clauses
-    drawn-in =
+    drawn_in : Each (ClauseIn S.bounds S.fresh S.vars) W.state.clauses
+    drawn_in =
         subst (Each (ClauseIn S.bounds S.fresh S.vars))
-        (tabled-same x.clauses x.atoms k.clauses S.list W.state.clauses S.tabled (show-tabled W.env k x.clauses x.atoms x.deferrals W.state W.drawn))
+        (tabled_same x.clauses x.atoms k.clauses S.list W.state.clauses S.tabled (show_tabled W.env k x.clauses x.atoms x.deferrals W.state W.drawn))
         S.inside
 
     -- the tables of a later state stand
-    pub stands-after : (l : Counters) (c a d : List ℕ) (t : Out) → tables l c a d ≡ show l W.env.rooms t → Inside W.state t → Standing l c a
-    stands-after l c a d t e I = record {
+    pub stands_after : (l : Counters) (c a d : List ℕ) (t : Out) → tables l c a d ≡ show l W.env.rooms t → Inside W.state t → Standing l c a
+    stands_after l c a d t e I = record {
       list = t.clauses;
-      tabled = show-tabled W.env l c a d t e;
-      atoms = atoms-count W.env l t c a d e;
+      tabled = show_tabled W.env l c a d t e;
+      atoms = atoms_count W.env l t c a d e;
       bounds = S.bounds;
       roles = S.roles;
       fresh = S.fresh;
       classes = S.classes;
       vars = S.vars;
       few = S.few;
-      inside = I S.bounds S.fresh S.vars drawn-in;
+      inside = I S.bounds S.fresh S.vars drawn_in;
     }
 
 -- ---- at first
-pub turn-first : (originals : ℕ) (k : Counters) (x : Four) → originals ≡ k.clauses → Good k → Turning originals originals k x k 0 x
-unfolding applyReflexiveRoles
-turn-first originals k x e g = record {
+pub turn_first : (originals : ℕ) (k : Counters) (x : Four) → originals ≡ k.clauses → Good k → Turning originals originals k x k 0 x
+unfolding apply_reflexive_roles
+turn_first originals k x e g = record {
   good = g;
-  alike = alike-same k;
+  alike = alike_same k;
   between = λ j h l. refl;
   counted = record { first = omega arith; cap = omega arith; within = omega arith };
   low = omega arith;
   so = λ env roles s F L D.
-      let n : k.clauses ≡ length s.clauses = clauses-count env k s x.clauses x.atoms x.deferrals D in
+      let n : k.clauses ≡ length s.clauses = clauses_count env k s x.clauses x.atoms x.deferrals D in
       let m : originals ≡ length s.clauses = e ∙ n in
-      let q : stacked env roles s.clauses [] ≡ queueOf env roles s.clauses x.scratch 0 originals = queue-first env roles s.clauses x.scratch originals m in
-      let h = queue-short env roles s.clauses x.scratch 0 originals in
+      let q : stacked env roles s.clauses [] ≡ queue_of env roles s.clauses x.scratch 0 originals = queue_first env roles s.clauses x.scratch originals m in
+      let h = queue_short env roles s.clauses x.scratch 0 originals in
       record {
-        bound = length s.clauses + reflexiveDerivedCap + 1;
+        bound = length s.clauses + reflexive_derived_cap + 1;
         derived = record { queue = stacked env roles s.clauses []; seen = [] };
         state = s;
         stands = record { drawn = D; queue = q; seen = sym (rw m (drop-length s.clauses)); below = λ j l. absurd (omega arith); low = omega arith };
@@ -87,38 +87,38 @@ module _ (env : Env) (roles : List ℕ) (f : ℕ) (v : Derived) (c : Clause) (q 
 
   record Pop : Type 0 where
     next : ℕ
-    rule : unfoldBy env roles f v s ≡ then (unfoldBody env roles [] c.body c.head off s) (finish env roles (λ d. unfoldBy env roles next d))
+    rule : unfold_by env roles f v s ≡ then (unfold_body env roles [] c.body c.head off s) (finish env roles (λ d. unfold_by env roles next d))
     enough : Enough next off
 
-  pop : v.queue ≡ queued env roles c q → Enough f v → length v.seen ≤ reflexiveDerivedCap → Pop
-  unfolding unfoldBy
-  pop e h l = go (any (isReflexive roles) c.body) refl e
+  pop : v.queue ≡ queued env roles c q → Enough f v → length v.seen ≤ reflexive_derived_cap → Pop
+  unfolding unfold_by
+  pop e h l = go (any (is_reflexive roles) c.body) refl e
     where
       -- a clause to be unfolded takes one of the bound
-      down : (g : ℕ) → Enough g v → v.queue ≡ c ∷ q → unfoldBy env roles g v s ≡ then (unfoldBody env roles [] c.body c.head off s) (finish env roles (λ d. unfoldBy env roles (g - 1) d))
+      down : (g : ℕ) → Enough g v → v.queue ≡ c ∷ q → unfold_by env roles g v s ≡ then (unfold_body env roles [] c.body c.head off s) (finish env roles (λ d. unfold_by env roles (g - 1) d))
       down zero k p = absurd (omega (arith, k, ap length p, l))
-      down (suc g) k p = let z : suc g - 1 ≡ g = omega arith in rw z (ap (λ (t : List Clause). popped env roles (λ d. unfoldBy env roles g d) t v.seen s) p)
+      down (suc g) k p = let z : suc g - 1 ≡ g = omega arith in rw z (ap (λ (t : List Clause). popped env roles (λ d. unfold_by env roles g d) t v.seen s) p)
 
-      go : (b : Bool) → any (isReflexive roles) c.body ≡ b → v.queue ≡ pick b (c ∷ q) q → Pop
+      go : (b : Bool) → any (is_reflexive roles) c.body ≡ b → v.queue ≡ pick b (c ∷ q) q → Pop
       go true u p = record { next = f - 1; rule = down f h p; enough = omega (arith, h, ap length p, l) }
       go false u p =
           let z : v ≡ off = ap (λ (t : List Clause). record { queue = t; seen = v.seen }) p in
           record {
             next = f;
-            rule = ap (λ (d : Derived). unfoldBy env roles f d s) z ∙ ap (λ r. then r (finish env roles (λ d. unfoldBy env roles f d))) (sym (body-none env roles [] c.body c.head off s u));
+            rule = ap (λ (d : Derived). unfold_by env roles f d s) z ∙ ap (λ r. then r (finish env roles (λ d. unfold_by env roles f d))) (sym (body_none env roles [] c.body c.head off s u));
             enough = omega (arith, h, ap length p);
           }
 
 -- a derived clause, the last word of the queue; or the last of the first clauses that are left
 module _ (originals all m : ℕ) (k : Counters) (x : Four) (l : Counters) (y : Four) (T : Turning originals all k x l m y) (left n number : ℕ) where
-  pub turn-long : Drawn k x.clauses x.atoms x.deferrals → clauseWords * l.clauses ≤ length y.clauses
-  turn-long W =
-      let t = at-drawn k x W (λ env roles s. Turn env roles originals all l m y s) T.so in
-      (tabled-long y.clauses y.atoms l.clauses t.state.clauses (show-tabled W.env l y.clauses y.atoms y.deferrals t.state t.stands.drawn)).0
+  pub turn_long : Drawn k x.clauses x.atoms x.deferrals → clause_words * l.clauses ≤ length y.clauses
+  turn_long W =
+      let t = at_drawn k x W (λ env roles s. Turn env roles originals all l m y s) T.so in
+      (tabled_long y.clauses y.atoms l.clauses t.state.clauses (show_tabled W.env l y.clauses y.atoms y.deferrals t.state t.stands.drawn)).0
 
   -- by what it leaves of the queue
   poise : left ≤ all → n ≤ m → left + n < all + m → number < l.clauses
-      → ((env : Env) (roles : List ℕ) (s : Out) → queueOf env roles s.clauses y.scratch m all ≡ queued env roles (get_or s.clauses number noClause) (queueOf env roles s.clauses y.scratch n left))
+      → ((env : Env) (roles : List ℕ) (s : Out) → queue_of env roles s.clauses y.scratch m all ≡ queued env roles (get_or s.clauses number no_clause) (queue_of env roles s.clauses y.scratch n left))
       → Poised originals all m k x l left n number y
   poise fl fn less there e = record {
     counted = record { first = T.counted.first; cap = T.counted.cap; within = omega (arith, T.counted.within) };
@@ -127,9 +127,9 @@ module _ (originals all m : ℕ) (k : Counters) (x : Four) (l : Counters) (y : F
     there = there;
     so = λ env roles s F L D.
         let t = T.so env roles s F L D in
-        let q : List Clause = queueOf env roles t.state.clauses y.scratch n left in
-        let few : length t.derived.seen ≤ reflexiveDerivedCap = omega (arith, T.counted.cap, seen-long env roles originals all l m y.scratch y.clauses y.atoms y.deferrals t.derived t.state t.stands T.counted) in
-        let P = pop env roles t.bound t.derived (get_or t.state.clauses number noClause) q t.state (t.stands.queue ∙ e env roles t.state) t.enough few in
+        let q : List Clause = queue_of env roles t.state.clauses y.scratch n left in
+        let few : length t.derived.seen ≤ reflexive_derived_cap = omega (arith, T.counted.cap, seen_long env roles originals all l m y.scratch y.clauses y.atoms y.deferrals t.derived t.state t.stands T.counted) in
+        let P = pop env roles t.bound t.derived (get_or t.state.clauses number no_clause) q t.state (t.stands.queue ∙ e env roles t.state) t.enough few in
         record {
           bound = P.next;
           derived = record { queue = q; seen = t.derived.seen };
@@ -141,17 +141,17 @@ module _ (originals all m : ℕ) (k : Counters) (x : Four) (l : Counters) (y : F
         };
   }
 
-  pub poise-derived : Drawn k x.clauses x.atoms x.deferrals → 0 < m → left ≡ all → n ≡ m - 1 → (j : ℕ) → j ≡ m - 1 → number ≡ get_or y.scratch j 0 → Poised originals all m k x l left n number y
+  pub poise_derived : Drawn k x.clauses x.atoms x.deferrals → 0 < m → left ≡ all → n ≡ m - 1 → (j : ℕ) → j ≡ m - 1 → number ≡ get_or y.scratch j 0 → Poised originals all m k x l left n number y
   unfolding waiting
-  poise-derived W some el en j ej ew =
+  poise_derived W some el en j ej ew =
       let z : m ≡ suc n = omega arith in
       let i : j ≡ n = ej ∙ sym en in
-      let t = at-drawn k x W (λ env roles s. Turn env roles originals all l m y s) T.so in
+      let t = at_drawn k x W (λ env roles s. Turn env roles originals all l m y s) T.so in
       poise (omega arith) (omega arith) (omega arith) (rw ew (t.stands.below j (omega arith))) (λ env roles s. rw (z, ew, i, el) refl)
 
-  pub poise-first : m ≤ 0 → 0 < all + m → left ≡ all - 1 → n ≡ m → number ≡ left → Poised originals all m k x l left n number y
+  pub poise_first : m ≤ 0 → 0 < all + m → left ≡ all - 1 → n ≡ m → number ≡ left → Poised originals all m k x l left n number y
   unfolding waiting
-  poise-first none some el en ew =
+  poise_first none some el en ew =
       let z : all ≡ suc left = omega arith in
       let i : m ≡ 0 = omega arith in
       poise (omega arith) (omega arith) (omega arith) (omega (arith, T.low, T.counted.first)) (λ env roles s. rw (z, en, i, ew) refl)

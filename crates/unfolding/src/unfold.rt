@@ -3,15 +3,15 @@ ghost use Rattle.std.specs.Prelude.{◌≡◌, List, ◌∷◌, ◌++◌, ℕ, �
 ghost use Rattle.words.specs.Words.{words};
 ghost use Rattle.ir.specs.declared.atom.Atom.{Atom};
 ghost use Rattle.rules.specs.State.{Env, Out, Clause, clause};
-ghost use Rattle.rules.specs.Reflexive.{reflexiveDerivedCap, Derived, derive, applyReflexiveRoles};
+ghost use Rattle.rules.specs.Reflexive.{reflexive_derived_cap, Derived, derive, apply_reflexive_roles};
 ghost use Rattle.tables.specs.Drawn.{Lent, Sized};
 ghost use Rattle.tables.specs.Good.{Good};
 ghost use Rattle.hands.specs.Hands.{four};
 ghost use Rattle.reflexive.specs.Flags.{FlagsHeld};
-ghost use Rattle.contraction.specs.InHands.{inHandBytes, ClauseInHand};
+ghost use Rattle.contraction.specs.InHands.{in_hand_bytes, ClauseInHand};
 ghost use Rattle.contraction.specs.Passes.{Standing, Drawn, StandingAfter, Passed};
-ghost use Rattle.tables.specs.Tabled.{bodyCount, noClause};
-ghost use Rattle.unfolding.specs.Unfolding.{unfoldOne, Counted, Stands, Follows, Unfolds, Answered};
+ghost use Rattle.tables.specs.Tabled.{body_count, no_clause};
+ghost use Rattle.unfolding.specs.Unfolding.{unfold_one, Counted, Stands, Follows, Unfolds, Answered};
 
 use contraction::clause::HAND;
 use contraction::{clause, contract};
@@ -46,12 +46,12 @@ fn derive(
     nb: u32,
     nh: u32,
 ) -> Unfolded
-    requires { Counted originals k queued × (nb ≤ 256) × (nh ≤ 256) × Good k × (inHandBytes ≤ length scratch.old) × Sized (length clauses.old) (length atoms.old) (length deferrals.old) }
+    requires { Counted originals k queued × (nb ≤ 256) × (nh ≤ 256) × Good k × (in_hand_bytes ≤ length scratch.old) × Sized (length clauses.old) (length atoms.old) (length deferrals.old) }
     ensures fact { let old = four (words scratch.old) (words clauses.old) (words atoms.old) (words deferrals.old) in
         let new = four (words scratch.new) (words clauses.new) (words atoms.new) (words deferrals.new) in
         ((env : Env) (set : List ℕ) (left : ℕ) (v : Derived) (s : Out) (x : Clause)
         → Lent env.rooms old.clauses old.atoms old.deferrals → Stands env set originals left k old queued v s → ClauseInHand old.scratch nb nh x → Follows s x
-        → Unfolds env set originals left k queued new v s (derive env set x v (eqb (length v.seen) reflexiveDerivedCap) s) result) }
+        → Unfolds env set originals left k queued new v s (derive env set x v (eqb (length v.seen) reflexive_derived_cap) s) result) }
     ensures answered { Answered k (words scratch.old) (words scratch.new) result }
 {
     if k.clauses - originals == CAP {
@@ -81,13 +81,13 @@ fn unfold_at(
     c: u32,
     i: u32,
 ) -> Unfolded
-    requires { Standing k (words clauses.old) (words atoms.old) × (c < k.clauses) × (i < bodyCount (words clauses.old) c) × Counted originals k queued × Good k × (inHandBytes ≤ length scratch.old) × Sized (length clauses.old) (length atoms.old) (length deferrals.old) }
+    requires { Standing k (words clauses.old) (words atoms.old) × (c < k.clauses) × (i < body_count (words clauses.old) c) × Counted originals k queued × Good k × (in_hand_bytes ≤ length scratch.old) × Sized (length clauses.old) (length atoms.old) (length deferrals.old) }
     ensures fact { let old = four (words scratch.old) (words clauses.old) (words atoms.old) (words deferrals.old) in
         let new = four (words scratch.new) (words clauses.new) (words atoms.new) (words deferrals.new) in
         ((env : Env) (set : List ℕ) (left : ℕ) (v : Derived) (s : Out) (before after head : List Atom) (x : Atom)
         → FlagsHeld old.scratch set → Lent env.rooms old.clauses old.atoms old.deferrals → Stands env set originals left k old queued v s
-        → get_or s.clauses c noClause ≡ clause (before ++ (x ∷ after)) head → i ≡ length before
-        → Unfolds env set originals left k queued new v s (unfoldOne env set before after head x v s) result) }
+        → get_or s.clauses c no_clause ≡ clause (before ++ (x ∷ after)) head → i ≡ length before
+        → Unfolds env set originals left k queued new v s (unfold_one env set before after head x v s) result) }
     ensures answered { Answered k (words scratch.old) (words scratch.new) result }
 {
     let body = read::body_of(clauses, atoms, c);
@@ -127,7 +127,7 @@ pub fn apply_reflexive_roles(
     requires { Standing k (words clauses.old) (words atoms.old) × Drawn k (words clauses.old) (words atoms.old) (words deferrals.old) × Good k × (338400 ≤ length scratch.old) × Sized (length clauses.old) (length atoms.old) (length deferrals.old) }
     ensures fact { let old = four (words scratch.old) (words clauses.old) (words atoms.old) (words deferrals.old) in
         let new = four (words scratch.new) (words clauses.new) (words atoms.new) (words deferrals.new) in
-        Passed (λ env set. applyReflexiveRoles env set) k old new result }
+        Passed (λ env set. apply_reflexive_roles env set) k old new result }
     ensures standing_after { StandingAfter (words clauses.new) (words atoms.new) result }
 {
     let originals = k.clauses;

@@ -2,16 +2,16 @@ use mathlib.Core.Path.{sym, subst, ◌∙◌}
 use Prim.Native.Nat.{suc}
 use native.Mathlib.Omega.{arith}
 use Rattle.words.specs.Words.{words}
-use Rattle.pool.specs.Layout.{poolOf}
+use Rattle.pool.specs.Layout.{pool_of}
 use Rattle.antecedents.specs.Counts.{GoodEncoded}
-use Rattle.antecedents.specs.CountLaws.{count-sum, count-good}
+use Rattle.antecedents.specs.CountLaws.{count_sum, count_good}
 use Rattle.antecedents.proofs.encode_antecedent.Goals as goal
 
 pub returns : goal.returns
 returns c =
     let k = c.args.k in
-    let p = poolOf (words c.args.scratch.now) k.concepts in
+    let p = pool_of (words c.args.scratch.now) k.concepts in
     let r = c.encode_antecedent.ensures in (
-      λ env f v z l C. r k.concepts f c.requires.1 l ∙ count-sum env p f k c.args.c v z C,
-      subst GoodEncoded (sym (r k.concepts (suc c.args.c) c.requires.1 (omega arith))) (count-good p (suc c.args.c) k c.args.c c.requires.2),
+      λ env f v z l C. r k.concepts f c.requires.1 l ∙ count_sum env p f k c.args.c v z C,
+      subst GoodEncoded (sym (r k.concepts (suc c.args.c) c.requires.1 (omega arith))) (count_good p (suc c.args.c) k c.args.c c.requires.2),
     )

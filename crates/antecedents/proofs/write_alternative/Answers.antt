@@ -1,6 +1,6 @@
 use native.Mathlib.Omega.{arith}
-use Rattle.words.specs.Laws.{length-words}
-use Rattle.antecedents.specs.WriteLaws.{written-by}
+use Rattle.words.specs.Laws.{length_words}
+use Rattle.antecedents.specs.WriteLaws.{written_by}
 use Rattle.antecedents.proofs.write_alternative.Goals as goal
 
 pub write_one-requires : goal.write_one-requires
@@ -9,4 +9,4 @@ write_one-requires c =
 
 pub returns : goal.returns
 returns c =
-    written-by _ _ _ _ _ _ _ _ _ c.requires.0.held c.requires.1 c.requires.3 (omega (arith, c.requires.5, length-words c.args.scratch.now)) c.write_one.ensures
+    written_by _ _ _ _ _ _ _ _ _ c.requires.0.held c.requires.1 c.requires.3 (omega (arith, c.requires.5, length_words c.args.scratch.now)) c.write_one.ensures

@@ -2,25 +2,25 @@ use mathlib.Core.Path.{ap, ◌∙◌}
 use Prim.Native.Nat.{ℕ, ◌+◌}
 use native.Mathlib.Omega.{arith}
 use Rattle.words.specs.Words.{words}
-use Rattle.ir.specs.Scratch.{numbersAt}
-use Rattle.states.specs.Conditions.{axiomBroken}
-use Rattle.axiomtests.proofs.ReadyLaws.{few-axioms, kind-there, row-axiom, axiom-line, axiom-there}
+use Rattle.ir.specs.Scratch.{numbers_at}
+use Rattle.states.specs.Conditions.{axiom_broken}
+use Rattle.axiomtests.proofs.ReadyLaws.{few_axioms_lem, kind_there, row_axiom_lem, axiom_line_lem, axiom_there}
 use Rattle.axiomtests.proofs.axiom_broken.Goals as goal
 
 pub number-kind-requires : goal.number-kind-requires
-number-kind-requires c = let P = c.requires.0 in (few-axioms P.known P.meant _ _ _ _ P.ready P.sets P.fits c.requires.1, omega (arith, P.space), kind-there P.known P.meant _ _ _ _ P.ready P.sets P.fits c.requires.1)
+number-kind-requires c = let P = c.requires.0 in (few_axioms_lem P.known P.meant _ _ _ _ P.ready P.sets P.fits c.requires.1, omega (arith, P.space), kind_there P.known P.meant _ _ _ _ P.ready P.sets P.fits c.requires.1)
 
 pub row_broken-requires : goal.row_broken-requires
 row_broken-requires c =
-    axiom-there c.args.store.now c.args.scratch.now c.args.t c.args.i _ _ _ c.requires.0 c.requires.1 c.number-kind.ensures (ap (λ (x : ℕ). numbersAt + x) c.start.ensures) c.count-count.ensures
+    axiom_there c.args.store.now c.args.scratch.now c.args.t c.args.i _ _ _ c.requires.0 c.requires.1 c.number-kind.ensures (ap (λ (x : ℕ). numbers_at + x) c.start.ensures) c.count-count.ensures
 
 pub returns : goal.returns
 returns c =
     let w = words c.args.store.now in
     let v = words c.args.scratch.now in
-    let at = ap (λ (x : ℕ). numbersAt + x) c.start.ensures in record {
+    let at = ap (λ (x : ℕ). numbers_at + x) c.start.ensures in record {
       aside = c.row_broken.ensures.aside;
       result_after = λ d I R S F.
-          c.row_broken.ensures.broken d I (axiom-line d I w v c.args.t c.args.i R S F c.requires.1 _ _ _ c.number-kind.ensures at c.count-count.ensures)
-          ∙ ap (axiomBroken I d.concepts) (row-axiom d I w v c.args.t c.args.i R S F c.requires.1 _ _ _ c.number-kind.ensures at c.count-count.ensures);
+          c.row_broken.ensures.broken d I (axiom_line_lem d I w v c.args.t c.args.i R S F c.requires.1 _ _ _ c.number-kind.ensures at c.count-count.ensures)
+          ∙ ap (axiom_broken I d.concepts) (row_axiom_lem d I w v c.args.t c.args.i R S F c.requires.1 _ _ _ c.number-kind.ensures at c.count-count.ensures);
     }

@@ -4,22 +4,22 @@ use Prim.Native.Nat.{ℕ, ◌<◌, ◌≤◌}
 use native.Mathlib.Omega.{arith}
 use borrow.Author.Tests.{leb-true}
 use Rattle.words.specs.Words.{words}
-use Rattle.rules.specs.Deck.{fieldsOk}
-use Rattle.states.specs.Conditions.{axiomBroken}
-use Rattle.ontology.specs.Rows.{rowAxiom}
+use Rattle.rules.specs.Deck.{fields_ok}
+use Rattle.states.specs.Conditions.{axiom_broken}
+use Rattle.ontology.specs.Rows.{row_axiom}
 use Rattle.axiomtests.specs.Lines.{Line, LineIn}
-use Rattle.axiomtests.proofs.ChainArmLaws.{chain-chained, chain-broken, transitive-chained, transitive-broken, chain-in, transitive-there}
+use Rattle.axiomtests.proofs.ChainArmLaws.{chain_chained, chain_broken, transitive_chained, transitive_broken, chain_in, transitive_there}
 use Rattle.axiomtests.proofs.chain.Goals as goal
 
 other : (k : ℕ) → 27 ≤ k → k < 29 → (k ≡ 27 → ⊥) → k ≡ 28
 other k a b c = omega arith
 
 pub overflow_sub-parts : goal.overflow_sub-parts
-overflow_sub-parts c = leb-true 2 c.args.count (subst (λ (k : ℕ). fieldsOk k c.args.count ≡ true) c.if-kind-eq27.true c.requires.0.line.fields)
+overflow_sub-parts c = leb-true 2 c.args.count (subst (λ (k : ℕ). fields_ok k c.args.count ≡ true) c.if-kind-eq27.true c.requires.0.line.fields)
 
 pub least_path-requires : goal.least_path-requires
 least_path-requires c =
-    chain-in c.args.scratch.now c.args.t c.args.at c.args.count _ (subst (λ (k : ℕ). LineIn c.args.scratch.now c.args.t k c.args.at c.args.count) c.if-kind-eq27.true c.requires.0) c.get_word-sup.ensures
+    chain_in c.args.scratch.now c.args.t c.args.at c.args.count _ (subst (λ (k : ℕ). LineIn c.args.scratch.now c.args.t k c.args.at c.args.count) c.if-kind-eq27.true c.requires.0) c.get_word-sup.ensures
 
 pub returns-then-kind-eq27 : goal.returns-then-kind-eq27
 returns-then-kind-eq27 c =
@@ -27,13 +27,13 @@ returns-then-kind-eq27 c =
       aside = c.least_path.ensures.aside;
       by_index = λ w d I L.
           let M = subst (λ (k : ℕ). Line d I w v c.args.t k c.args.at c.args.count) c.if-kind-eq27.true L in
-          chain-broken M _ c.get_word-sup.ensures _ (c.least_path.ensures.result_after I (chain-chained M _ c.get_word-sup.ensures)) ∙ ap (λ (k : ℕ). axiomBroken I d.concepts (rowAxiom v k c.args.at c.args.count)) (sym c.if-kind-eq27.true);
+          chain_broken M _ c.get_word-sup.ensures _ (c.least_path.ensures.result_after I (chain_chained M _ c.get_word-sup.ensures)) ∙ ap (λ (k : ℕ). axiom_broken I d.concepts (row_axiom v k c.args.at c.args.count)) (sym c.if-kind-eq27.true);
     }
 
 pub least_path-requires-2 : goal.least_path-requires-2
 least_path-requires-2 c =
     let e : c.args.kind ≡ 28 = other c.args.kind c.requires.1 c.requires.2 c.if-kind-eq27.false in
-    transitive-there c.args.scratch.now c.args.t c.args.at c.args.count _ (subst (λ (k : ℕ). LineIn c.args.scratch.now c.args.t k c.args.at c.args.count) e c.requires.0) c.get_word-sup.ensures
+    transitive_there c.args.scratch.now c.args.t c.args.at c.args.count _ (subst (λ (k : ℕ). LineIn c.args.scratch.now c.args.t k c.args.at c.args.count) e c.requires.0) c.get_word-sup.ensures
 
 pub returns : goal.returns
 returns c =
@@ -42,5 +42,5 @@ returns c =
       aside = c.least_path-2.ensures.aside;
       by_index = λ w d I L.
           let M = subst (λ (k : ℕ). Line d I w v c.args.t k c.args.at c.args.count) e L in
-          transitive-broken M _ c.get_word-sup.ensures _ (c.least_path-2.ensures.result_after I (transitive-chained M _ c.get_word-sup.ensures)) ∙ ap (λ (k : ℕ). axiomBroken I d.concepts (rowAxiom v k c.args.at c.args.count)) (sym e);
+          transitive_broken M _ c.get_word-sup.ensures _ (c.least_path-2.ensures.result_after I (transitive_chained M _ c.get_word-sup.ensures)) ∙ ap (λ (k : ℕ). axiom_broken I d.concepts (row_axiom v k c.args.at c.args.count)) (sym e);
     }

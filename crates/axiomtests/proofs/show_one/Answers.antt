@@ -4,13 +4,13 @@ use Prim.Native.Nat.{◌<◌}
 use native.Mathlib.Omega.{arith}
 use lib.ListN.{length}
 use Rattle.words.specs.Words.{words}
-use Rattle.words.specs.Laws.{length-words}
-use Rattle.sets.specs.Places.{shownAt}
-use Rattle.axiomtests.proofs.AsideLaws.{aside-refl, aside-shown, shown-first, least-empty, least-shown}
+use Rattle.words.specs.Laws.{length_words}
+use Rattle.sets.specs.Places.{shown_at}
+use Rattle.axiomtests.proofs.AsideLaws.{aside_refl, aside_shown, shown_first, least_empty, least_shown}
 use Rattle.axiomtests.proofs.show_one.Goals as goal
 
 pub returns-then-m-eq0 : goal.returns-then-m-eq0
-returns-then-m-eq0 c = record { aside = aside-refl _; by_index = λ n t h e. least-empty n _ t e c.if-m-eq0.true }
+returns-then-m-eq0 c = record { aside = aside_refl _; by_index = λ n t h e. least_empty n _ t e c.if-m-eq0.true }
 
 pub overflow_cast-least : goal.overflow_cast-least
 overflow_cast-least c = record { fits = omega (arith, c.least.ensures.upper_bound) }
@@ -18,8 +18,8 @@ overflow_cast-least c = record { fits = omega (arith, c.least.ensures.upper_boun
 pub returns : goal.returns
 returns c =
     let v = words c.args.scratch.now in
-    let long : shownAt < length v = omega (arith, length-words c.args.scratch.now, c.requires) in
+    let long : shown_at < length v = omega (arith, length_words c.args.scratch.now, c.requires) in
     record {
-      aside = aside-shown v _ 0 _ (omega arith) c.put_word.ensures;
-      by_index = λ n t h q. least-shown n _ t q _ _ c.if-m-eq0.false (c.least.ensures.by_index n (λ x. not (t (x ∷ []))) h q).0 (shown-first v _ _ long c.put_word.ensures);
+      aside = aside_shown v _ 0 _ (omega arith) c.put_word.ensures;
+      by_index = λ n t h q. least_shown n _ t q _ _ c.if-m-eq0.false (c.least.ensures.by_index n (λ x. not (t (x ∷ []))) h q).0 (shown_first v _ _ long c.put_word.ensures);
     }

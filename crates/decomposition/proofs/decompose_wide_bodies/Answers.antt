@@ -2,10 +2,10 @@ use mathlib.Core.Path.{◌≡◌, refl, ap, ◌∙◌}
 use Prim.Native.Nat.{◌-◌, ◌<◌}
 use native.Mathlib.Omega.{arith}
 use Rattle.words.specs.Words.{words}
-use Rattle.words.specs.Laws.{length-words}
+use Rattle.words.specs.Laws.{length_words}
 use Rattle.rules.specs.Base.{refused}
-use Rattle.decomposition.specs.StartLaws.{listed, clauses-many, passed-start}
-use Rattle.decomposition.specs.FinishLaws.{full-shown}
+use Rattle.decomposition.specs.StartLaws.{listed, clauses_many, passed_start}
+use Rattle.decomposition.specs.FinishLaws.{full_shown}
 use Rattle.decomposition.proofs.decompose_wide_bodies.Goals as goal
 
 pub loop-c-init : goal.loop-c-init
@@ -15,7 +15,7 @@ loop-c-init c =
     let cl = words c.args.clauses.now in
     let at = words c.args.atoms.now in
     let D = c.requires.0 in
-    (omega arith, refl, refl, refl, λ D. passed-start k cl at D (words cleared.new.scratch))
+    (omega arith, refl, refl, refl, λ D. passed_start k cl at D (words cleared.new.scratch))
 
 pub turn-requires : goal.turn-requires
 turn-requires c =
@@ -26,11 +26,11 @@ turn-requires c =
     let here = c.loop-c in (
       record {
         list = D.state.clauses;
-        fresh = D.state.nextFresh;
+        fresh = D.state.next_fresh;
         c = cl;
         a = at;
         listed = listed k cl at D;
-        more = omega (arith, c.loop-c-test.true, clauses-many k cl at D);
+        more = omega (arith, c.loop-c-test.true, clauses_many k cl at D);
         passed = here.invariant.4 D;
       },
       omega (arith, here.invariant.1, c.clear.auto.scratch, c.requires.1),
@@ -47,8 +47,8 @@ returns-in-Refused c =
     let turned = c.turn in
     let more : here.c < k.clauses = c.loop-c-test.true in
     λ D.
-    let o = rw c.in-Refused.is at (turned.ensures D.state.clauses D.state.nextFresh cl at (listed k cl at D) (omega (arith, more, clauses-many k cl at D)) (here.invariant.4 D)) in
-    ap refused o.0 ∙ full-shown k cl at D (omega (arith, D.lent.atoms, length-words c.args.atoms.now, c.requires.2.atoms)) o.1
+    let o = rw c.in-Refused.is at (turned.ensures D.state.clauses D.state.next_fresh cl at (listed k cl at D) (omega (arith, more, clauses_many k cl at D)) (here.invariant.4 D)) in
+    ap refused o.0 ∙ full_shown k cl at D (omega (arith, D.lent.atoms, length_words c.args.atoms.now, c.requires.2.atoms)) o.1
 
 pub loop-c-preserved : goal.loop-c-preserved
 loop-c-preserved c =
@@ -64,7 +64,7 @@ loop-c-preserved c =
       turned.auto.clauses ∙ here.invariant.2,
       turned.auto.atoms ∙ here.invariant.3,
       λ D.
-          rw c.in-On.is at (turned.ensures D.state.clauses D.state.nextFresh cl at (listed k cl at D) (omega (arith, more, clauses-many k cl at D)) (here.invariant.4 D)),
+          rw c.in-On.is at (turned.ensures D.state.clauses D.state.next_fresh cl at (listed k cl at D) (omega (arith, more, clauses_many k cl at D)) (here.invariant.4 D)),
     )
 
 pub finish-requires : goal.finish-requires

@@ -3,8 +3,8 @@ use mathlib.Core.Bool.{true}
 use Prim.Native.Nat.{ℕ, ◌<◌, ◌≤◌}
 use native.Mathlib.Omega.{arith}
 use Rattle.words.specs.Words.{words}
-use Rattle.pool.specs.Layout.{field, isList}
-use Rattle.extents.proofs.ThereLaws.{below-trial, size-fits, self-room, not-room, joint-room, joint-few, is-self, is-not, is-and, is-or}
+use Rattle.pool.specs.Layout.{field, is_list}
+use Rattle.extents.proofs.ThereLaws.{below_trial, size_fits, self_room, not_room, joint_room, joint_few, is_self, is_not, is_and, is_or}
 use Rattle.extents.proofs.composed_set.Goals as goal
 
 -- what is left
@@ -14,50 +14,50 @@ eight k r e l h a b c = omega arith
 pub loops-requires : goal.loops-requires
 loops-requires c =
     let a = c.args in
-    let q = self-room a.scratch.now a.t a.c c.requires.0 (sym c.kind-kind.ensures ∙ c.in-5.is) in
-    (omega (arith, q, c.role-role.ensures), size-fits a.scratch.now a.t a.c c.requires.0, c.requires.0.space)
+    let q = self_room a.scratch.now a.t a.c c.requires.0 (sym c.kind-kind.ensures ∙ c.in-5.is) in
+    (omega (arith, q, c.role-role.ensures), size_fits a.scratch.now a.t a.c c.requires.0, c.requires.0.space)
 
 pub complement-requires : goal.complement-requires
 complement-requires c =
     let a = c.args in
-    let q = not-room a.scratch.now a.t a.c c.requires.0 (sym c.kind-kind.ensures ∙ c.in-6.is) in
-    (omega (arith, q, c.child-child.ensures), size-fits a.scratch.now a.t a.c c.requires.0, c.requires.0.space)
+    let q = not_room a.scratch.now a.t a.c c.requires.0 (sym c.kind-kind.ensures ∙ c.in-6.is) in
+    (omega (arith, q, c.child-child.ensures), size_fits a.scratch.now a.t a.c c.requires.0, c.requires.0.space)
 
 pub joint_set-requires : goal.joint_set-requires
 joint_set-requires c =
     let a = c.args in
-    let e = ap isList (sym c.kind-kind.ensures ∙ c.in-7.is) in
-    rw (c.child-child.ensures, c.number-number.ensures) (joint-room a.scratch.now a.t a.c c.requires.0 e, size-fits a.scratch.now a.t a.c c.requires.0, c.requires.0.space, joint-few a.scratch.now a.t a.c c.requires.0 e)
+    let e = ap is_list (sym c.kind-kind.ensures ∙ c.in-7.is) in
+    rw (c.child-child.ensures, c.number-number.ensures) (joint_room a.scratch.now a.t a.c c.requires.0 e, size_fits a.scratch.now a.t a.c c.requires.0, c.requires.0.space, joint_few a.scratch.now a.t a.c c.requires.0 e)
 
 pub joint_set-requires-in_default : goal.joint_set-requires-in_default
 joint_set-requires-in_default c =
     let a = c.args in
     let r = c.in_default.in_default-own.rest in
-    let e : isList (field (words a.scratch.now) a.c 0) ≡ true = ap isList (eight _ c.kind-kind.result c.kind-kind.ensures c.requires.1 c.requires.2 r.0.0.1 r.0.1 r.1) in
-    rw (c.child-child.ensures, c.number-number.ensures) (joint-room a.scratch.now a.t a.c c.requires.0 e, size-fits a.scratch.now a.t a.c c.requires.0, c.requires.0.space, joint-few a.scratch.now a.t a.c c.requires.0 e)
+    let e : is_list (field (words a.scratch.now) a.c 0) ≡ true = ap is_list (eight _ c.kind-kind.result c.kind-kind.ensures c.requires.1 c.requires.2 r.0.0.1 r.0.1 r.1) in
+    rw (c.child-child.ensures, c.number-number.ensures) (joint_room a.scratch.now a.t a.c c.requires.0 e, size_fits a.scratch.now a.t a.c c.requires.0, c.requires.0.space, joint_few a.scratch.now a.t a.c c.requires.0 e)
 
 pub returns-in-5 : goal.returns-in-5
 returns-in-5 c =
     let a = c.args in
-    λ w. is-self w (words a.scratch.now) a.t a.c (below-trial a.scratch.now a.t a.c c.requires.0) _ (sym c.kind-kind.ensures ∙ c.in-5.is)
+    λ w. is_self w (words a.scratch.now) a.t a.c (below_trial a.scratch.now a.t a.c c.requires.0) _ (sym c.kind-kind.ensures ∙ c.in-5.is)
     (rw (← c.role-role.ensures) c.loops.ensures)
 
 pub returns-in-6 : goal.returns-in-6
 returns-in-6 c =
     let a = c.args in
-    λ w. is-not w (words a.scratch.now) a.t a.c (below-trial a.scratch.now a.t a.c c.requires.0) _ (sym c.kind-kind.ensures ∙ c.in-6.is)
+    λ w. is_not w (words a.scratch.now) a.t a.c (below_trial a.scratch.now a.t a.c c.requires.0) _ (sym c.kind-kind.ensures ∙ c.in-6.is)
     (rw (← c.child-child.ensures) c.complement.ensures)
 
 pub returns-in-7 : goal.returns-in-7
 returns-in-7 c =
     let a = c.args in
-    λ w. is-and w (words a.scratch.now) a.t a.c (below-trial a.scratch.now a.t a.c c.requires.0) _ (sym c.kind-kind.ensures ∙ c.in-7.is)
+    λ w. is_and w (words a.scratch.now) a.t a.c (below_trial a.scratch.now a.t a.c c.requires.0) _ (sym c.kind-kind.ensures ∙ c.in-7.is)
     (rw (← c.child-child.ensures, ← c.number-number.ensures) c.joint_set.ensures)
 
 pub returns-in_default : goal.returns-in_default
 returns-in_default c =
     let a = c.args in
     let r = c.in_default.in_default-own.rest in
-    λ w. is-or w (words a.scratch.now) a.t a.c (below-trial a.scratch.now a.t a.c c.requires.0) _
+    λ w. is_or w (words a.scratch.now) a.t a.c (below_trial a.scratch.now a.t a.c c.requires.0) _
     (eight _ c.kind-kind.result c.kind-kind.ensures c.requires.1 c.requires.2 r.0.0.1 r.0.1 r.1)
     (rw (← c.child-child.ensures, ← c.number-number.ensures) c.joint_set-in_default.ensures)

@@ -1,12 +1,12 @@
 use native.Mathlib.Omega.{arith}
 use Rattle.words.specs.Words.{words}
-use Rattle.extents.proofs.ThereLaws.{concept-there}
+use Rattle.extents.proofs.ThereLaws.{concept_there}
 use Rattle.extents.proofs.concept_set.Goals as goal
 
 pub composed_set-requires : goal.composed_set-requires
 composed_set-requires c =
     let a = c.args in
-    (concept-there a.store.now a.scratch.now a.t a.c c.requires.0 c.requires.1, omega (arith, c.if-kind-lt5.false, c.kind-kind.ensures), omega (arith, c.if-kind-lt9.true, c.kind-kind.ensures))
+    (concept_there a.store.now a.scratch.now a.t a.c c.requires.0 c.requires.1, omega (arith, c.if-kind-lt5.false, c.kind-kind.ensures), omega (arith, c.if-kind-lt9.true, c.kind-kind.ensures))
 
 pub returns-then-kind-lt9 : goal.returns-then-kind-lt9
 returns-then-kind-lt9 c = c.composed_set.ensures (words c.args.store.now)
@@ -14,7 +14,7 @@ returns-then-kind-lt9 c = c.composed_set.ensures (words c.args.store.now)
 pub filled_set-requires : goal.filled_set-requires
 filled_set-requires c =
     let a = c.args in
-    (concept-there a.store.now a.scratch.now a.t a.c c.requires.0 c.requires.1, omega (arith, c.if-kind-lt9.false, c.kind-kind.ensures))
+    (concept_there a.store.now a.scratch.now a.t a.c c.requires.0 c.requires.1, omega (arith, c.if-kind-lt9.false, c.kind-kind.ensures))
 
 pub returns : goal.returns
 returns c = c.filled_set.ensures (words c.args.store.now)

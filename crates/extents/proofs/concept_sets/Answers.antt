@@ -1,35 +1,35 @@
 use Prim.Native.Nat.{◌-◌}
 use native.Mathlib.Omega.{arith}
-use Rattle.extents.proofs.SetsLaws.{sets-start, sets-ready, sets-few, sets-more, sets-end}
+use Rattle.extents.proofs.SetsLaws.{sets_start, sets_ready, sets_few, sets_more, sets_end}
 use Rattle.extents.proofs.concept_sets.Goals as goal
 
 pub loop-c-init : goal.loop-c-init
-loop-c-init c = let a = c.args in sets-start a.store.now a.scratch.now a.t
+loop-c-init c = let a = c.args in sets_start a.store.now a.scratch.now a.t
 
 pub concept_set-set-requires : goal.concept_set-set-requires
 concept_set-set-requires c =
     let L = c.loop-c in
     let a = c.args in
-    (sets-ready a.store.now a.scratch.now L.scratch a.t L.c L.invariant c.requires, c.loop-c-test.true)
+    (sets_ready a.store.now a.scratch.now L.scratch a.t L.c L.invariant c.requires, c.loop-c-test.true)
 
 pub overflow_add-c : goal.overflow_add-c
 overflow_add-c c =
     let L = c.loop-c in
     let a = c.args in
-    omega (arith, sets-few a.store.now a.scratch.now L.scratch a.t L.c L.invariant c.requires c.loop-c-test.true)
+    omega (arith, sets_few a.store.now a.scratch.now L.scratch a.t L.c L.invariant c.requires c.loop-c-test.true)
 
 pub put_set-requires : goal.put_set-requires
 put_set-requires c =
     let L = c.loop-c in
     let a = c.args in
-    let h = sets-few a.store.now a.scratch.now L.scratch a.t L.c L.invariant c.requires c.loop-c-test.true in
-    omega (arith, h, (sets-ready a.store.now a.scratch.now L.scratch a.t L.c L.invariant c.requires).space)
+    let h = sets_few a.store.now a.scratch.now L.scratch a.t L.c L.invariant c.requires c.loop-c-test.true in
+    omega (arith, h, (sets_ready a.store.now a.scratch.now L.scratch a.t L.c L.invariant c.requires).space)
 
 pub loop-c-preserved : goal.loop-c-preserved
 loop-c-preserved c =
     let L = c.loop-c in
     let a = c.args in
-    sets-more a.store.now a.scratch.now L.scratch a.t L.c L.invariant c.requires c.loop-c-test.true c.concept_set-set.result c.concept_set-set.ensures c.put_set.new.s c.put_set.ensures c.put_set.auto.s
+    sets_more a.store.now a.scratch.now L.scratch a.t L.c L.invariant c.requires c.loop-c-test.true c.concept_set-set.result c.concept_set-set.ensures c.put_set.new.s c.put_set.ensures c.put_set.auto.s
 
 pub shape_of-scratch : goal.shape_of-scratch
 shape_of-scratch c = c.loop-c.invariant.long
@@ -39,7 +39,7 @@ returns c =
     let L = c.loop-c in
     let a = c.args in
     record {
-      concept_sets = sets-end a.store.now a.scratch.now L.scratch a.t L.c L.invariant c.loop-c-test.false;
+      concept_sets = sets_end a.store.now a.scratch.now L.scratch a.t L.c L.invariant c.loop-c-test.false;
       kept_to = L.invariant.low;
       kept_in = L.invariant.high;
     }

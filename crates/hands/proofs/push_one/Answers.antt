@@ -2,7 +2,7 @@ use mathlib.Core.Path.{refl}
 use Prim.Native.Nat.{◌+◌, ◌*◌, ◌≤◌}
 use native.Mathlib.Omega.{arith}
 use lib.ListN.{length}
-use Rattle.hands.specs.HandLaws.{hand-run}
+use Rattle.hands.specs.HandLaws.{hand_run}
 use Rattle.hands.proofs.push_one.Goals as goal
 
 pub returns : goal.returns
@@ -12,7 +12,7 @@ returns c =
     λ d. record {
       equal = λ env f b s l E i t.
           q.d_after env b s d E.lent
-          (hand-run c.args.base c.args.n c.args.scratch.now b _ refl fits i) t;
+          (hand_run c.args.base c.args.n c.args.scratch.now b _ refl fits i) t;
       frame = refl;
       good = q.good_answer c.requires.3;
       kept = q.kept_answer;

@@ -3,13 +3,13 @@ use mathlib.Core.Path.{refl, sym, subst, ◌∙◌}
 use Prim.Native.Nat.{suc, ◌*◌}
 use lib.ListN.{length, drop, replicate}
 use Rattle.words.specs.Words.{words}
-use Rattle.words.specs.Laws.{length-words}
-use Rattle.states.specs.State.{StateTold, stateBy}
+use Rattle.words.specs.Laws.{length_words}
+use Rattle.states.specs.State.{StateTold, state_by}
 use Rattle.layouts.specs.declared.Stated.TheVariants.{Bad}
 use Rattle.layouts.specs.declared.line.First.TheVariants.{None}
-use Rattle.layouts.specs.Read.{knownOf, StatedAs}
+use Rattle.layouts.specs.Read.{known_of, StatedAs}
 use Rattle.layouts.specs.Lines.{before, FirstLine, FirstAs}
-use Rattle.layouts.proofs.Blanks.{no-set, no-row, rows-before, same-read, same-stated}
+use Rattle.layouts.proofs.Blanks.{no_set, no_row, rows_before, same_read, same_stated}
 use Rattle.layouts.proofs.read_state.Goals as goal
 
 pub returns-in_default : goal.returns-in_default
@@ -31,8 +31,8 @@ read_lines-requires c =
       room = omega (arith, c.requires.1, c.clear.auto.s);
       space = omega (arith, c.requires.2, c.first_line.auto.scratch, c.clear_words.auto.s);
       within = F.within;
-      classes = λ k. no-set c.clear.new.s (length c.args.store.now) k c.clear.ensures;
-      rows = λ code x g z. no-row (words c.first_line.new.scratch) (words c.clear_words.new.s) c.args.m.roles code x c.clear_words.ensures (omega (arith, c.requires.0.roles, c.requires.2, c.first_line.auto.scratch, length-words c.first_line.new.scratch)) g z;
+      classes = λ k. no_set c.clear.new.s (length c.args.store.now) k c.clear.ensures;
+      rows = λ code x g z. no_row (words c.first_line.new.scratch) (words c.clear_words.new.s) c.args.m.roles code x c.clear_words.ensures (omega (arith, c.requires.0.roles, c.requires.2, c.first_line.auto.scratch, length_words c.first_line.new.scratch)) g z;
     }
 
 pub returns : goal.returns
@@ -42,6 +42,6 @@ returns c =
     let F : FirstLine c.args.text.now size q = subst (FirstAs c.args.text.now) c.in-Size.is c.first_line.ensures.first_as in
     let text = c.args.text.now in
     let m = c.args.m in record {
-      stated_as = λ d D. subst (λ (x : StateTold). StatedAs d m x (words c.read_lines.new.store) (words c.read_lines.new.scratch) c.read_lines.result) (sym (F.read d m.fresh ∙ same-read d m D (suc (length (drop q text))) m.fresh 2 (before 50 0 size) (drop q text))) (same-stated d m D (stateBy (suc (length (drop q text))) (knownOf m) m.fresh 2 (before 50 0 size) (drop q text)) (words c.read_lines.new.store) (words c.read_lines.new.scratch) c.read_lines.result c.read_lines.ensures.stated_as);
-      kept_to = λ i h. c.read_lines.ensures.kept_to i (omega arith) ∙ rows-before (words c.first_line.new.scratch) (words c.clear_words.new.s) (replicate (256 * m.roles) 0) c.clear_words.ensures i (omega arith) ∙ c.first_line.ensures.kept_to i (omega arith);
+      stated_as = λ d D. subst (λ (x : StateTold). StatedAs d m x (words c.read_lines.new.store) (words c.read_lines.new.scratch) c.read_lines.result) (sym (F.read d m.fresh ∙ same_read d m D (suc (length (drop q text))) m.fresh 2 (before 50 0 size) (drop q text))) (same_stated d m D (state_by (suc (length (drop q text))) (known_of m) m.fresh 2 (before 50 0 size) (drop q text)) (words c.read_lines.new.store) (words c.read_lines.new.scratch) c.read_lines.result c.read_lines.ensures.stated_as);
+      kept_to = λ i h. c.read_lines.ensures.kept_to i (omega arith) ∙ rows_before (words c.first_line.new.scratch) (words c.clear_words.new.s) (replicate (256 * m.roles) 0) c.clear_words.ensures i (omega arith) ∙ c.first_line.ensures.kept_to i (omega arith);
     }

@@ -1,7 +1,7 @@
 -- The bytes that were read are an input, so its listing bounds where the text ends.
 use Rattle.std.proofs.Common.{arith, sym, length-take-le}
-use Rattle.lister.specs.Cut.{read-end}
-use Rattle.lister.specs.ReplyLaws.{lent-lengths}
+use Rattle.lister.specs.Cut.{read_end}
+use Rattle.lister.specs.ReplyLaws.{lent_lengths}
 use Rattle.lister.proofs.main.Goals as goal
 
 pub list_input-m-requires-clause-scratch_value : goal.list_input-m-requires-clause-scratch_value
@@ -10,16 +10,16 @@ list_input-m-requires-clause-scratch_value c =
     let y = c.atom_space-atoms in
     let z = c.deferral_space-deferrals in
     let w = c.scratch_space-scratch in
-    (lent-lengths x.result y.result z.result w.result x.ensures y.ensures z.ensures w.ensures, omega (arith, c.text_space-out.ensures))
+    (lent_lengths x.result y.result z.result w.result x.ensures y.ensures z.ensures w.ensures, omega (arith, c.text_space-out.ensures))
 
 pub slice_bounds-out-end : goal.slice_bounds-out-end
 slice_bounds-out-end c =
     let p = c.list_input-m in
     let i = c.fill-n in
-    omega (arith, read-end i.new.space i.result.0 i.ensures.bound p.ensures, p.auto.out, c.text_space-out.ensures)
+    omega (arith, read_end i.new.space i.result.0 i.ensures.bound p.ensures, p.auto.out, c.text_space-out.ensures)
 
 pub slice_bounds-write_all-end : goal.slice_bounds-write_all-end
 slice_bounds-write_all-end c =
     let p = c.list_input-m in
     let i = c.fill-n in
-    sym (length-take-le p.result p.new.out (omega (arith, read-end i.new.space i.result.0 i.ensures.bound p.ensures, p.auto.out, c.text_space-out.ensures)))
+    sym (length-take-le p.result p.new.out (omega (arith, read_end i.new.space i.result.0 i.ensures.bound p.ensures, p.auto.out, c.text_space-out.ensures)))

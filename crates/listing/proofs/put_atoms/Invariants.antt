@@ -1,12 +1,12 @@
 use Prim.Native.Nat.{◌-◌, ◌≤◌}
 use Rattle.words.specs.Words.{words}
-use Rattle.rows.specs.Rows.{textsOf, textsLeft}
+use Rattle.rows.specs.Rows.{texts_of, texts_left}
 use Rattle.rows.specs.RowLaws.{Left}
-use Rattle.listing.specs.Listing.{atomText}
+use Rattle.listing.specs.Listing.{atom_text}
 use Rattle.listing.proofs.put_atoms.Given as goal
 
 abbrev pub invariant-loop-j : goal.invariant-loop-j
-invariant-loop-j l = (l.j ≤ l.n) × Left l.initial.out l.at (textsOf (atomText (words l.run)) 0 l.n) l.out l.p (textsLeft (atomText (words l.run)) l.j l.n)
+invariant-loop-j l = (l.j ≤ l.n) × Left l.initial.out l.at (texts_of (atom_text (words l.run)) 0 l.n) l.out l.p (texts_left (atom_text (words l.run)) l.j l.n)
 
 abbrev pub decreases-loop-j : goal.decreases-loop-j
 decreases-loop-j l = l.n - l.j

@@ -1,12 +1,12 @@
 use Prim.Native.Nat.{◌-◌}
 use native.Mathlib.Omega.{arith}
 use Rattle.words.specs.Words.{words}
-use Rattle.tables.specs.ClauseLaws.{there-at}
-use Rattle.listing.specs.ListingLaws.{listed-none, listed-same, listed-fits, listed-next, listed-end}
+use Rattle.tables.specs.ClauseLaws.{there_at}
+use Rattle.listing.specs.ListingLaws.{listed_none, listed_same, listed_fits, listed_next, listed_end}
 use Rattle.listing.proofs.put_clauses.Goals as goal
 
 pub loop-i-init : goal.loop-i-init
-loop-i-init c = let a = c.args in listed-none (words a.clauses.now) (words a.atoms.now) a.n a.out.now a.at
+loop-i-init c = let a = c.args in listed_none (words a.clauses.now) (words a.atoms.now) a.n a.out.now a.at
 
 pub put_clause_rows-p-requires : goal.put_clause_rows-p-requires
 put_clause_rows-p-requires c =
@@ -15,7 +15,7 @@ put_clause_rows-p-requires c =
     let t = c.loop-i-test.true in
     let w = words a.clauses.now in
     let v = words a.atoms.now in
-    (there-at w v a.n (record { list = c.requires.list; tabled = c.requires.tabled }) l.i t, listed-fits w v a.n a.out.now a.at l.out l.p l.i l.invariant c.requires t)
+    (there_at w v a.n (record { list = c.requires.list; tabled = c.requires.tabled }) l.i t, listed_fits w v a.n a.out.now a.at l.out l.p l.i l.invariant c.requires t)
 
 pub loop-i-smaller : goal.loop-i-smaller
 loop-i-smaller c = omega arith
@@ -25,16 +25,16 @@ loop-i-preserved c =
     let a = c.args in
     let l = c.loop-i in
     let q = c.put_clause_rows-p in
-    listed-next (words a.clauses.now) (words a.atoms.now) a.n a.out.now a.at l.out l.p l.i l.invariant c.loop-i-test.true _ q.result q.ensures
+    listed_next (words a.clauses.now) (words a.atoms.now) a.n a.out.now a.at l.out l.p l.i l.invariant c.loop-i-test.true _ q.result q.ensures
 
 pub shape_of-out : goal.shape_of-out
 shape_of-out c =
     let a = c.args in
     let l = c.loop-i in
-    listed-same (words a.clauses.now) (words a.atoms.now) a.n a.out.now a.at l.out l.p l.i l.invariant c.requires
+    listed_same (words a.clauses.now) (words a.atoms.now) a.n a.out.now a.at l.out l.p l.i l.invariant c.requires
 
 pub returns : goal.returns
 returns c =
     let a = c.args in
     let l = c.loop-i in
-    listed-end (words a.clauses.now) (words a.atoms.now) a.n a.out.now a.at l.out l.p l.i l.invariant c.loop-i-test.false
+    listed_end (words a.clauses.now) (words a.atoms.now) a.n a.out.now a.at l.out l.p l.i l.invariant c.loop-i-test.false

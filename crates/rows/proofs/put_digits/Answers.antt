@@ -2,14 +2,14 @@ use mathlib.Core.Path.{refl, ◌∙◌}
 use Prim.Native.Nat.{◌+◌, ◌-◌}
 use native.Mathlib.Omega.{arith}
 use lib.ListN.{length-set}
-use Rattle.rows.specs.RowLaws.{written-none, written-more, written-end}
+use Rattle.rows.specs.RowLaws.{written_none, written_more, written_end}
 use Rattle.rows.proofs.put_digits.Goals as goal
 
 pub loop-rest-init : goal.loop-rest-init
 loop-rest-init c =
     let a = c.args in
     let p = c.put_spaces in
-    (written-none a.out.now a.at a.number p.new.out c.ranges.number.fits p.ensures, refl, omega arith, omega arith)
+    (written_none a.out.now a.at a.number p.new.out c.ranges.number.fits p.ensures, refl, omega arith, omega arith)
 
 pub overflow_add-out : goal.overflow_add-out
 overflow_add-out c = omega arith
@@ -27,7 +27,7 @@ pub loop-rest-preserved : goal.loop-rest-preserved
 loop-rest-preserved c =
     let l = c.loop-rest in
     let a = c.args in
-    let w = written-more c.put_spaces.new.out a.at a.number l.rest l.j l.out l.invariant.0 c.loop-rest-test.true in
+    let w = written_more c.put_spaces.new.out a.at a.number l.rest l.j l.out l.invariant.0 c.loop-rest-test.true in
     (w, simp length-set l.invariant.1, w.number.some, omega arith)
 
 pub overflow_add-out-2 : goal.overflow_add-out-2
@@ -47,4 +47,4 @@ returns c =
     let l = c.loop-rest in
     let a = c.args in
     let p = c.put_spaces in
-    written-end a.out.now a.at a.number l.rest l.j p.new.out l.out p.ensures l.invariant.0 (omega arith)
+    written_end a.out.now a.at a.number l.rest l.j p.new.out l.out p.ensures l.invariant.0 (omega arith)

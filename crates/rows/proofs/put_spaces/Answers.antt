@@ -2,7 +2,7 @@ use mathlib.Core.Path.{◌≡◌, refl, ◌∙◌}
 use Prim.Native.Nat.{◌-◌}
 use native.Mathlib.Omega.{arith}
 use lib.ListN.{length-set}
-use Rattle.rows.specs.RowLaws.{spaces-put}
+use Rattle.rows.specs.RowLaws.{spaces_put}
 use Rattle.rows.proofs.put_spaces.Goals as goal
 
 pub loop-i-init : goal.loop-i-init
@@ -24,7 +24,7 @@ pub loop-i-preserved : goal.loop-i-preserved
 loop-i-preserved c =
     let l = c.loop-i in
     let a = c.args in
-    (omega arith, spaces-put a.out.now a.at l.i l.out l.invariant.1, simp length-set l.invariant.2)
+    (omega arith, spaces_put a.out.now a.at l.i l.out l.invariant.1, simp length-set l.invariant.2)
 
 pub shape_of-out : goal.shape_of-out
 shape_of-out c = c.loop-i.invariant.2

@@ -1,8 +1,8 @@
 use mathlib.Core.Path.{ap, ◌∙◌}
 use Prim.Native.Nat.{◌-◌}
 use lib.Count.{ones}
-use Rattle.states.specs.Masks.{mask-ones}
+use Rattle.states.specs.Masks.{mask_ones}
 use Rattle.sets.proofs.size.Goals as goal
 
 pub returns : goal.returns
-returns c = λ n f e. ap ones e ∙ mask-ones n f
+returns c = λ n f e. ap ones e ∙ mask_ones n f

@@ -4,12 +4,12 @@ use mathlib.Core.List.{List}
 use lib.ListN.{length, drop}
 use Rattle.ir.specs.declared.atom.Atom.{Atom}
 use Rattle.rules.specs.Base.{any}
-use Rattle.rules.specs.Stats.{isExists}
+use Rattle.rules.specs.Stats.{is_exists}
 use Rattle.tables.specs.Tabled.{Run}
 use Rattle.statistics.proofs.has_exists.Given as goal
 
 abbrev pub invariant-loop-i : goal.invariant-loop-i
-invariant-loop-i now = (now.n ≡ length now.head / 24) × (now.i ≤ now.n) × ((l : List Atom) → Run now.head l → any isExists l ≡ any isExists (drop now.i l))
+invariant-loop-i now = (now.n ≡ length now.head / 24) × (now.i ≤ now.n) × ((l : List Atom) → Run now.head l → any is_exists l ≡ any is_exists (drop now.i l))
 
 abbrev pub decreases-loop-i : goal.decreases-loop-i
 decreases-loop-i l = l.n - l.i

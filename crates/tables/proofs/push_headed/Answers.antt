@@ -5,16 +5,16 @@ use Prim.{tt}
 use lib.ListN.{length-append}
 use Rattle.ir.specs.declared.counters.Counters.{Counters}
 use Rattle.ir.specs.Counts.{pushed}
-use Rattle.tables.specs.Good.{good-same, alike-step}
+use Rattle.tables.specs.Good.{good_same, alike_step}
 use Rattle.words.specs.Words.{words}
-use Rattle.words.specs.Laws.{length-words}
-use Rattle.tables.specs.DrawnLaws.{push-no-clause, push-no-atoms, push-after, headed-stores}
+use Rattle.words.specs.Laws.{length_words}
+use Rattle.tables.specs.DrawnLaws.{push_no_clause, push_no_atoms, push_after, headed_stores}
 use Rattle.tables.proofs.push_headed.Goals as goal
 
 pub returns-then-clause_room-i : goal.returns-then-clause_room-i
 returns-then-clause_room-i c =
     let a = c.args in record {
-      d_after = λ env b s d l X e. push-no-clause env _ s _ _ d e b (a.head ∷ []) (omega (arith, l.clauses, c.clause_room.ensures, length-words a.clauses.now));
+      d_after = λ env b s d l X e. push_no_clause env _ s _ _ d e b (a.head ∷ []) (omega (arith, l.clauses, c.clause_room.ensures, length_words a.clauses.now));
       good_answer = λ g. tt;
       kept_answer = tt;
     }
@@ -24,7 +24,7 @@ returns-then-atom_room-first c =
     let a = c.args in record {
       d_after = λ env b s d l X e.
           let j = length-append b (a.head ∷ []) in
-          push-no-atoms env _ s _ _ d e b (a.head ∷ []) (omega (arith, l.clauses, c.clause_room.ensures, length-words a.clauses.now)) (omega (arith, l.atoms, c.atom_room.ensures, X.long, length-words a.atoms.now));
+          push_no_atoms env _ s _ _ d e b (a.head ∷ []) (omega (arith, l.clauses, c.clause_room.ensures, length_words a.clauses.now)) (omega (arith, l.atoms, c.atom_room.ensures, X.long, length_words a.atoms.now));
       good_answer = λ g. tt;
       kept_answer = tt;
     }
@@ -34,8 +34,8 @@ returns c =
     let a = c.args in record {
       d_after = λ env b s d l X e.
           let j = length-append b (a.head ∷ []) in
-          push-after env _ s _ _ d e b (a.head ∷ []) _ _ _ _ _ _ _ (omega (arith, l.clauses, c.clause_room.ensures, length-words a.clauses.now)) (omega (arith, l.atoms, c.atom_room.ensures, length-words a.atoms.now)) (omega (arith, X.long)) (omega (arith, X.long)) (omega arith) refl c.push.ensures c.put_clause.ensures
-          (headed-stores (words a.atoms.now) (words c.copy_words.new.s) (words c.put_atom.new.t) (words a.run.now) a.k.atoms _ b a.head X.are (omega (arith, X.long)) c.copy_words.ensures c.put_atom.ensures);
-      good_answer = λ g. good-same _ _ (ap (λ (x : Counters). x.limit) c.push.ensures) (ap (λ (x : Counters). x.visits) c.push.ensures) (ap (λ (x : Counters). x.next_var) c.push.ensures) (ap (λ (x : Counters). x.next_class) c.push.ensures) g;
-      kept_answer = alike-step _ _ (pushed _) c.push.ensures refl refl refl refl;
+          push_after env _ s _ _ d e b (a.head ∷ []) _ _ _ _ _ _ _ (omega (arith, l.clauses, c.clause_room.ensures, length_words a.clauses.now)) (omega (arith, l.atoms, c.atom_room.ensures, length_words a.atoms.now)) (omega (arith, X.long)) (omega (arith, X.long)) (omega arith) refl c.push.ensures c.put_clause.ensures
+          (headed_stores (words a.atoms.now) (words c.copy_words.new.s) (words c.put_atom.new.t) (words a.run.now) a.k.atoms _ b a.head X.are (omega (arith, X.long)) c.copy_words.ensures c.put_atom.ensures);
+      good_answer = λ g. good_same _ _ (ap (λ (x : Counters). x.limit) c.push.ensures) (ap (λ (x : Counters). x.visits) c.push.ensures) (ap (λ (x : Counters). x.next_var) c.push.ensures) (ap (λ (x : Counters). x.next_class) c.push.ensures) g;
+      kept_answer = alike_step _ _ (pushed _) c.push.ensures refl refl refl refl;
     }

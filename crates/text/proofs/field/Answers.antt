@@ -1,6 +1,6 @@
 use mathlib.Core.Path.{sym, ◌∙◌}
-use Rattle.text.specs.RowLaws.{row-number}
+use Rattle.text.specs.RowLaws.{row_number_lem}
 use Rattle.text.proofs.field.Goals as goal
 
 pub returns : goal.returns
-returns c = c.number_at.ensures ∙ sym (row-number c.args.deck.now c.args.p c.args.n c.args.k c.requires.1)
+returns c = c.number_at.ensures ∙ sym (row_number_lem c.args.deck.now c.args.p c.args.n c.args.k c.requires.1)

@@ -3,7 +3,7 @@ use mathlib.Core.Path.{refl, ◌∙◌}
 use Prim.Native.Nat.{◌-◌}
 use Rattle.words.specs.Words.{words}
 use Rattle.text.specs.Rows.{numbers}
-use Rattle.text.proofs.Laws.{reading-first, reading-short, reading-bad, reading-more, reading-out, line-out, stored, told-end}
+use Rattle.text.proofs.Laws.{reading_first, reading_short, reading_bad, reading_more, reading_out, line_out, stored, told_end}
 use Rattle.text.proofs.read_row.Goals as goal
 
 pub overflow_sub-room : goal.overflow_sub-room
@@ -13,13 +13,13 @@ pub returns-then-len-p : goal.returns-then-len-p
 unfolding numbers
 returns-then-len-p c =
     let a = c.args in
-    record { result_value = line-out a.deck.now a.p c.if-len-p.true; placed = omega arith; t_after = refl }
+    record { result_value = line_out a.deck.now a.p c.if-len-p.true; placed = omega arith; t_after = refl }
 
 pub loop-at-init : goal.loop-at-init
 unfolding numbers
 loop-at-init c =
     let a = c.args in
-    (reading-first a.deck.now a.p c.if-len-p.false, (refl, refl))
+    (reading_first a.deck.now a.p c.if-len-p.false, (refl, refl))
 
 pub shape_of-t-then-deck-at-eq10 : goal.shape_of-t-then-deck-at-eq10
 shape_of-t-then-deck-at-eq10 c = c.loop-at.invariant.1.1
@@ -28,7 +28,7 @@ pub returns-then-deck-at-eq10 : goal.returns-then-deck-at-eq10
 returns-then-deck-at-eq10 c =
     let l = c.loop-at in
     let a = c.args in
-    let T = told-end a.deck.now a.p _ l.n l.at l.invariant.0 c.loop-at-test.true c.if-deck-at-eq10.true in
+    let T = told_end a.deck.now a.p _ l.n l.at l.invariant.0 c.loop-at-test.true c.if-deck-at-eq10.true in
     rw c.ended.ensures (record { result_value = T.said; placed = T.placed; t_after = rw T.count l.invariant.1.0 })
 
 pub shape_of-t-then-len-at-lt11 : goal.shape_of-t-then-len-at-lt11
@@ -39,7 +39,7 @@ returns-then-len-at-lt11 c =
     let l = c.loop-at in
     let a = c.args in
     record {
-      result_value = reading-short a.deck.now a.p l.n l.at l.invariant.0 c.loop-at-test.true c.if-deck-at-eq10.false c.if-len-at-lt11.true;
+      result_value = reading_short a.deck.now a.p l.n l.at l.invariant.0 c.loop-at-test.true c.if-deck-at-eq10.false c.if-len-at-lt11.true;
       placed = omega (arith, l.invariant.0.place, l.invariant.0.within);
       t_after = l.invariant.1.0;
     }
@@ -52,7 +52,7 @@ returns-then-w-gt4294967295 c =
     let l = c.loop-at in
     let a = c.args in
     record {
-      result_value = reading-bad a.deck.now a.p l.n l.at l.invariant.0 c.loop-at-test.true c.if-deck-at-eq10.false c.if-len-at-lt11.false (rw c.number_at-w.ensures at c.if-w-gt4294967295.true);
+      result_value = reading_bad a.deck.now a.p l.n l.at l.invariant.0 c.loop-at-test.true c.if-deck-at-eq10.false c.if-len-at-lt11.false (rw c.number_at-w.ensures at c.if-w-gt4294967295.true);
       placed = omega (arith, l.invariant.0.place, l.invariant.0.within);
       t_after = l.invariant.1.0;
     }
@@ -77,7 +77,7 @@ loop-at-preserved c =
     let a = c.args in
     let s = a.deck.now in
     let v = c.number_at-w.ensures in (
-      reading-more s a.p l.n l.at l.invariant.0 c.loop-at-test.true c.if-deck-at-eq10.false c.if-len-at-lt11.false (rw v at c.if-w-gt4294967295.false),
+      reading_more s a.p l.n l.at l.invariant.0 c.loop-at-test.true c.if-deck-at-eq10.false c.if-len-at-lt11.false (rw v at c.if-w-gt4294967295.false),
       (c.put.ensures ∙ rw l.invariant.1.0 (stored (words a.t.now) s a.a a.p l.n l.at _ l.invariant.0.place v), c.put.auto.t ∙ l.invariant.1.1),
     )
 
@@ -89,7 +89,7 @@ returns c =
     let l = c.loop-at in
     let a = c.args in
     record {
-      result_value = reading-out a.deck.now a.p l.n l.at l.invariant.0 c.loop-at-test.false;
+      result_value = reading_out a.deck.now a.p l.n l.at l.invariant.0 c.loop-at-test.false;
       placed = omega (arith, l.invariant.0.place, l.invariant.0.within);
       t_after = l.invariant.1.0;
     }

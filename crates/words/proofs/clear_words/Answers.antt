@@ -6,8 +6,8 @@ use lib.ListN.{length, replicate, length-replicate}
 use lib.Seq.{sets}
 use borrow.Rule.Slice.PartMut.{mid_of, mid_len}
 use Rattle.words.specs.Words.{words}
-use Rattle.words.specs.Laws.{words-zeros}
-use Rattle.words.proofs.Parts.{back-words}
+use Rattle.words.specs.Laws.{words_zeros}
+use Rattle.words.proofs.Parts.{back_words}
 use Rattle.words.proofs.clear_words.Goals as goal
 
 pub returns : goal.returns
@@ -17,5 +17,5 @@ returns c =
     let e : 4 * (a.at + a.n) - 4 * a.at ≡ 4 * a.n = omega arith in
     let z : c.clear.new.s ≡ replicate (4 * a.n) 0 = c.clear.ensures ∙ rw (m, e) refl in
     let l : length c.clear.new.s ≡ 4 * (a.at + a.n) - 4 * a.at = ap length z ∙ length-replicate {0} {A = ℕ} (4 * a.n) 0 ∙ sym e in
-    back-words a.at (a.at + a.n) a.s.now c.clear.new.s (omega arith) c.requires l
-    ∙ ap (λ (y : List ℕ). sets (words a.s.now) a.at y) (ap words z ∙ words-zeros a.n)
+    back_words a.at (a.at + a.n) a.s.now c.clear.new.s (omega arith) c.requires l
+    ∙ ap (λ (y : List ℕ). sets (words a.s.now) a.at y) (ap words z ∙ words_zeros a.n)

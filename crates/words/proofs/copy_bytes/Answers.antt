@@ -4,7 +4,7 @@ use native.Mathlib.Omega.{arith}
 use native.Mathlib.Numerals.{add-one}
 use lib.ListN.{length, get_or, take, length-set}
 use lib.Seq.{take-suc, take-length, length-take-le}
-use Rattle.words.specs.Runs.{sets-snoc}
+use Rattle.words.specs.Runs.{sets_snoc}
 use Rattle.words.proofs.copy_bytes.Goals as goal
 
 pub loop-i-init : goal.loop-i-init
@@ -32,7 +32,7 @@ loop-i-preserved c =
     let t : length (take l.i a.run.now) ≡ l.i = length-take-le l.i a.run.now (omega arith) in
     let e : a.at + l.i ≡ a.at + length (take l.i a.run.now) = omega arith in (
       omega arith,
-      rw (add-one, l.invariant.1, e, take-suc a.run.now l.i 0 (omega arith)) (sets-snoc (take l.i a.run.now) a.s.now a.at (get_or a.run.now l.i 0)),
+      rw (add-one, l.invariant.1, e, take-suc a.run.now l.i 0 (omega arith)) (sets_snoc (take l.i a.run.now) a.s.now a.at (get_or a.run.now l.i 0)),
       simp length-set l.invariant.2,
     )
 

@@ -3,8 +3,8 @@ use Prim.Native.Nat.{◌-◌}
 use native.Mathlib.Omega.{arith}
 use native.Mathlib.Numerals.{add-one}
 use Rattle.words.specs.Words.{words}
-use Rattle.words.specs.Laws.{length-words}
-use Rattle.words.proofs.Moves.{down-turn}
+use Rattle.words.specs.Laws.{length_words}
+use Rattle.words.proofs.Moves.{down_turn}
 use Rattle.words.proofs.move_down.Goals as goal
 
 pub loop-i-init : goal.loop-i-init
@@ -33,9 +33,9 @@ loop-i-preserved c =
     let l = c.loop-i in
     let a = c.args in
     let b = c.requires in
-    let w = length-words a.s.now in (
+    let w = length_words a.s.now in (
       omega arith,
-      c.put_word.ensures ∙ rw (add-one, c.get_word-w.ensures, l.invariant.1) (down-turn (words a.s.now) a.from a.to a.n l.i b.0 c.loop-i-test.true (omega arith)),
+      c.put_word.ensures ∙ rw (add-one, c.get_word-w.ensures, l.invariant.1) (down_turn (words a.s.now) a.from a.to a.n l.i b.0 c.loop-i-test.true (omega arith)),
       c.put_word.auto.s ∙ l.invariant.2,
     )
 

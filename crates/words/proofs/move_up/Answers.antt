@@ -5,8 +5,8 @@ use native.Mathlib.Omega.{arith}
 use lib.ListN.{length, take, drop, length-take}
 use lib.Seq.{sets}
 use Rattle.words.specs.Words.{words}
-use Rattle.words.specs.Laws.{length-words}
-use Rattle.words.proofs.Moves.{up-turn}
+use Rattle.words.specs.Laws.{length_words}
+use Rattle.words.proofs.Moves.{up_turn}
 use Rattle.words.proofs.move_up.Goals as goal
 
 pub loop-i-init : goal.loop-i-init
@@ -38,7 +38,7 @@ loop-i-preserved c =
     let l = c.loop-i in
     let a = c.args in
     let b = c.requires in
-    let w = length-words a.s.now in
+    let w = length_words a.s.now in
     let t = c.loop-i-test.true in
     let e : a.to + l.i ≡ suc (a.to + (l.i - 1)) = omega arith in
     let f : l.i ≡ suc (l.i - 1) = omega arith in
@@ -46,7 +46,7 @@ loop-i-preserved c =
     l.invariant.1 ∙ (ap (λ (k : ℕ). sets (words a.s.now) k (drop l.i (take a.n (drop a.from (words a.s.now))))) e
     ∙ ap (λ (k : ℕ). sets (words a.s.now) (suc (a.to + (l.i - 1))) (drop k (take a.n (drop a.from (words a.s.now))))) f) in (
       omega arith,
-      c.put_word.ensures ∙ rw (c.get_word-w.ensures, v) (up-turn (words a.s.now) a.from a.to a.n (l.i - 1) b.0 (omega arith) (omega arith)),
+      c.put_word.ensures ∙ rw (c.get_word-w.ensures, v) (up_turn (words a.s.now) a.from a.to a.n (l.i - 1) b.0 (omega arith) (omega arith)),
       c.put_word.auto.s ∙ l.invariant.2,
     )
 

@@ -1,6 +1,6 @@
 use native.Mathlib.Omega.{arith}
 use lib.ListN.{length-set}
-use Rattle.words.specs.Laws.{set-words}
+use Rattle.words.specs.Laws.{set_words}
 use Rattle.words.proofs.put_word.Goals as goal
 
 pub bounds-s-at-2 : goal.bounds-s-at-2
@@ -13,4 +13,4 @@ pub bounds-s-at-4 : goal.bounds-s-at-4
 bounds-s-at-4 c = simp length-set (omega arith)
 
 pub returns : goal.returns
-returns c = set-words _ _ _ c.ranges.w.fits c.requires
+returns c = set_words _ _ _ c.ranges.w.fits c.requires

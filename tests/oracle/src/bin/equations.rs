@@ -1,6 +1,6 @@
 //! The original's answers as equations over the rules, for the prover to compute (see tests/validate).
 //!
-//! Each equation is `outcomeNumbers (runWith LIMIT DECK TABLES) ≡ ANSWER`, on a generated deck, a generated deck under
+//! Each equation is `outcome_numbers (run_with LIMIT DECK TABLES) ≡ ANSWER`, on a generated deck, a generated deck under
 //! limits at which it just passes or is just refused, or a damaged one.
 
 use std::error::Error;
@@ -105,7 +105,7 @@ fn on_bytes(deck: Vec<u8>, limits: Limits, size: usize) -> Option<Equation> {
     })
 }
 
-/// `outcomeNumbers` of the rules.
+/// `outcome_numbers` of the rules.
 fn numbers(answer: &Answer) -> Option<Vec<u32>> {
     match answer {
         Answer::Refused(refusal) => Some(vec![refusal.number, refusal.line]),
@@ -136,7 +136,7 @@ fn module(equations: &[Equation]) -> Result<String, std::fmt::Error> {
     let mut text = String::from(
         "use Rattle.std.specs.Prelude.{◌≡◌, refl, [], ◌∷◌}
 use Rattle.rules.specs.Ascii.{ascii}
-use Rattle.rules.specs.Run.{runWith, outcomeNumbers}
+use Rattle.rules.specs.Run.{run_with, outcome_numbers}
 use Rattle.rules.specs.Compute.{computed, tables}
 ",
     );
@@ -150,7 +150,7 @@ use Rattle.rules.specs.Compute.{computed, tables}
         } = equation.limits;
         writeln!(
             text,
-            "\nd{number} : outcomeNumbers (runWith {visits} ({}) (tables {clauses} {atoms} {deferrals})) ≡ {}\nunfolding computed\nd{number} = refl",
+            "\nd{number} : outcome_numbers (run_with {visits} ({}) (tables {clauses} {atoms} {deferrals})) ≡ {}\nunfolding computed\nd{number} = refl",
             deck_term(&equation.deck),
             list(&equation.answer),
         )?;

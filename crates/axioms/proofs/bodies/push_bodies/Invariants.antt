@@ -4,11 +4,11 @@ use mathlib.Core.List.{List}
 use lib.ListN.{length}
 use Rattle.words.specs.Words.{words}
 use Rattle.hands.specs.Hands.{four}
-use Rattle.axioms.specs.Bodies.{givesClass, BodiedAt}
+use Rattle.axioms.specs.Bodies.{gives_class, BodiedAt}
 use Rattle.axioms.proofs.bodies.push_bodies.Given as goal
 
 abbrev pub invariant-loop-i : goal.invariant-loop-i
-invariant-loop-i l = ((d : List ℕ) → BodiedAt (givesClass l.class) l.initial.l l.sub l.y l.count (four (words l.initial.scratch) (words l.initial.clauses) (words l.initial.atoms) d) (four (words l.scratch) (words l.clauses) (words l.atoms) d) l.l l.i)
+invariant-loop-i l = ((d : List ℕ) → BodiedAt (gives_class l.class) l.initial.l l.sub l.y l.count (four (words l.initial.scratch) (words l.initial.clauses) (words l.initial.atoms) d) (four (words l.scratch) (words l.clauses) (words l.atoms) d) l.l l.i)
     × (length l.scratch ≡ length l.initial.scratch) × (length l.clauses ≡ length l.initial.clauses) × (length l.atoms ≡ length l.initial.atoms)
 
 abbrev pub decreases-loop-i : goal.decreases-loop-i

@@ -1,9 +1,9 @@
 use Rattle.ir.specs.declared.atom.Atom.TheVariants.{Role as RoleAtom}
-use Rattle.axioms.specs.RoleLaws.{good-vars, hand-three, frame-three, chain-did}
-use Rattle.pool.specs.Layout.{poolOf}
+use Rattle.axioms.specs.RoleLaws.{good_vars, hand_three, frame_three, chain_did}
+use Rattle.pool.specs.Layout.{pool_of}
 use Rattle.ir.specs.declared.counters.Counters.{Counters}
-use Rattle.ir.specs.Roles.{roleOf}
-use Rattle.words.specs.Laws.{length-words}
+use Rattle.ir.specs.Roles.{role_of}
+use Rattle.words.specs.Laws.{length_words}
 use Rattle.words.specs.Words.{words}
 use lib.ListN.{length}
 use native.Mathlib.Omega.{arith}
@@ -19,19 +19,19 @@ fresh_var-m-requires c = let e = ap (λ (x : Counters). x.next_var) c.restart_va
 
 pub push_run-requires : goal.push_run-requires
 push_run-requires c = let room = c.requires.3 in
-    (omega arith, omega arith, omega (arith, room), c.requires.4, (good-vars c.args.k _ _ _ c.restart_vars-l.ensures c.fresh_var.ensures c.fresh_var-m.ensures c.requires.5).1)
+    (omega arith, omega arith, omega (arith, room), c.requires.4, (good_vars c.args.k _ _ _ c.restart_vars-l.ensures c.fresh_var.ensures c.fresh_var-m.ensures c.requires.5).1)
 
 pub returns : goal.returns
 returns c = let A = c.args in
     let w = words c.args.scratch.now in
-    let room : 6 * 13500 + 18 ≤ length (words c.args.scratch.now) = omega (arith, length-words c.args.scratch.now, c.requires.3) in
+    let room : 6 * 13500 + 18 ≤ length (words c.args.scratch.now) = omega (arith, length_words c.args.scratch.now, c.requires.3) in
     let p = c.push_run.ensures in
     let e1 = c.put_atom.ensures in
     let e2 = c.put_atom-2.ensures in
     let e3 = c.put_atom-3.ensures in
-    λ d. chain-did A.k _ _ _ 13500 (poolOf (words c.args.scratch.now) c.args.k.concepts) (words c.args.scratch.now) _ _ _ _ _ d _ _ _ (roleOf A.r) (roleOf A.s) (roleOf A.t) _
+    λ d. chain_did A.k _ _ _ 13500 (pool_of (words c.args.scratch.now) c.args.k.concepts) (words c.args.scratch.now) _ _ _ _ _ d _ _ _ (role_of A.r) (role_of A.s) (role_of A.t) _
     c.restart_vars-l.ensures c.fresh_var.ensures c.fresh_var-m.ensures
     c.canon.ensures.value c.canon-2.ensures.value c.canon-3.ensures.value
-    (frame-three 13500 (words c.args.scratch.now) _ (RoleAtom c.canon.result 0 1) e1 _ (RoleAtom c.canon-2.result 1 2) e2 _ (RoleAtom c.canon-3.result 0 2) e3 room)
-    (hand-three 13500 (words c.args.scratch.now) _ (RoleAtom c.canon.result 0 1) e1 _ (RoleAtom c.canon-2.result 1 2) e2 _ (RoleAtom c.canon-3.result 0 2) e3 room)
+    (frame_three 13500 (words c.args.scratch.now) _ (RoleAtom c.canon.result 0 1) e1 _ (RoleAtom c.canon-2.result 1 2) e2 _ (RoleAtom c.canon-3.result 0 2) e3 room)
+    (hand_three 13500 (words c.args.scratch.now) _ (RoleAtom c.canon.result 0 1) e1 _ (RoleAtom c.canon-2.result 1 2) e2 _ (RoleAtom c.canon-3.result 0 2) e3 room)
     p.d_after p.good_answer p.kept_answer

@@ -1,8 +1,8 @@
 use Rattle.ir.specs.declared.atom.Atom.TheVariants.{Role as RoleAtom}
-use Rattle.axioms.specs.RoleLaws.{good-vars, hand-two, frame-two, not-both-did}
+use Rattle.axioms.specs.RoleLaws.{good_vars, hand_two, frame_two, not_both_did}
 use Rattle.ir.specs.declared.counters.Counters.{Counters}
-use Rattle.ir.specs.Roles.{roleOf}
-use Rattle.words.specs.Laws.{length-words}
+use Rattle.ir.specs.Roles.{role_of}
+use Rattle.words.specs.Laws.{length_words}
 use Rattle.words.specs.Words.{words}
 use lib.ListN.{length}
 use native.Mathlib.Omega.{arith}
@@ -15,16 +15,16 @@ fresh_var-m-requires c = let e = ap (λ (x : Counters). x.next_var) c.restart_va
 
 pub push_none-requires : goal.push_none-requires
 push_none-requires c = let room = c.requires.2 in
-    (omega arith, omega (arith, room), c.requires.3, (good-vars c.args.k _ _ _ c.restart_vars-l.ensures c.fresh_var-m.ensures refl c.requires.4).0)
+    (omega arith, omega (arith, room), c.requires.3, (good_vars c.args.k _ _ _ c.restart_vars-l.ensures c.fresh_var-m.ensures refl c.requires.4).0)
 
 pub returns : goal.returns
 returns c = let w = words c.args.scratch.now in
-    let room : 6 * 13500 + 12 ≤ length (words c.args.scratch.now) = omega (arith, length-words c.args.scratch.now, c.requires.2) in
+    let room : 6 * 13500 + 12 ≤ length (words c.args.scratch.now) = omega (arith, length_words c.args.scratch.now, c.requires.2) in
     let e1 = c.put_atom.ensures in
     let e2 = c.put_atom-2.ensures in
     let x = c.canon in
     let y = c.canon-2 in
     let o = c.second-b in
-    λ d. not-both-did c.args.k _ _ 13500 w _ _ _ d _ x.result y.result (roleOf c.args.r) (roleOf c.args.s) o.result c.args.back _ (omega arith)
+    λ d. not_both_did c.args.k _ _ 13500 w _ _ _ d _ x.result y.result (role_of c.args.r) (role_of c.args.s) o.result c.args.back _ (omega arith)
     c.restart_vars-l.ensures c.fresh_var-m.ensures x.ensures.value y.ensures.value o.ensures.value
-    (frame-two 13500 w _ (RoleAtom x.result 0 1) e1 _ o.result e2 room) (hand-two 13500 w _ (RoleAtom x.result 0 1) e1 _ o.result e2 room) (c.push_none.ensures d)
+    (frame_two 13500 w _ (RoleAtom x.result 0 1) e1 _ o.result e2 room) (hand_two 13500 w _ (RoleAtom x.result 0 1) e1 _ o.result e2 room) (c.push_none.ensures d)

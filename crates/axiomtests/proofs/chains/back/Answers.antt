@@ -3,22 +3,22 @@ use mathlib.Core.Bool.{Bool, not, ◌&&◌}
 use Prim.Native.Nat.{ℕ, ◌-◌, ◌<◌}
 use native.Mathlib.Omega.{arith}
 use lib.Dec.{eqb}
-use Rattle.ir.specs.Roles.{roleOf}
+use Rattle.ir.specs.Roles.{role_of}
 use Rattle.rules.specs.Base.{all}
 use Rattle.rules.specs.Semantics.{related}
 use Rattle.states.specs.Conditions.{rises}
-use Rattle.states.specs.Masks.{maskOf, mask-none}
+use Rattle.states.specs.Masks.{mask_of, mask_none}
 use Rattle.axiomtests.proofs.chains.back.Goals as goal
 
-none : (f : ℕ → Bool) → 0 ≡ maskOf 0 f
-unfolding maskOf
+none : (f : ℕ → Bool) → 0 ≡ mask_of 0 f
+unfolding mask_of
 none f = refl
 
-met : (n m : ℕ) (f : ℕ → Bool) → m ≡ maskOf n f → not (eqb m 0) ≡ not (all (λ w. not (f w)) (rises 0 n))
-met n m f e = ap (λ (k : ℕ). not (eqb k 0)) e ∙ ap not (mask-none n f)
+met : (n m : ℕ) (f : ℕ → Bool) → m ≡ mask_of n f → not (eqb m 0) ≡ not (all (λ w. not (f w)) (rises 0 n))
+met n m f e = ap (λ (k : ℕ). not (eqb k 0)) e ∙ ap not (mask_none n f)
 
 pub loop-y-init : goal.loop-y-init
-loop-y-init c = (omega arith, λ I f e R q. none (λ u. not (all (λ w. not (related I (roleOf c.args.code) u w && f w)) (rises 0 I.size))))
+loop-y-init c = (omega arith, λ I f e R q. none (λ u. not (all (λ w. not (related I (role_of c.args.code) u w && f w)) (rises 0 I.size))))
 
 pub row-requires : goal.row-requires
 row-requires c = (c.requires.0, omega (arith, c.loop-y-test.true, c.requires.1), c.requires.2)
@@ -39,11 +39,11 @@ loop-y-preserved c =
       omega arith,
       λ I f e R g.
           let l : X.y < I.size = omega arith in
-          let r = related I (roleOf c.args.code) in
+          let r = related I (role_of c.args.code) in
           c.grown-found.ensures (λ u. not (all (λ w. not (r u w && f w)) (rises 0 I.size))) (X.invariant.1 I f e R g) (met I.size _ (λ w. r X.y w && f w) (c.both-m.ensures I.size (r X.y) f (c.row.ensures ∙ R X.y l) g)),
     )
 
 pub returns : goal.returns
 returns c =
     let X = c.loop-y in
-    λ I f e R g. X.invariant.1 I f e R g ∙ ap (λ (n : ℕ). maskOf n (λ u. not (all (λ w. not (related I (roleOf c.args.code) u w && f w)) (rises 0 I.size)))) (omega (arith, X.invariant.0, c.loop-y-test.false))
+    λ I f e R g. X.invariant.1 I f e R g ∙ ap (λ (n : ℕ). mask_of n (λ u. not (all (λ w. not (related I (role_of c.args.code) u w && f w)) (rises 0 I.size)))) (omega (arith, X.invariant.0, c.loop-y-test.false))

@@ -4,35 +4,35 @@ use mathlib.Core.List.{List, ◌∷◌}
 use Prim.Native.Nat.{ℕ, suc, ◌-◌, ◌<◌}
 use native.Mathlib.Omega.{arith}
 use Rattle.words.specs.Words.{words}
-use Rattle.ir.specs.Roles.{roleOf}
+use Rattle.ir.specs.Roles.{role_of}
 use Rattle.ir.specs.declared.role.Role.{Role}
 use Rattle.rules.specs.Semantics.{Interpretation}
-use Rattle.states.specs.Conditions.{rises, leastOf, place, chainAt}
+use Rattle.states.specs.Conditions.{rises, least_of, place, chain_at}
 use Rattle.states.specs.HoldsLaws.{onward}
 use Rattle.states.specs.ChainLaws.{walk as walk_of}
 use Rattle.axiomtests.specs.Breaking.{Aside}
-use Rattle.axiomtests.specs.Chains.{partsOf, Chained, AllLeft, ChainIn}
-use Rattle.axiomtests.proofs.AsideLaws.{aside-refl, aside-trans}
-use Rattle.axiomtests.proofs.PathLaws.{chained-kept, chain-kept, parts-kept, length-parts, walk-start, path-here, path-nowhere, onward-is, tried-next}
+use Rattle.axiomtests.specs.Chains.{parts_of, Chained, AllLeft, ChainIn}
+use Rattle.axiomtests.proofs.AsideLaws.{aside_refl, aside_trans}
+use Rattle.axiomtests.proofs.PathLaws.{chained_kept, chain_kept, parts_kept, length_parts, walk_start, path_here, path_nowhere, onward_is, tried_next}
 use Rattle.axiomtests.proofs.chains.least_path.Goals as goal
 
-not-true : (b : Bool) → not b ≡ true → b ≡ false
-not-true true e = sym e
-not-true false e = refl
+not_true : (b : Bool) → not b ≡ true → b ≡ false
+not_true true e = sym e
+not_true false e = refl
 
-not-false : (b : Bool) → not b ≡ false → b ≡ true
-not-false true e = refl
-not-false false e = sym e
+not_false : (b : Bool) → not b ≡ false → b ≡ true
+not_false true e = refl
+not_false false e = sym e
 
 pub loop-x-init : goal.loop-x-init
-loop-x-init c = (refl, omega arith, aside-refl _, λ I C y h. absurd (omega arith))
+loop-x-init c = (refl, omega arith, aside_refl _, λ I C y h. absurd (omega arith))
 
 pub fill_left-requires : goal.fill_left-requires
 fill_left-requires c =
     let X = c.loop-x in
     let a = c.args.c in
     let u = words c.args.scratch.now in
-    let C : ChainIn X.scratch c.args.size a = chain-kept c.args.scratch.now X.scratch c.args.size a X.invariant.2 X.invariant.0 c.requires in
+    let C : ChainIn X.scratch c.args.size a = chain_kept c.args.scratch.now X.scratch c.args.size a X.invariant.2 X.invariant.0 c.requires in
     (C, c.loop-x-test.true)
 
 pub overflow_cast-parts : goal.overflow_cast-parts
@@ -48,7 +48,7 @@ get_set-left-requires c =
     let X = c.loop-x in
     let a = c.args.c in
     let u = words c.args.scratch.now in
-    let C : ChainIn X.scratch c.args.size a = chain-kept c.args.scratch.now X.scratch c.args.size a X.invariant.2 X.invariant.0 c.requires in
+    let C : ChainIn X.scratch c.args.size a = chain_kept c.args.scratch.now X.scratch c.args.size a X.invariant.2 X.invariant.0 c.requires in
     omega (arith, c.requires.short, C.space, c.fill_left.auto.scratch)
 
 pub has-requires : goal.has-requires
@@ -61,13 +61,13 @@ walk-requires c =
     let a = c.args.c in
     let u = words c.args.scratch.now in
     let v = words c.fill_left.new.scratch in
-    let still : Aside u v = aside-trans u (words X.scratch) v X.invariant.2 c.fill_left.ensures.aside in
-    let chained : (I : Interpretation) → Chained I u c.args.size a → Chained I v c.args.size a = λ I K. chained-kept u v a still c.requires.among I c.args.size K in
-    let left : (I : Interpretation) → Chained I u c.args.size a → AllLeft I v a X.x = λ I K. c.fill_left.ensures.all_left I (chained-kept u (words X.scratch) a X.invariant.2 c.requires.among I c.args.size K) in
-    let told : (I : Interpretation) → Chained I u c.args.size a → c.has.result ≡ not (onward I (roleOf a.sup) X.x (partsOf u a) X.x) =
-    λ I K. onward-is u v c.args.size a X.x still c.requires.among c.loop-x-test.true c.has.result (λ n g l e. c.has.ensures.by_index n g l (c.get_set-left.ensures ∙ e)) I (chained I K) (left I K) in
+    let still : Aside u v = aside_trans u (words X.scratch) v X.invariant.2 c.fill_left.ensures.aside in
+    let chained : (I : Interpretation) → Chained I u c.args.size a → Chained I v c.args.size a = λ I K. chained_kept u v a still c.requires.among I c.args.size K in
+    let left : (I : Interpretation) → Chained I u c.args.size a → AllLeft I v a X.x = λ I K. c.fill_left.ensures.all_left I (chained_kept u (words X.scratch) a X.invariant.2 c.requires.among I c.args.size K) in
+    let told : (I : Interpretation) → Chained I u c.args.size a → c.has.result ≡ not (onward I (role_of a.sup) X.x (parts_of u a) X.x) =
+    λ I K. onward_is u v c.args.size a X.x still c.requires.among c.loop-x-test.true c.has.result (λ n g l e. c.has.ensures.by_index n g l (c.get_set-left.ensures ∙ e)) I (chained I K) (left I K) in
     let P = c.requires in
-    walk-start c.args.scratch.now _ c.args.size a X.x P still (c.fill_left.auto.scratch ∙ X.invariant.0) (left P.meant P.chained) c.loop-x-test.true (not-true _ (sym (told P.meant P.chained) ∙ c.if-has.true))
+    walk_start c.args.scratch.now _ c.args.size a X.x P still (c.fill_left.auto.scratch ∙ X.invariant.0) (left P.meant P.chained) c.loop-x-test.true (not_true _ (sym (told P.meant P.chained) ∙ c.if-has.true))
 
 pub overflow_add-shown : goal.overflow_add-shown
 overflow_add-shown c =
@@ -83,19 +83,19 @@ returns-then-has c =
     let a = c.args.c in
     let u = words c.args.scratch.now in
     let v = words c.fill_left.new.scratch in
-    let still : Aside u v = aside-trans u (words X.scratch) v X.invariant.2 c.fill_left.ensures.aside in
-    let chained : (I : Interpretation) → Chained I u c.args.size a → Chained I v c.args.size a = λ I K. chained-kept u v a still c.requires.among I c.args.size K in
-    let left : (I : Interpretation) → Chained I u c.args.size a → AllLeft I v a X.x = λ I K. c.fill_left.ensures.all_left I (chained-kept u (words X.scratch) a X.invariant.2 c.requires.among I c.args.size K) in
-    let told : (I : Interpretation) → Chained I u c.args.size a → c.has.result ≡ not (onward I (roleOf a.sup) X.x (partsOf u a) X.x) =
-    λ I K. onward-is u v c.args.size a X.x still c.requires.among c.loop-x-test.true c.has.result (λ n g l e. c.has.ensures.by_index n g l (c.get_set-left.ensures ∙ e)) I (chained I K) (left I K) in
-    let sup = roleOf a.sup in
-    let parts = partsOf u a in record {
-      aside = aside-trans u v _ still c.walk.ensures.aside;
+    let still : Aside u v = aside_trans u (words X.scratch) v X.invariant.2 c.fill_left.ensures.aside in
+    let chained : (I : Interpretation) → Chained I u c.args.size a → Chained I v c.args.size a = λ I K. chained_kept u v a still c.requires.among I c.args.size K in
+    let left : (I : Interpretation) → Chained I u c.args.size a → AllLeft I v a X.x = λ I K. c.fill_left.ensures.all_left I (chained_kept u (words X.scratch) a X.invariant.2 c.requires.among I c.args.size K) in
+    let told : (I : Interpretation) → Chained I u c.args.size a → c.has.result ≡ not (onward I (role_of a.sup) X.x (parts_of u a) X.x) =
+    λ I K. onward_is u v c.args.size a X.x still c.requires.among c.loop-x-test.true c.has.result (λ n g l e. c.has.ensures.by_index n g l (c.get_set-left.ensures ∙ e)) I (chained I K) (left I K) in
+    let sup = role_of a.sup in
+    let parts = parts_of u a in record {
+      aside = aside_trans u v _ still c.walk.ensures.aside;
       result_after = λ I C.
           let l : X.x < I.size = omega (arith, c.loop-x-test.true, C.sized) in
-          path-here I sup parts X.x _ l (λ y k. X.invariant.3 I C y k) (not-true _ (sym (told I C) ∙ c.if-has.true))
-          (c.walk.ensures.parts_after I (chained I C) (left I C) ∙ ap (λ (p : List Role). X.x ∷ walk_of I sup X.x p X.x) (parts-kept u v a still c.requires.among))
-          ∙ ap (λ (k : ℕ). leastOf (rises 0 I.size) (suc k) (λ l. chainAt I sup (place l 0) parts l)) (length-parts u a);
+          path_here I sup parts X.x _ l (λ y k. X.invariant.3 I C y k) (not_true _ (sym (told I C) ∙ c.if-has.true))
+          (c.walk.ensures.parts_after I (chained I C) (left I C) ∙ ap (λ (p : List Role). X.x ∷ walk_of I sup X.x p X.x) (parts_kept u v a still c.requires.among))
+          ∙ ap (λ (k : ℕ). least_of (rises 0 I.size) (suc k) (λ l. chain_at I sup (place l 0) parts l)) (length_parts u a);
     }
 
 pub overflow_add-x : goal.overflow_add-x
@@ -112,15 +112,15 @@ loop-x-preserved c =
     let a = c.args.c in
     let u = words c.args.scratch.now in
     let v = words c.fill_left.new.scratch in
-    let still : Aside u v = aside-trans u (words X.scratch) v X.invariant.2 c.fill_left.ensures.aside in
-    let chained : (I : Interpretation) → Chained I u c.args.size a → Chained I v c.args.size a = λ I K. chained-kept u v a still c.requires.among I c.args.size K in
-    let left : (I : Interpretation) → Chained I u c.args.size a → AllLeft I v a X.x = λ I K. c.fill_left.ensures.all_left I (chained-kept u (words X.scratch) a X.invariant.2 c.requires.among I c.args.size K) in
-    let told : (I : Interpretation) → Chained I u c.args.size a → c.has.result ≡ not (onward I (roleOf a.sup) X.x (partsOf u a) X.x) =
-    λ I K. onward-is u v c.args.size a X.x still c.requires.among c.loop-x-test.true c.has.result (λ n g l e. c.has.ensures.by_index n g l (c.get_set-left.ensures ∙ e)) I (chained I K) (left I K) in (
+    let still : Aside u v = aside_trans u (words X.scratch) v X.invariant.2 c.fill_left.ensures.aside in
+    let chained : (I : Interpretation) → Chained I u c.args.size a → Chained I v c.args.size a = λ I K. chained_kept u v a still c.requires.among I c.args.size K in
+    let left : (I : Interpretation) → Chained I u c.args.size a → AllLeft I v a X.x = λ I K. c.fill_left.ensures.all_left I (chained_kept u (words X.scratch) a X.invariant.2 c.requires.among I c.args.size K) in
+    let told : (I : Interpretation) → Chained I u c.args.size a → c.has.result ≡ not (onward I (role_of a.sup) X.x (parts_of u a) X.x) =
+    λ I K. onward_is u v c.args.size a X.x still c.requires.among c.loop-x-test.true c.has.result (λ n g l e. c.has.ensures.by_index n g l (c.get_set-left.ensures ∙ e)) I (chained I K) (left I K) in (
       c.fill_left.auto.scratch ∙ X.invariant.0,
       omega (arith, c.loop-x-test.true),
       still,
-      tried-next u v c.args.size a X.x still c.requires.among c.loop-x-test.true X.invariant.3 (λ I C. not-false _ (sym (told I C) ∙ c.if-has.false)),
+      tried_next u v c.args.size a X.x still c.requires.among c.loop-x-test.true X.invariant.3 (λ I C. not_false _ (sym (told I C) ∙ c.if-has.false)),
     )
 
 pub shape_of-scratch : goal.shape_of-scratch
@@ -130,8 +130,8 @@ pub returns : goal.returns
 returns c =
     let X = c.loop-x in
     let u = words c.args.scratch.now in
-    let sup = roleOf c.args.c.sup in
-    let parts = partsOf u c.args.c in record {
+    let sup = role_of c.args.c.sup in
+    let parts = parts_of u c.args.c in record {
       aside = X.invariant.2;
-      result_after = λ I C. path-nowhere I sup parts (λ y l. X.invariant.3 I C y (omega (arith, C.sized, c.loop-x-test.false))) ∙ ap (λ (k : ℕ). leastOf (rises 0 I.size) (suc k) (λ l. chainAt I sup (place l 0) parts l)) (length-parts u c.args.c);
+      result_after = λ I C. path_nowhere I sup parts (λ y l. X.invariant.3 I C y (omega (arith, C.sized, c.loop-x-test.false))) ∙ ap (λ (k : ℕ). least_of (rises 0 I.size) (suc k) (λ l. chain_at I sup (place l 0) parts l)) (length_parts u c.args.c);
     }

@@ -2,16 +2,16 @@ use Prim.Native.Nat.{◌+◌, ◌-◌}
 use native.Mathlib.Omega.{arith}
 use borrow.Author.Tests.{leb-true}
 use Rattle.rules.specs.Semantics.{means}
-use Rattle.axiomtests.proofs.LineLaws.{concepts-of, concepts-there}
-use Rattle.axiomtests.proofs.ArmLaws.{disjoint-in, disjoint-set}
+use Rattle.axiomtests.proofs.LineLaws.{concepts_of, concepts_there}
+use Rattle.axiomtests.proofs.ArmLaws.{disjoint_in, disjoint_set}
 use Rattle.axiomtests.proofs.elements.disjoint.Goals as goal
 
 pub clashes-requires : goal.clashes-requires
 clashes-requires c =
     let P = c.requires in
     let one = leb-true 1 c.args.count P.line.fields in
-    concepts-there c.args.scratch.now P.line P.space (c.args.at + 1) (c.args.count - 1) (omega (arith, P.line.below)) (disjoint-in P.line)
+    concepts_there c.args.scratch.now P.line P.space (c.args.at + 1) (c.args.count - 1) (omega (arith, P.line.below)) (disjoint_in P.line)
 
 pub returns : goal.returns
 returns c =
-    λ w d I L. disjoint-set L _ (c.clashes.ensures I.size (means I d.concepts) (concepts-of L (c.args.at + 1) (c.args.count - 1) (disjoint-in L)))
+    λ w d I L. disjoint_set L _ (c.clashes.ensures I.size (means I d.concepts) (concepts_of L (c.args.at + 1) (c.args.count - 1) (disjoint_in L)))

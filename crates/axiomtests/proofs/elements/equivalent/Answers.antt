@@ -1,15 +1,15 @@
 use Prim.Native.Nat.{◌+◌, ◌-◌}
 use native.Mathlib.Omega.{arith}
 use borrow.Author.Tests.{leb-true}
-use Rattle.axiomtests.proofs.LineLaws.{few-elements, concepts-there}
-use Rattle.axiomtests.proofs.ArmLaws.{equivalent-in, equivalent-set}
+use Rattle.axiomtests.proofs.LineLaws.{few_elements, concepts_there}
+use Rattle.axiomtests.proofs.ArmLaws.{equivalent_in, equivalent_set}
 use Rattle.axiomtests.proofs.elements.equivalent.Goals as goal
 
 pub unlike-requires : goal.unlike-requires
 unlike-requires c =
     let P = c.requires in
     let one = leb-true 1 c.args.count P.line.fields in
-    (concepts-there c.args.scratch.now P.line P.space (c.args.at + 1) (c.args.count - 1) (omega (arith, P.line.below)) (equivalent-in P.line), few-elements P.line)
+    (concepts_there c.args.scratch.now P.line P.space (c.args.at + 1) (c.args.count - 1) (omega (arith, P.line.below)) (equivalent_in P.line), few_elements P.line)
 
 pub returns : goal.returns
-returns c = λ w d I L. equivalent-set L _ c.unlike.ensures
+returns c = λ w d I L. equivalent_set L _ c.unlike.ensures

@@ -3,19 +3,19 @@ use mathlib.Core.Bool.{not, ◌||◌}
 use Prim.Native.Nat.{ℕ}
 use lib.Dec.{eqb}
 use Rattle.words.specs.Words.{words}
-use Rattle.axiomtests.specs.Lists.{numberOf}
-use Rattle.axiomtests.proofs.ListLaws.{clash-both, clash-none}
+use Rattle.axiomtests.specs.Lists.{number_of}
+use Rattle.axiomtests.proofs.ListLaws.{clash_both, clash_none}
 use Rattle.axiomtests.proofs.members.clash.Goals as goal
 
 pub returns-then-clashing : goal.returns-then-clashing
 returns-then-clashing c =
     let a = c.args.a in
-    let b = numberOf (words c.args.scratch.now) c.args.l c.args.k in
+    let b = number_of (words c.args.scratch.now) c.args.l c.args.k in
     λ n f M e. c.both.ensures n (f a) (f b) e (c.member.ensures ∙ M c.args.k c.requires.1)
-    ∙ clash-both n f c.args.always a b (ap (λ (i : ℕ). c.args.always || not (eqb a i)) (sym c.get_word-b.ensures) ∙ sym c.clashing.ensures ∙ c.if-clashing.true)
+    ∙ clash_both n f c.args.always a b (ap (λ (i : ℕ). c.args.always || not (eqb a i)) (sym c.get_word-b.ensures) ∙ sym c.clashing.ensures ∙ c.if-clashing.true)
 
 pub returns : goal.returns
 returns c =
     let a = c.args.a in
-    let b = numberOf (words c.args.scratch.now) c.args.l c.args.k in
-    λ n f M e. clash-none n f c.args.always a b (ap (λ (i : ℕ). c.args.always || not (eqb a i)) (sym c.get_word-b.ensures) ∙ sym c.clashing.ensures ∙ c.if-clashing.false)
+    let b = number_of (words c.args.scratch.now) c.args.l c.args.k in
+    λ n f M e. clash_none n f c.args.always a b (ap (λ (i : ℕ). c.args.always || not (eqb a i)) (sym c.get_word-b.ensures) ∙ sym c.clashing.ensures ∙ c.if-clashing.false)

@@ -1,11 +1,11 @@
 use Prim.Native.Nat.{ℕ, ◌≤◌}
 use Rattle.words.specs.Words.{words}
-use Rattle.axiomtests.specs.Lists.{clashesAt}
+use Rattle.axiomtests.specs.Lists.{clashes_at}
 use Rattle.axiomtests.proofs.ListLaws.{Found}
 use Rattle.axiomtests.proofs.members.clashes.Given as goal
 
 abbrev pub invariant-loop-j : goal.invariant-loop-j
-invariant-loop-j live = (live.j ≤ live.l.count) × ((n : ℕ) → Found (clashesAt live.always) n (words live.scratch) live.l live.j live.found)
+invariant-loop-j live = (live.j ≤ live.l.count) × ((n : ℕ) → Found (clashes_at live.always) n (words live.scratch) live.l live.j live.found)
 
 abbrev pub decreases-loop-j : goal.decreases-loop-j
 decreases-loop-j l = l.j

@@ -1,18 +1,18 @@
 use Prim.Native.Nat.{◌+◌, ◌-◌}
 use native.Mathlib.Omega.{arith}
 use borrow.Author.Tests.{leb-true}
-use Rattle.ir.specs.Roles.{roleOf}
+use Rattle.ir.specs.Roles.{role_of}
 use Rattle.rules.specs.Semantics.{related}
-use Rattle.axiomtests.proofs.LineLaws.{rows-in, rows-there}
-use Rattle.axiomtests.proofs.ArmLaws.{disjoint-roles-in, disjoint-roles-set}
+use Rattle.axiomtests.proofs.LineLaws.{rows_in, rows_there}
+use Rattle.axiomtests.proofs.ArmLaws.{disjoint_roles_in, disjoint_roles_set}
 use Rattle.axiomtests.proofs.pairs.disjoint_roles.Goals as goal
 
 pub clashes-requires : goal.clashes-requires
 clashes-requires c =
     let P = c.requires.0 in
     let one = leb-true 1 c.args.count P.line.fields in
-    rows-there c.args.scratch.now P.line P.space (c.args.at + 1) (c.args.count - 1) (omega (arith, P.line.below)) c.args.x c.requires.1 (disjoint-roles-in P.line)
+    rows_there c.args.scratch.now P.line P.space (c.args.at + 1) (c.args.count - 1) (omega (arith, P.line.below)) c.args.x c.requires.1 (disjoint_roles_in P.line)
 
 pub returns : goal.returns
 returns c =
-    λ d I w L. disjoint-roles-set L c.args.x _ (c.clashes.ensures I.size (λ k. related I (roleOf k) c.args.x) (rows-in L (c.args.at + 1) (c.args.count - 1) c.args.x c.requires.1 (disjoint-roles-in L)))
+    λ d I w L. disjoint_roles_set L c.args.x _ (c.clashes.ensures I.size (λ k. related I (role_of k) c.args.x) (rows_in L (c.args.at + 1) (c.args.count - 1) c.args.x c.requires.1 (disjoint_roles_in L)))

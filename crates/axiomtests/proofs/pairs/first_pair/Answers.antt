@@ -5,16 +5,16 @@ use native.Mathlib.Omega.{arith}
 use lib.Dec.{ltb}
 use borrow.Author.Tests.{ltb-true, ltb-false}
 use Rattle.words.specs.Words.{words}
-use Rattle.meaning.specs.Truth.{by-truth}
-use Rattle.states.specs.Conditions.{axiomHoldsAt}
+use Rattle.meaning.specs.Truth.{by_truth}
+use Rattle.states.specs.Conditions.{axiom_holds_at}
 use Rattle.extents.specs.declared.Trial.{Trial}
-use Rattle.ontology.specs.Rows.{rowAxiom}
+use Rattle.ontology.specs.Rows.{row_axiom}
 use Rattle.axiomtests.specs.Lines.{Behind}
-use Rattle.axiomtests.proofs.PairLaws.{pair-here, pair-nowhere}
+use Rattle.axiomtests.proofs.PairLaws.{pair_here, pair_nowhere}
 use Rattle.axiomtests.proofs.pairs.first_pair.Goals as goal
 
 none_more : (v : List ℕ) (t : Trial) (kind at count x m : ℕ) → ((y : ℕ) → y < x → Behind v t kind at count y 0) → Behind v t kind at count x m → m ≡ 0 → (y : ℕ) → y < x + 1 → Behind v t kind at count y 0
-none_more v t kind at count x m F B e y h = by-truth (ltb y x) (λ q. F y (ltb-true y x q)) (λ q. let l = ltb-false y x q in let z : x ≡ y = omega arith in subst (λ (k : ℕ). Behind v t kind at count k 0) z (subst (Behind v t kind at count x) e B))
+none_more v t kind at count x m F B e y h = by_truth (ltb y x) (λ q. F y (ltb-true y x q)) (λ q. let l = ltb-false y x q in let z : x ≡ y = omega arith in subst (λ (k : ℕ). Behind v t kind at count k 0) z (subst (Behind v t kind at count x) e B))
 
 pub loop-x-init : goal.loop-x-init
 loop-x-init c = (omega arith, λ y h. absurd (omega arith))
@@ -29,7 +29,7 @@ returns-then-m-ne0 c =
     record {
       among = h;
       set = c.pair_mask-m.ensures;
-      least = λ d I w L. pair-here I.size (axiomHoldsAt I d.concepts (rowAxiom (words c.args.scratch.now) c.args.kind c.args.at c.args.count)) X.x _ (omega (arith, L.fits.size)) (λ y l. X.invariant.1 y l d I w L) (c.pair_mask-m.ensures d I w L) c.if-m-ne0.true;
+      least = λ d I w L. pair_here I.size (axiom_holds_at I d.concepts (row_axiom (words c.args.scratch.now) c.args.kind c.args.at c.args.count)) X.x _ (omega (arith, L.fits.size)) (λ y l. X.invariant.1 y l d I w L) (c.pair_mask-m.ensures d I w L) c.if-m-ne0.true;
     }
 
 pub overflow_add-x : goal.overflow_add-x
@@ -52,5 +52,5 @@ returns c =
     record {
       among = some;
       set = X.invariant.1 0 (omega arith);
-      least = λ d I w L. pair-nowhere I.size (axiomHoldsAt I d.concepts (rowAxiom (words c.args.scratch.now) c.args.kind c.args.at c.args.count)) L.ready.laid.some (λ y l. X.invariant.1 y (omega (arith, L.fits.size)) d I w L);
+      least = λ d I w L. pair_nowhere I.size (axiom_holds_at I d.concepts (row_axiom (words c.args.scratch.now) c.args.kind c.args.at c.args.count)) L.ready.laid.some (λ y l. X.invariant.1 y (omega (arith, L.fits.size)) d I w L);
     }

@@ -2,7 +2,7 @@ use mathlib.Core.Path.{sym, subst}
 use Prim.Native.Nat.{ℕ}
 use Rattle.words.specs.Words.{words}
 use Rattle.axiomtests.specs.Lines.{LineIn, Behind}
-use Rattle.axiomtests.proofs.KindLaws.{last-pair}
+use Rattle.axiomtests.proofs.KindLaws.{last_pair}
 use Rattle.axiomtests.proofs.pairs.pair_mask.Goals as goal
 
 pub domain-requires : goal.domain-requires
@@ -42,7 +42,7 @@ pub returns-then-kind-eq33 : goal.returns-then-kind-eq33
 returns-then-kind-eq33 c = subst (λ (k : ℕ). Behind (words c.args.scratch.now) c.args.t k c.args.at c.args.count c.args.x c.sub_role.result) (sym c.if-kind-eq33.true) c.sub_role.ensures
 
 pub equivalent_roles-requires : goal.equivalent_roles-requires
-equivalent_roles-requires c = (subst (λ (k : ℕ). LineIn c.args.scratch.now c.args.t k c.args.at c.args.count) (last-pair c.args.kind c.requires.1 c.if-kind-eq25.false c.if-kind-eq26.false c.if-kind-eq30.false c.if-kind-eq31.false c.if-kind-eq32.false c.if-kind-eq33.false) c.requires.0, c.requires.2)
+equivalent_roles-requires c = (subst (λ (k : ℕ). LineIn c.args.scratch.now c.args.t k c.args.at c.args.count) (last_pair c.args.kind c.requires.1 c.if-kind-eq25.false c.if-kind-eq26.false c.if-kind-eq30.false c.if-kind-eq31.false c.if-kind-eq32.false c.if-kind-eq33.false) c.requires.0, c.requires.2)
 
 pub returns : goal.returns
-returns c = subst (λ (k : ℕ). Behind (words c.args.scratch.now) c.args.t k c.args.at c.args.count c.args.x c.equivalent_roles.result) (sym (last-pair c.args.kind c.requires.1 c.if-kind-eq25.false c.if-kind-eq26.false c.if-kind-eq30.false c.if-kind-eq31.false c.if-kind-eq32.false c.if-kind-eq33.false)) c.equivalent_roles.ensures
+returns c = subst (λ (k : ℕ). Behind (words c.args.scratch.now) c.args.t k c.args.at c.args.count c.args.x c.equivalent_roles.result) (sym (last_pair c.args.kind c.requires.1 c.if-kind-eq25.false c.if-kind-eq26.false c.if-kind-eq30.false c.if-kind-eq31.false c.if-kind-eq32.false c.if-kind-eq33.false)) c.equivalent_roles.ensures

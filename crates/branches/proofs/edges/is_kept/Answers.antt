@@ -2,19 +2,19 @@ use Prim.Native.Nat.{◌-◌}
 use mathlib.Core.Path.{sym, ◌∙◌}
 use native.Mathlib.Omega.{arith}
 use Rattle.words.specs.Words.{words}
-use Rattle.words.specs.Laws.{length-words}
-use Rattle.branches.specs.Layout.{keepAt}
-use Rattle.branches.specs.KeptLaws.{seeking-start, seeking-found, seeking-on, seeking-end}
+use Rattle.words.specs.Laws.{length_words}
+use Rattle.branches.specs.Layout.{keep_at}
+use Rattle.branches.specs.KeptLaws.{seeking_start, seeking_found, seeking_on, seeking_end}
 use Rattle.branches.proofs.edges.is_kept.Goals as goal
 
 pub loop-i-init : goal.loop-i-init
-loop-i-init c = seeking-start keepAt (words c.args.scratch.now) c.args.n c.args.v
+loop-i-init c = seeking_start keep_at (words c.args.scratch.now) c.args.n c.args.v
 
 pub returns-then-get_word-v : goal.returns-then-get_word-v
-returns-then-get_word-v c = let L = c.loop-i in seeking-found keepAt (words c.args.scratch.now) c.args.n c.args.v L.i (omega (arith, c.requires.0, c.requires.1, length-words c.args.scratch.now)) L.invariant c.loop-i-test.true (sym c.get_word.ensures ∙ c.if-get_word-v.true)
+returns-then-get_word-v c = let L = c.loop-i in seeking_found keep_at (words c.args.scratch.now) c.args.n c.args.v L.i (omega (arith, c.requires.0, c.requires.1, length_words c.args.scratch.now)) L.invariant c.loop-i-test.true (sym c.get_word.ensures ∙ c.if-get_word-v.true)
 
 pub loop-i-preserved : goal.loop-i-preserved
-loop-i-preserved c = let L = c.loop-i in seeking-on keepAt (words c.args.scratch.now) c.args.n c.args.v L.i (omega (arith, c.requires.0, c.requires.1, length-words c.args.scratch.now)) L.invariant c.loop-i-test.true (λ e. c.if-get_word-v.false (c.get_word.ensures ∙ e))
+loop-i-preserved c = let L = c.loop-i in seeking_on keep_at (words c.args.scratch.now) c.args.n c.args.v L.i (omega (arith, c.requires.0, c.requires.1, length_words c.args.scratch.now)) L.invariant c.loop-i-test.true (λ e. c.if-get_word-v.false (c.get_word.ensures ∙ e))
 
 pub returns : goal.returns
-returns c = let L = c.loop-i in seeking-end keepAt (words c.args.scratch.now) c.args.n c.args.v L.i (omega (arith, c.requires.0, c.requires.1, length-words c.args.scratch.now)) L.invariant c.loop-i-test.false
+returns c = let L = c.loop-i in seeking_end keep_at (words c.args.scratch.now) c.args.n c.args.v L.i (omega (arith, c.requires.0, c.requires.1, length_words c.args.scratch.now)) L.invariant c.loop-i-test.false

@@ -1,6 +1,6 @@
 use native.Mathlib.Omega.{arith}
 use mathlib.Core.List.{[], ◌∷◌}
-use Rattle.rows.specs.RowLaws.{length-line}
+use Rattle.rows.specs.RowLaws.{length_line}
 use Rattle.clauses.proofs.lines.put_refusal.Goals as goal
 
 pub returns : goal.returns
@@ -9,5 +9,5 @@ returns c =
     let a = c.args in
     record {
       put = p.ensures;
-      upper_bound = omega (arith, p.ensures.end, length-line (49 ∷ a.number ∷ a.line ∷ []));
+      upper_bound = omega (arith, p.ensures.end, length_line (49 ∷ a.number ∷ a.line ∷ []));
     }

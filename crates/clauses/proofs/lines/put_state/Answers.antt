@@ -1,9 +1,9 @@
 use mathlib.Core.List.{[], ◌∷◌}
 use native.Mathlib.Omega.{arith}
 use Rattle.words.specs.Words.{words}
-use Rattle.words.specs.Laws.{length-words}
-use Rattle.rows.specs.RowLaws.{length-line}
-use Rattle.clauses.proofs.LineLaws.{state-listable, state-clauses, state-deferrals, clauses-end, deferrals-end, state-put}
+use Rattle.words.specs.Laws.{length_words}
+use Rattle.rows.specs.RowLaws.{length_line}
+use Rattle.clauses.proofs.LineLaws.{state_listable, state_clauses, state_deferrals, clauses_end, deferrals_end, state_put}
 use Rattle.clauses.proofs.lines.put_state.Goals as goal
 
 pub put_clauses-p-requires : goal.put_clauses-p-requires
@@ -14,7 +14,7 @@ put_clauses-p-requires c =
     let a₁ = words a.atoms.now in
     let d₁ = words a.deferrals.now in
     let S = c.requires.0 in
-    state-listable k c₁ a₁ d₁ S.state S.shows _ c.requires.1
+    state_listable k c₁ a₁ d₁ S.state S.shows _ c.requires.1
 
 pub put_deferrals-q-requires : goal.put_deferrals-q-requires
 put_deferrals-q-requires c =
@@ -25,9 +25,9 @@ put_deferrals-q-requires c =
     let d₁ = words a.deferrals.now in
     let S = c.requires.0 in
     let p = c.put_clauses-p in
-    let x = state-clauses k c₁ a₁ d₁ S.state S.shows p.ensures in
-    let few = state-deferrals k c₁ a₁ d₁ S.state S.shows in
-    (omega (arith, few.1, length-words a.deferrals.now), omega (arith, few.0, clauses-end k c₁ a₁ d₁ S.state S.shows x, c.requires.1, p.auto.out))
+    let x = state_clauses k c₁ a₁ d₁ S.state S.shows p.ensures in
+    let few = state_deferrals k c₁ a₁ d₁ S.state S.shows in
+    (omega (arith, few.1, length_words a.deferrals.now), omega (arith, few.0, clauses_end k c₁ a₁ d₁ S.state S.shows x, c.requires.1, p.auto.out))
 
 pub put_sums-requires : goal.put_sums-requires
 put_sums-requires c =
@@ -39,8 +39,8 @@ put_sums-requires c =
     let S = c.requires.0 in
     let p = c.put_clauses-p in
     let q = c.put_deferrals-q in
-    let x = state-clauses k c₁ a₁ d₁ S.state S.shows p.ensures in
-    omega (arith, deferrals-end k c₁ a₁ d₁ S.state S.shows x q.ensures, c.requires.1, p.auto.out, q.auto.out)
+    let x = state_clauses k c₁ a₁ d₁ S.state S.shows p.ensures in
+    omega (arith, deferrals_end k c₁ a₁ d₁ S.state S.shows x q.ensures, c.requires.1, p.auto.out, q.auto.out)
 
 pub returns : goal.returns
 returns c =
@@ -53,7 +53,7 @@ returns c =
     let p = c.put_clauses-p in
     let q = c.put_deferrals-q in
     let r = c.put_sums in
-    let x = state-clauses k c₁ a₁ d₁ S.state S.shows p.ensures in record {
-      put = (λ z T. state-put k c₁ a₁ d₁ z T (state-clauses k c₁ a₁ d₁ z T p.ensures) q.ensures r.ensures);
-      upper_bound = omega (arith, deferrals-end k c₁ a₁ d₁ S.state S.shows x q.ensures, r.ensures.end, length-line (44 ∷ k.clauses ∷ k.atoms ∷ k.deferrals ∷ k.next_class ∷ k.visits ∷ k.concepts ∷ k.members ∷ []));
+    let x = state_clauses k c₁ a₁ d₁ S.state S.shows p.ensures in record {
+      put = (λ z T. state_put k c₁ a₁ d₁ z T (state_clauses k c₁ a₁ d₁ z T p.ensures) q.ensures r.ensures);
+      upper_bound = omega (arith, deferrals_end k c₁ a₁ d₁ S.state S.shows x q.ensures, r.ensures.end, length_line (44 ∷ k.clauses ∷ k.atoms ∷ k.deferrals ∷ k.next_class ∷ k.visits ∷ k.concepts ∷ k.members ∷ []));
     }

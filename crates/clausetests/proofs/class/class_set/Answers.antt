@@ -1,16 +1,16 @@
 use mathlib.Core.Path.{◌∙◌}
 use native.Mathlib.Omega.{arith}
-use Rattle.words.specs.Laws.{length-words}
+use Rattle.words.specs.Laws.{length_words}
 use Rattle.words.specs.Words.{words}
-use Rattle.clausetests.specs.SetLaws.{class-kept, class-found}
+use Rattle.clausetests.specs.SetLaws.{class_kept, class_found}
 use Rattle.clausetests.proofs.class.class_set.Goals as goal
 
 pub returns-then-i-store : goal.returns-then-i-store
 returns-then-i-store c =
     let a = c.args in
-    λ I roles v G. c.get_set.ensures ∙ class-kept I roles a.size a.text.now (words a.store.now) v G a.c (omega (arith, c.if-i-store.true, length-words a.store.now))
+    λ I roles v G. c.get_set.ensures ∙ class_kept I roles a.size a.text.now (words a.store.now) v G a.c (omega (arith, c.if-i-store.true, length_words a.store.now))
 
 pub returns : goal.returns
 returns c =
     let a = c.args in
-    λ I roles v G. c.scan.ensures ∙ class-found I roles a.size a.text.now (words a.store.now) v G a.c (omega (arith, c.if-i-store.false, length-words a.store.now))
+    λ I roles v G. c.scan.ensures ∙ class_found I roles a.size a.text.now (words a.store.now) v G a.c (omega (arith, c.if-i-store.false, length_words a.store.now))

@@ -2,19 +2,19 @@ use mathlib.Core.Path.{sym, ap, ◌∙◌}
 use Prim.Native.Nat.{suc, ◌-◌}
 use native.Mathlib.Omega.{arith}
 use lib.ListN.{length, drop}
-use Rattle.states.specs.ScanLaws.{scanBy}
-use Rattle.clausetests.specs.ScanCode.{setOf, set-none, left-first, left-end, left-broken, left-found, left-next}
+use Rattle.states.specs.ScanLaws.{scan_by}
+use Rattle.clausetests.specs.ScanCode.{set_of, set_none, left_first, left_end, left_broken, left_found, left_next}
 use Rattle.clausetests.proofs.class.scan_lines.Goals as goal
 
 pub loop-p-init : goal.loop-p-init
-loop-p-init c = let a = c.args in left-first a.text.now a.c a.from c.requires.0
+loop-p-init c = let a = c.args in left_first a.text.now a.c a.from c.requires.0
 
 pub returns-then-n-eq0 : goal.returns-then-n-eq0
 returns-then-n-eq0 c =
     let a = c.args in
     let L = c.loop-p in
     let R = c.fields-n in
-    set-none a.size ∙ ap (setOf a.size) (sym (left-broken a.text.now a.c L.p (scanBy (suc (length (drop a.from a.text.now))) (drop a.from a.text.now) a.c) L.invariant R.result c.loop-p-test.true R.ensures.result_value c.if-n-eq0.true))
+    set_none a.size ∙ ap (set_of a.size) (sym (left_broken a.text.now a.c L.p (scan_by (suc (length (drop a.from a.text.now))) (drop a.from a.text.now) a.c) L.invariant R.result c.loop-p-test.true R.ensures.result_value c.if-n-eq0.true))
 
 pub is_line-requires : goal.is_line-requires
 is_line-requires c = omega (arith, c.fields-n.ensures.result_in_bounds)
@@ -27,17 +27,17 @@ returns-then-is_line c =
     let a = c.args in
     let L = c.loop-p in
     let R = c.fields-n in
-    c.line_set.ensures ∙ ap (setOf a.size) (sym (left-found a.text.now a.c L.p (scanBy (suc (length (drop a.from a.text.now))) (drop a.from a.text.now) a.c) L.invariant R.result c.loop-p-test.true R.ensures.result_value c.if-n-eq0.false (sym c.is_line.ensures ∙ c.if-is_line.true)))
+    c.line_set.ensures ∙ ap (set_of a.size) (sym (left_found a.text.now a.c L.p (scan_by (suc (length (drop a.from a.text.now))) (drop a.from a.text.now) a.c) L.invariant R.result c.loop-p-test.true R.ensures.result_value c.if-n-eq0.false (sym c.is_line.ensures ∙ c.if-is_line.true)))
 
 pub loop-p-preserved : goal.loop-p-preserved
 loop-p-preserved c =
     let a = c.args in
     let L = c.loop-p in
     let R = c.fields-n in
-    left-next a.text.now a.c L.p (scanBy (suc (length (drop a.from a.text.now))) (drop a.from a.text.now) a.c) L.invariant R.result c.loop-p-test.true R.ensures.result_value c.if-n-eq0.false R.ensures.result_in_bounds (sym c.is_line.ensures ∙ c.if-is_line.false)
+    left_next a.text.now a.c L.p (scan_by (suc (length (drop a.from a.text.now))) (drop a.from a.text.now) a.c) L.invariant R.result c.loop-p-test.true R.ensures.result_value c.if-n-eq0.false R.ensures.result_in_bounds (sym c.is_line.ensures ∙ c.if-is_line.false)
 
 pub returns : goal.returns
 returns c =
     let a = c.args in
     let L = c.loop-p in
-    set-none a.size ∙ ap (setOf a.size) (sym (left-end a.text.now a.c L.p (scanBy (suc (length (drop a.from a.text.now))) (drop a.from a.text.now) a.c) L.invariant c.loop-p-test.false))
+    set_none a.size ∙ ap (set_of a.size) (sym (left_end a.text.now a.c L.p (scan_by (suc (length (drop a.from a.text.now))) (drop a.from a.text.now) a.c) L.invariant c.loop-p-test.false))

@@ -2,40 +2,40 @@ use mathlib.Core.Path.{sym, ap, ◌∙◌}
 use Prim.Native.Nat.{◌+◌, ◌*◌}
 use native.Mathlib.Omega.{arith}
 use Rattle.words.specs.Words.{words}
-use Rattle.ir.specs.Atoms.{varsOf}
-use Rattle.sets.specs.Places.{varsAt, shownAt}
-use Rattle.clausetests.proofs.FittingLaws.{changed-wide}
-use Rattle.clausetests.proofs.PlaceLaws.{single-in, meant-atom, narrowed-single}
+use Rattle.ir.specs.Atoms.{vars_of}
+use Rattle.sets.specs.Places.{vars_at, shown_at}
+use Rattle.clausetests.proofs.FittingLaws.{changed_wide}
+use Rattle.clausetests.proofs.PlaceLaws.{single_in, meant_atom, narrowed_single}
 use Rattle.clausetests.proofs.fitting.narrow_atom.Goals as goal
 
 pub place-j-requires : goal.place-j-requires
 place-j-requires c =
     let A = c.args in
-    let e = sym c.atom_vars.ensures ∙ ap varsOf c.in-One.is in
+    let e = sym c.atom_vars.ensures ∙ ap vars_of c.in-One.is in
     let T = c.requires in
-    (T.vars, T.so.are, T.so.few, single-in T.vars A.a _ T.so.among.0 e)
+    (T.vars, T.so.are, T.so.few, single_in T.vars A.a _ T.so.among.0 e)
 
 pub narrow_one-requires : goal.narrow_one-requires
 narrow_one-requires c =
     let A = c.args in
-    let e = sym c.atom_vars.ensures ∙ ap varsOf c.in-One.is in
+    let e = sym c.atom_vars.ensures ∙ ap vars_of c.in-One.is in
     let T = c.requires in
-    (omega (arith, (c.place-j.ensures T.vars T.so.are (single-in T.vars A.a _ T.so.among.0 e)).0, T.so.few), meant-atom A.size A.a A.v A.text.now A.store.now A.scratch.now T)
+    (omega (arith, (c.place-j.ensures T.vars T.so.are (single_in T.vars A.a _ T.so.among.0 e)).0, T.so.few), meant_atom A.size A.a A.v A.text.now A.store.now A.scratch.now T)
 
 pub narrow_pair-requires : goal.narrow_pair-requires
 narrow_pair-requires c =
     let A = c.args in
-    (sym c.atom_vars.ensures ∙ ap varsOf c.in-Two.is, c.requires)
+    (sym c.atom_vars.ensures ∙ ap vars_of c.in-Two.is, c.requires)
 
 pub returns-in-One : goal.returns-in-One
 returns-in-One c =
     let A = c.args in
-    let e = sym c.atom_vars.ensures ∙ ap varsOf c.in-One.is in
+    let e = sym c.atom_vars.ensures ∙ ap vars_of c.in-One.is in
     let T₀ = c.requires in
     let j = c.place-j.result in record {
       tables = (λ I roles vs one two M T.
-          let q = c.place-j.ensures vs M.are (single-in vs A.a _ M.among.0 e) in
-          narrowed-single I roles vs A.size A.a A.v A.text.now (words A.store.now) (words A.scratch.now) _ A.head one two M T j q.0 c.narrow_one.ensures.changed
+          let q = c.place-j.ensures vs M.are (single_in vs A.a _ M.among.0 e) in
+          narrowed_single I roles vs A.size A.a A.v A.text.now (words A.store.now) (words A.scratch.now) _ A.head one two M T j q.0 c.narrow_one.ensures.changed
           (c.narrow_one.ensures.j_after I roles (one j) M.given M.names.0 (T.ones j q.0)) _ e q.1);
-      changed = changed-wide (2 * (varsAt + j)) (2 * (varsAt + j) + 2) (2 * varsAt) shownAt _ _ (omega arith) (omega (arith, (c.place-j.ensures T₀.vars T₀.so.are (single-in T₀.vars A.a _ T₀.so.among.0 e)).0, T₀.so.few)) c.narrow_one.ensures.changed;
+      changed = changed_wide (2 * (vars_at + j)) (2 * (vars_at + j) + 2) (2 * vars_at) shown_at _ _ (omega arith) (omega (arith, (c.place-j.ensures T₀.vars T₀.so.are (single_in T₀.vars A.a _ T₀.so.among.0 e)).0, T₀.so.few)) c.narrow_one.ensures.changed;
     }

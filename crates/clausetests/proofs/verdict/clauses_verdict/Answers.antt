@@ -1,18 +1,18 @@
 use mathlib.Core.Path.{ap, ◌∙◌}
 use Prim.Native.Nat.{◌-◌}
 use Rattle.words.specs.Words.{words}
-use Rattle.sets.specs.Verdicts.{verdictIn}
-use Rattle.clausetests.proofs.VerdictLaws.{tried-start, tried-here, tried-on, tried-stop, tried-end}
+use Rattle.sets.specs.Verdicts.{verdict_in}
+use Rattle.clausetests.proofs.VerdictLaws.{tried_start, tried_here, tried_on, tried_stop, tried_end}
 use Rattle.clausetests.proofs.verdict.clauses_verdict.Goals as goal
 
 pub loop-i-init : goal.loop-i-init
-loop-i-init c = let A = c.args in tried-start A.text.now A.clauses.now A.atoms.now A.store.now A.scratch.now A.count A.size
+loop-i-init c = let A = c.args in tried_start A.text.now A.clauses.now A.atoms.now A.store.now A.scratch.now A.count A.size
 
 pub clause_verdict-requires : goal.clause_verdict-requires
 clause_verdict-requires c =
     let L = c.loop-i in
     let A = c.args in
-    tried-here A.text.now A.clauses.now A.atoms.now A.store.now A.scratch.now A.count A.size L.scratch L.i L.invariant c.loop-i-test.true c.requires
+    tried_here A.text.now A.clauses.now A.atoms.now A.store.now A.scratch.now A.count A.size L.scratch L.i L.invariant c.loop-i-test.true c.requires
 
 pub shape_of-scratch-in-Broken : goal.shape_of-scratch-in-Broken
 shape_of-scratch-in-Broken c =
@@ -22,13 +22,13 @@ pub returns-in-Broken : goal.returns-in-Broken
 returns-in-Broken c =
     let L = c.loop-i in
     let A = c.args in
-    tried-stop A.text.now A.clauses.now A.atoms.now A.store.now A.scratch.now A.count A.size L.scratch L.i L.invariant c.loop-i-test.true (verdictIn (words c.clause_verdict.new.scratch) c.clause_verdict.result) c.clause_verdict.ensures.result_after _ _ (ap (verdictIn (words c.clause_verdict.new.scratch)) c.in-Broken.is)
+    tried_stop A.text.now A.clauses.now A.atoms.now A.store.now A.scratch.now A.count A.size L.scratch L.i L.invariant c.loop-i-test.true (verdict_in (words c.clause_verdict.new.scratch) c.clause_verdict.result) c.clause_verdict.ensures.result_after _ _ (ap (verdict_in (words c.clause_verdict.new.scratch)) c.in-Broken.is)
 
 pub loop-i-preserved : goal.loop-i-preserved
 loop-i-preserved c =
     let L = c.loop-i in
     let A = c.args in
-    tried-on A.text.now A.clauses.now A.atoms.now A.store.now A.scratch.now A.count A.size L.scratch L.i L.invariant c.loop-i-test.true (verdictIn (words c.clause_verdict.new.scratch) c.clause_verdict.result) c.clause_verdict.ensures.result_after (ap (verdictIn (words c.clause_verdict.new.scratch)) c.in-Holds.is)
+    tried_on A.text.now A.clauses.now A.atoms.now A.store.now A.scratch.now A.count A.size L.scratch L.i L.invariant c.loop-i-test.true (verdict_in (words c.clause_verdict.new.scratch) c.clause_verdict.result) c.clause_verdict.ensures.result_after (ap (verdict_in (words c.clause_verdict.new.scratch)) c.in-Holds.is)
     _ c.clause_verdict.auto.scratch c.clause_verdict.ensures.changed
 
 pub shape_of-scratch : goal.shape_of-scratch
@@ -38,4 +38,4 @@ pub returns : goal.returns
 returns c =
     let L = c.loop-i in
     let A = c.args in
-    tried-end A.text.now A.clauses.now A.atoms.now A.store.now A.scratch.now A.count A.size L.scratch L.i L.invariant c.loop-i-test.false
+    tried_end A.text.now A.clauses.now A.atoms.now A.store.now A.scratch.now A.count A.size L.scratch L.i L.invariant c.loop-i-test.false

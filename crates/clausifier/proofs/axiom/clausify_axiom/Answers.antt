@@ -1,7 +1,7 @@
-use Rattle.clausifier.specs.RowLaws.{axiom-few, row-axiom, axiom-row}
-use Rattle.clausifier.specs.ArmLaws.{axiomed-as, unlimited, roles-unlimited}
-use Rattle.ontology.specs.Layout.{axiomAt}
-use Rattle.ontology.specs.KeptAxioms.{kind-inside}
+use Rattle.clausifier.specs.RowLaws.{axiom_few, row_axiom_lem, axiom_row_lem}
+use Rattle.clausifier.specs.ArmLaws.{axiomed_as, unlimited, roles_unlimited}
+use Rattle.ontology.specs.Layout.{axiom_at}
+use Rattle.ontology.specs.KeptAxioms.{kind_inside}
 use Rattle.words.specs.Words.{words}
 use native.Mathlib.Omega.{arith}
 use mathlib.Core.Path.{sym}
@@ -9,23 +9,23 @@ use Rattle.clausifier.proofs.axiom.clausify_axiom.Goals as goal
 
 pub number-kind-requires : goal.number-kind-requires
 number-kind-requires c =
-    (axiom-few (words c.args.scratch.now) c.args.k c.args.i c.requires.1, omega (arith, c.requires.0.space), kind-inside (words c.args.scratch.now) c.requires.1.count c.args.i c.requires.1.axioms.held c.requires.1.among)
+    (axiom_few (words c.args.scratch.now) c.args.k c.args.i c.requires.1, omega (arith, c.requires.0.space), kind_inside (words c.args.scratch.now) c.requires.1.count c.args.i c.requires.1.axioms.held c.requires.1.among)
 
 pub clausify_classes-requires : goal.clausify_classes-requires
 clausify_classes-requires c =
-    (c.requires.0, axiom-row (words c.args.scratch.now) c.args.k c.args.i c.requires.1 c.number-kind.result c.start.result c.count-count.result c.number-kind.ensures c.start.ensures c.count-count.ensures, c.if-kind-lt27.true, c.requires.2)
+    (c.requires.0, axiom_row_lem (words c.args.scratch.now) c.args.k c.args.i c.requires.1 c.number-kind.result c.start.result c.count-count.result c.number-kind.ensures c.start.ensures c.count-count.ensures, c.if-kind-lt27.true, c.requires.2)
 
 pub returns-then-kind-lt27 : goal.returns-then-kind-lt27
 returns-then-kind-lt27 c =
     let r = c.clausify_classes in
     record {
-      fact = axiomed-as (axiomAt (words c.args.scratch.now) c.args.i) _ c.args.k _ _ r.result (sym (row-axiom (words c.args.scratch.now) c.args.k c.args.i c.requires.1 c.number-kind.result c.start.result c.count-count.result c.number-kind.ensures c.start.ensures c.count-count.ensures)) r.ensures.fact;
+      fact = axiomed_as (axiom_at (words c.args.scratch.now) c.args.i) _ c.args.k _ _ r.result (sym (row_axiom_lem (words c.args.scratch.now) c.args.k c.args.i c.requires.1 c.number-kind.result c.start.result c.count-count.result c.number-kind.ensures c.start.ensures c.count-count.ensures)) r.ensures.fact;
       clausifying_after = r.ensures.clausifying_after;
     }
 
 pub clausify_roles-requires : goal.clausify_roles-requires
 clausify_roles-requires c =
-    (c.requires.0, axiom-row (words c.args.scratch.now) c.args.k c.args.i c.requires.1 c.number-kind.result c.start.result c.count-count.result c.number-kind.ensures c.start.ensures c.count-count.ensures, c.if-kind-lt27.false, c.requires.2)
+    (c.requires.0, axiom_row_lem (words c.args.scratch.now) c.args.k c.args.i c.requires.1 c.number-kind.result c.start.result c.count-count.result c.number-kind.ensures c.start.ensures c.count-count.ensures, c.if-kind-lt27.false, c.requires.2)
 
 pub returns : goal.returns
 returns c =
@@ -34,9 +34,9 @@ returns c =
     let n = c.number-kind in
     let t = c.start in
     let m = c.count-count in
-    let R = axiom-row w c.args.k c.args.i c.requires.1 n.result t.result m.result n.ensures t.ensures m.ensures in
-    let e = row-axiom w c.args.k c.args.i c.requires.1 n.result t.result m.result n.ensures t.ensures m.ensures in
+    let R = axiom_row_lem w c.args.k c.args.i c.requires.1 n.result t.result m.result n.ensures t.ensures m.ensures in
+    let e = row_axiom_lem w c.args.k c.args.i c.requires.1 n.result t.result m.result n.ensures t.ensures m.ensures in
     record {
-      fact = axiomed-as (axiomAt w c.args.i) _ c.args.k _ _ r.result (sym e) (unlimited _ c.args.k _ _ r.result (roles-unlimited w c.args.k _ _ _ R c.if-kind-lt27.false) r.ensures.fact);
+      fact = axiomed_as (axiom_at w c.args.i) _ c.args.k _ _ r.result (sym e) (unlimited _ c.args.k _ _ r.result (roles_unlimited w c.args.k _ _ _ R c.if-kind-lt27.false) r.ensures.fact);
       clausifying_after = r.ensures.clausifying_after;
     }

@@ -1,5 +1,5 @@
-use Rattle.clausifier.specs.ArmLaws.{gci-asks, gci-arm, equivalent-fits, equivalent-asks, equivalent-arm, disjoint-fits, disjoint-asks, disjoint-arm, union-fits, union-asks, union-arm, domain-asks, domain-arm}
-use Rattle.axioms.specs.WholeLaws.{clausifying-after}
+use Rattle.clausifier.specs.ArmLaws.{gci_asks, gci_arm, equivalent_fits, equivalent_asks, equivalent_arm, disjoint_fits, disjoint_asks, disjoint_arm, union_fits, union_asks, union_arm, domain_asks, domain_arm}
+use Rattle.axioms.specs.WholeLaws.{clausifying_after}
 use Rattle.words.specs.Words.{words}
 use native.Mathlib.Omega.{arith}
 use mathlib.Core.Path.{refl}
@@ -8,45 +8,45 @@ use Rattle.clausifier.proofs.axiom.clausify_classes.Goals as goal
 
 pub clausify_gci-requires : goal.clausify_gci-requires
 clausify_gci-requires c =
-    let q = gci-asks (words c.args.scratch.now) c.args.k c.args.kind c.args.at c.args.count c.requires.1 c.in-21.is c.get_word-a.result c.get_word-b.result c.get_word-a.ensures c.get_word-b.ensures in
+    let q = gci_asks (words c.args.scratch.now) c.args.k c.args.kind c.args.at c.args.count c.requires.1 c.in-21.is c.get_word-a.result c.get_word-b.result c.get_word-a.ensures c.get_word-b.ensures in
     (c.requires.0, q.0, q.1, c.requires.3)
 
 pub overflow_sub-count : goal.overflow_sub-count
 overflow_sub-count c =
-    omega (arith, equivalent-fits (words c.args.scratch.now) c.args.k c.args.kind c.args.at c.args.count c.requires.1 c.in-22.is)
+    omega (arith, equivalent_fits (words c.args.scratch.now) c.args.k c.args.kind c.args.at c.args.count c.requires.1 c.in-22.is)
 
 pub equivalent-requires : goal.equivalent-requires
 equivalent-requires c =
-    (c.requires.0, equivalent-asks (words c.args.scratch.now) c.args.k c.args.kind c.args.at c.args.count c.requires.1 c.in-22.is, c.requires.3)
+    (c.requires.0, equivalent_asks (words c.args.scratch.now) c.args.k c.args.kind c.args.at c.args.count c.requires.1 c.in-22.is, c.requires.3)
 
 pub overflow_sub-count-in-23 : goal.overflow_sub-count-in-23
 overflow_sub-count-in-23 c =
-    omega (arith, disjoint-fits (words c.args.scratch.now) c.args.k c.args.kind c.args.at c.args.count c.requires.1 c.in-23.is)
+    omega (arith, disjoint_fits (words c.args.scratch.now) c.args.k c.args.kind c.args.at c.args.count c.requires.1 c.in-23.is)
 
 pub disjoint-requires : goal.disjoint-requires
 disjoint-requires c =
-    (c.requires.0, disjoint-asks (words c.args.scratch.now) c.args.k c.args.kind c.args.at c.args.count c.requires.1 c.in-23.is, c.requires.3)
+    (c.requires.0, disjoint_asks (words c.args.scratch.now) c.args.k c.args.kind c.args.at c.args.count c.requires.1 c.in-23.is, c.requires.3)
 
 pub overflow_sub-count-in-24 : goal.overflow_sub-count-in-24
 overflow_sub-count-in-24 c =
-    omega (arith, union-fits (words c.args.scratch.now) c.args.k c.args.kind c.args.at c.args.count c.requires.1 c.in-24.is c.get_word-a.result c.get_word-a.ensures)
+    omega (arith, union_fits (words c.args.scratch.now) c.args.k c.args.kind c.args.at c.args.count c.requires.1 c.in-24.is c.get_word-a.result c.get_word-a.ensures)
 
 pub union-requires : goal.union-requires
 union-requires c =
-    let q = union-asks (words c.args.scratch.now) c.args.k c.args.kind c.args.at c.args.count c.requires.1 c.in-24.is c.get_word-a.result c.get_word-a.ensures in
+    let q = union_asks (words c.args.scratch.now) c.args.k c.args.kind c.args.at c.args.count c.requires.1 c.in-24.is c.get_word-a.result c.get_word-a.ensures in
     (c.requires.0, q.0, q.1, c.requires.3)
 
 pub domain_or_range-requires : goal.domain_or_range-requires
 domain_or_range-requires c =
     let m = c.in_default.in_default-own.rest in
-    let q = domain-asks (words c.args.scratch.now) c.args.k c.args.kind c.args.at c.args.count c.requires.1 c.requires.2 m.0.0.0.1 m.0.0.1 m.0.1 m.1 c.get_word-a.result c.get_word-c.result c.get_word-a.ensures c.get_word-c.ensures in
+    let q = domain_asks (words c.args.scratch.now) c.args.k c.args.kind c.args.at c.args.count c.requires.1 c.requires.2 m.0.0.0.1 m.0.0.1 m.0.1 m.1 c.get_word-a.result c.get_word-c.result c.get_word-a.ensures c.get_word-c.ensures in
     (c.requires.0.encoding.reading, c.requires.0.good, q.0, q.1, c.requires.0.queue, c.requires.3)
 
 pub returns-in-21 : goal.returns-in-21
 returns-in-21 c =
     let r = c.clausify_gci in
     record {
-      fact = gci-arm (words c.args.scratch.now) c.args.k c.args.kind c.args.at c.args.count c.requires.1 c.in-21.is c.get_word-a.result c.get_word-b.result c.get_word-a.ensures c.get_word-b.ensures _ _ _ r.ensures.clausified;
+      fact = gci_arm (words c.args.scratch.now) c.args.k c.args.kind c.args.at c.args.count c.requires.1 c.in-21.is c.get_word-a.result c.get_word-b.result c.get_word-a.ensures c.get_word-b.ensures _ _ _ r.ensures.clausified;
       clausifying_after = r.ensures.clausifying_after;
     }
 
@@ -54,7 +54,7 @@ pub returns-in-22 : goal.returns-in-22
 returns-in-22 c =
     let r = c.equivalent in
     record {
-      fact = equivalent-arm (words c.args.scratch.now) c.args.k c.args.kind c.args.at c.args.count c.requires.1 c.in-22.is _ _ _ r.ensures.clausified;
+      fact = equivalent_arm (words c.args.scratch.now) c.args.k c.args.kind c.args.at c.args.count c.requires.1 c.in-22.is _ _ _ r.ensures.clausified;
       clausifying_after = r.ensures.clausifying_after;
     }
 
@@ -62,7 +62,7 @@ pub returns-in-23 : goal.returns-in-23
 returns-in-23 c =
     let r = c.disjoint in
     record {
-      fact = disjoint-arm (words c.args.scratch.now) c.args.k c.args.kind c.args.at c.args.count c.requires.1 c.in-23.is _ _ _ r.ensures.fact;
+      fact = disjoint_arm (words c.args.scratch.now) c.args.k c.args.kind c.args.at c.args.count c.requires.1 c.in-23.is _ _ _ r.ensures.fact;
       clausifying_after = r.ensures.clausifying_after;
     }
 
@@ -70,7 +70,7 @@ pub returns-in-24 : goal.returns-in-24
 returns-in-24 c =
     let r = c.union in
     record {
-      fact = union-arm (words c.args.scratch.now) c.args.k c.args.kind c.args.at c.args.count c.requires.1 c.in-24.is c.get_word-a.result c.get_word-a.ensures _ _ _ r.ensures.fact;
+      fact = union_arm (words c.args.scratch.now) c.args.k c.args.kind c.args.at c.args.count c.requires.1 c.in-24.is c.get_word-a.result c.get_word-a.ensures _ _ _ r.ensures.fact;
       clausifying_after = r.ensures.clausifying_after;
     }
 
@@ -79,6 +79,6 @@ returns-in_default c =
     let m = c.in_default.in_default-own.rest in
     let r = c.domain_or_range in
     let D = r.ensures.0 in record {
-      fact = domain-arm (words c.args.scratch.now) c.args.k c.args.kind c.args.at c.args.count c.requires.1 c.requires.2 m.0.0.0.1 m.0.0.1 m.0.1 m.1 c.get_word-a.result c.get_word-c.result c.get_word-a.ensures c.get_word-c.ensures (eqb c.args.kind 26) refl _ _ r.result c.requires.0.encoding.reading.ready.held r.ensures;
-      clausifying_after = clausifying-after c.args.scratch.now _ c.args.k r.result c.requires.0 r.auto.scratch D.frame D.good D.kept;
+      fact = domain_arm (words c.args.scratch.now) c.args.k c.args.kind c.args.at c.args.count c.requires.1 c.requires.2 m.0.0.0.1 m.0.0.1 m.0.1 m.1 c.get_word-a.result c.get_word-c.result c.get_word-a.ensures c.get_word-c.ensures (eqb c.args.kind 26) refl _ _ r.result c.requires.0.encoding.reading.ready.held r.ensures;
+      clausifying_after = clausifying_after c.args.scratch.now _ c.args.k r.result c.requires.0 r.auto.scratch D.frame D.good D.kept;
     }

@@ -1,5 +1,5 @@
-use Rattle.clausifier.specs.RoleArmLaws.{row-chain, chained, transitive-asks, transitive-arm, irreflexive-asks, irreflexive-arm, asymmetric-asks, asymmetric-arm, roles-fit, roles-asks, roles-arm, idle-arm}
-use Rattle.axioms.specs.WholeLaws.{clausifying-after}
+use Rattle.clausifier.specs.RoleArmLaws.{row_chain, chained, transitive_asks, transitive_arm, irreflexive_asks, irreflexive_arm, asymmetric_asks, asymmetric_arm, roles_fit, roles_asks, roles_arm, idle_arm}
+use Rattle.axioms.specs.WholeLaws.{clausifying_after}
 use Rattle.hands.specs.Hands.{four}
 use Rattle.words.specs.Words.{words}
 use native.Mathlib.Omega.{arith}
@@ -7,30 +7,30 @@ use Rattle.clausifier.proofs.axiom.clausify_roles.Goals as goal
 
 pub clausify_chain-requires : goal.clausify_chain-requires
 clausify_chain-requires c =
-    (c.requires.0, row-chain (words c.args.scratch.now) c.args.k c.args.kind c.args.at c.args.count c.in-27.is c.requires.1, c.requires.3)
+    (c.requires.0, row_chain (words c.args.scratch.now) c.args.k c.args.kind c.args.at c.args.count c.in-27.is c.requires.1, c.requires.3)
 
 pub chain-requires : goal.chain-requires
 chain-requires c =
-    let q = transitive-asks (words c.args.scratch.now) c.args.k c.args.kind c.args.at c.args.count c.requires.1 c.get_word-r.result c.get_word-r.ensures c.in-28.is in
+    let q = transitive_asks (words c.args.scratch.now) c.args.k c.args.kind c.args.at c.args.count c.requires.1 c.get_word-r.result c.get_word-r.ensures c.in-28.is in
     (q, q, q, omega (arith, c.requires.0.space), record { clauses = c.requires.3.clauses; atoms = c.requires.3.atoms; deferrals = omega arith }, c.requires.0.good)
 
 pub irreflexive-requires : goal.irreflexive-requires
 irreflexive-requires c =
-    let q = irreflexive-asks (words c.args.scratch.now) c.args.k c.args.kind c.args.at c.args.count c.requires.1 c.get_word-r.result c.get_word-r.ensures c.in-29.is in
+    let q = irreflexive_asks (words c.args.scratch.now) c.args.k c.args.kind c.args.at c.args.count c.requires.1 c.get_word-r.result c.get_word-r.ensures c.in-29.is in
     (q, omega (arith, c.requires.0.space), record { clauses = c.requires.3.clauses; atoms = c.requires.3.atoms; deferrals = omega arith }, c.requires.0.good)
 
 pub not_both-requires : goal.not_both-requires
 not_both-requires c =
-    let q = asymmetric-asks (words c.args.scratch.now) c.args.k c.args.kind c.args.at c.args.count c.requires.1 c.get_word-r.result c.get_word-r.ensures c.in-30.is in
+    let q = asymmetric_asks (words c.args.scratch.now) c.args.k c.args.kind c.args.at c.args.count c.requires.1 c.get_word-r.result c.get_word-r.ensures c.in-30.is in
     (q, q, omega (arith, c.requires.0.space), record { clauses = c.requires.3.clauses; atoms = c.requires.3.atoms; deferrals = omega arith }, c.requires.0.good)
 
 pub overflow_sub-count : goal.overflow_sub-count
 overflow_sub-count c =
-    omega (arith, roles-fit (words c.args.scratch.now) c.args.k c.args.kind c.args.at c.args.count c.requires.1 c.in-31.is)
+    omega (arith, roles_fit (words c.args.scratch.now) c.args.k c.args.kind c.args.at c.args.count c.requires.1 c.in-31.is)
 
 pub disjoint_roles-requires : goal.disjoint_roles-requires
 disjoint_roles-requires c =
-    (c.requires.0, roles-asks (words c.args.scratch.now) c.args.k c.args.kind c.args.at c.args.count c.requires.1 c.in-31.is, record { clauses = c.requires.3.clauses; atoms = c.requires.3.atoms; deferrals = omega arith })
+    (c.requires.0, roles_asks (words c.args.scratch.now) c.args.k c.args.kind c.args.at c.args.count c.requires.1 c.in-31.is, record { clauses = c.requires.3.clauses; atoms = c.requires.3.atoms; deferrals = omega arith })
 
 pub returns-in-27 : goal.returns-in-27
 returns-in-27 c =
@@ -44,31 +44,31 @@ pub returns-in-28 : goal.returns-in-28
 returns-in-28 c =
     let r = c.chain in
     let D = r.ensures (words c.args.deferrals.now) in record {
-      fact = transitive-arm (words c.args.scratch.now) c.args.k c.args.kind c.args.at c.args.count c.requires.1 c.get_word-r.result c.get_word-r.ensures c.in-28.is _ _ r.result c.requires.0.encoding.reading.ready.held D;
-      clausifying_after = clausifying-after c.args.scratch.now _ c.args.k r.result c.requires.0 r.auto.scratch D.frame D.good D.kept;
+      fact = transitive_arm (words c.args.scratch.now) c.args.k c.args.kind c.args.at c.args.count c.requires.1 c.get_word-r.result c.get_word-r.ensures c.in-28.is _ _ r.result c.requires.0.encoding.reading.ready.held D;
+      clausifying_after = clausifying_after c.args.scratch.now _ c.args.k r.result c.requires.0 r.auto.scratch D.frame D.good D.kept;
     }
 
 pub returns-in-29 : goal.returns-in-29
 returns-in-29 c =
     let r = c.irreflexive in
     let D = r.ensures (words c.args.deferrals.now) in record {
-      fact = irreflexive-arm (words c.args.scratch.now) c.args.k c.args.kind c.args.at c.args.count c.requires.1 c.get_word-r.result c.get_word-r.ensures c.in-29.is _ _ r.result c.requires.0.encoding.reading.ready.held D;
-      clausifying_after = clausifying-after c.args.scratch.now _ c.args.k r.result c.requires.0 r.auto.scratch D.frame D.good D.kept;
+      fact = irreflexive_arm (words c.args.scratch.now) c.args.k c.args.kind c.args.at c.args.count c.requires.1 c.get_word-r.result c.get_word-r.ensures c.in-29.is _ _ r.result c.requires.0.encoding.reading.ready.held D;
+      clausifying_after = clausifying_after c.args.scratch.now _ c.args.k r.result c.requires.0 r.auto.scratch D.frame D.good D.kept;
     }
 
 pub returns-in-30 : goal.returns-in-30
 returns-in-30 c =
     let r = c.not_both in
     let D = r.ensures (words c.args.deferrals.now) in record {
-      fact = asymmetric-arm (words c.args.scratch.now) c.args.k c.args.kind c.args.at c.args.count c.requires.1 c.get_word-r.result c.get_word-r.ensures c.in-30.is _ _ r.result c.requires.0.encoding.reading.ready.held D;
-      clausifying_after = clausifying-after c.args.scratch.now _ c.args.k r.result c.requires.0 r.auto.scratch D.frame D.good D.kept;
+      fact = asymmetric_arm (words c.args.scratch.now) c.args.k c.args.kind c.args.at c.args.count c.requires.1 c.get_word-r.result c.get_word-r.ensures c.in-30.is _ _ r.result c.requires.0.encoding.reading.ready.held D;
+      clausifying_after = clausifying_after c.args.scratch.now _ c.args.k r.result c.requires.0 r.auto.scratch D.frame D.good D.kept;
     }
 
 pub returns-in-31 : goal.returns-in-31
 returns-in-31 c =
     let r = c.disjoint_roles in
     record {
-      fact = roles-arm (words c.args.scratch.now) c.args.k c.args.kind c.args.at c.args.count c.requires.1 c.in-31.is _ _ _ (r.ensures.fact (words c.args.deferrals.now));
+      fact = roles_arm (words c.args.scratch.now) c.args.k c.args.kind c.args.at c.args.count c.requires.1 c.in-31.is _ _ _ (r.ensures.fact (words c.args.deferrals.now));
       clausifying_after = r.ensures.clausifying_after;
     }
 
@@ -76,6 +76,6 @@ pub returns-in_default : goal.returns-in_default
 returns-in_default c =
     let m = c.in_default.in_default-own.rest in
     let x = four (words c.args.scratch.now) (words c.args.clauses.now) (words c.args.atoms.now) (words c.args.deferrals.now) in record {
-      fact = idle-arm (words c.args.scratch.now) c.args.k c.args.kind c.args.at c.args.count c.requires.1 c.requires.2 m.0.0.0.0.1 m.0.0.0.1 m.0.0.1 m.0.1 m.1 x c.requires.0.encoding.reading.ready.held c.requires.0.good;
+      fact = idle_arm (words c.args.scratch.now) c.args.k c.args.kind c.args.at c.args.count c.requires.1 c.requires.2 m.0.0.0.0.1 m.0.0.0.1 m.0.0.1 m.0.1 m.1 x c.requires.0.encoding.reading.ready.held c.requires.0.good;
       clausifying_after = c.requires.0;
     }

@@ -2,49 +2,49 @@ use borrow.Author.Tests.{not-true, not-false}
 use native.Mathlib.Omega.{arith}
 use mathlib.Core.Path.{refl, sym, ◌∙◌}
 use Rattle.words.specs.Words.{words}
-use Rattle.ir.specs.Options.{equalNames}
-use Rattle.ontology.specs.Layout.{axiomAt}
-use Rattle.ontology.specs.KeptAxioms.{kind-inside}
-use Rattle.clausifier.specs.RowLaws.{axiom-few}
-use Rattle.clausifier.specs.LimitedLaws.{names-limits, names-none, names-off}
+use Rattle.ir.specs.Options.{equal_names}
+use Rattle.ontology.specs.Layout.{axiom_at}
+use Rattle.ontology.specs.KeptAxioms.{kind_inside}
+use Rattle.clausifier.specs.RowLaws.{axiom_few}
+use Rattle.clausifier.specs.LimitedLaws.{names_limits_lem, names_none, names_off}
 use Rattle.clausifier.proofs.whole.names_limits.Goals as goal
 
 pub returns-then-not-equal_names : goal.returns-then-not-equal_names
 returns-then-not-equal_names c =
     let q = c.equal_names in
-    names-off (axiomAt (words c.args.scratch.now) c.args.i) (equalNames c.args.k.options) (sym q.ensures ∙ not-true q.result c.if-not-equal_names.true-raw)
+    names_off (axiom_at (words c.args.scratch.now) c.args.i) (equal_names c.args.k.options) (sym q.ensures ∙ not-true q.result c.if-not-equal_names.true-raw)
 
 pub number-requires : goal.number-requires
 number-requires c =
     let w = words c.args.scratch.now in
-    (axiom-few w c.args.k c.args.i c.requires.1, omega (arith, c.requires.0.space), kind-inside w c.requires.1.count c.args.i c.requires.1.axioms.held c.requires.1.among)
+    (axiom_few w c.args.k c.args.i c.requires.1, omega (arith, c.requires.0.space), kind_inside w c.requires.1.count c.args.i c.requires.1.axioms.held c.requires.1.among)
 
 pub returns-in-21 : goal.returns-in-21
 returns-in-21 c =
     let q = c.equal_names in
     let m = c.number in
-    names-limits (words c.args.scratch.now) c.args.k c.args.i m.result c.requires.1 m.ensures 21 c.in-21.is refl (equalNames c.args.k.options) (sym q.ensures ∙ not-false q.result c.if-not-equal_names.false-raw)
+    names_limits_lem (words c.args.scratch.now) c.args.k c.args.i m.result c.requires.1 m.ensures 21 c.in-21.is refl (equal_names c.args.k.options) (sym q.ensures ∙ not-false q.result c.if-not-equal_names.false-raw)
 
 pub returns-in-22 : goal.returns-in-22
 returns-in-22 c =
     let q = c.equal_names in
     let m = c.number in
-    names-limits (words c.args.scratch.now) c.args.k c.args.i m.result c.requires.1 m.ensures 22 c.in-22.is refl (equalNames c.args.k.options) (sym q.ensures ∙ not-false q.result c.if-not-equal_names.false-raw)
+    names_limits_lem (words c.args.scratch.now) c.args.k c.args.i m.result c.requires.1 m.ensures 22 c.in-22.is refl (equal_names c.args.k.options) (sym q.ensures ∙ not-false q.result c.if-not-equal_names.false-raw)
 
 pub returns-in-25 : goal.returns-in-25
 returns-in-25 c =
     let q = c.equal_names in
     let m = c.number in
-    names-limits (words c.args.scratch.now) c.args.k c.args.i m.result c.requires.1 m.ensures 25 c.in-25.is refl (equalNames c.args.k.options) (sym q.ensures ∙ not-false q.result c.if-not-equal_names.false-raw)
+    names_limits_lem (words c.args.scratch.now) c.args.k c.args.i m.result c.requires.1 m.ensures 25 c.in-25.is refl (equal_names c.args.k.options) (sym q.ensures ∙ not-false q.result c.if-not-equal_names.false-raw)
 
 pub returns-in-26 : goal.returns-in-26
 returns-in-26 c =
     let q = c.equal_names in
     let m = c.number in
-    names-limits (words c.args.scratch.now) c.args.k c.args.i m.result c.requires.1 m.ensures 26 c.in-26.is refl (equalNames c.args.k.options) (sym q.ensures ∙ not-false q.result c.if-not-equal_names.false-raw)
+    names_limits_lem (words c.args.scratch.now) c.args.k c.args.i m.result c.requires.1 m.ensures 26 c.in-26.is refl (equal_names c.args.k.options) (sym q.ensures ∙ not-false q.result c.if-not-equal_names.false-raw)
 
 pub returns-in_default : goal.returns-in_default
 returns-in_default c =
     let m = c.number in
     let n = c.in_default.in_default-own.rest in
-    names-none (words c.args.scratch.now) c.args.k c.args.i m.result c.requires.1 m.ensures n.0.0.0.1 n.0.0.1 n.0.1 n.1 (equalNames c.args.k.options)
+    names_none (words c.args.scratch.now) c.args.k c.args.i m.result c.requires.1 m.ensures n.0.0.0.1 n.0.0.1 n.0.1 n.1 (equal_names c.args.k.options)

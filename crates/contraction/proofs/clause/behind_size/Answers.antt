@@ -3,7 +3,7 @@ use mathlib.Core.Path.{sym, ◌∙◌}
 use Prim.Native.Nat.{◌-◌}
 use native.Mathlib.Omega.{arith}
 use Rattle.words.specs.Words.{words}
-use Rattle.contraction.specs.Sizes.{none-more}
+use Rattle.contraction.specs.Sizes.{none_more_lem}
 use Rattle.contraction.proofs.clause.behind_size.Goals as goal
 
 pub loop-c-init : goal.loop-c-init
@@ -28,7 +28,7 @@ pub loop-c-preserved : goal.loop-c-preserved
 loop-c-preserved c =
     let L = c.loop-c in
     let t = c.loop-c-test.true in
-    (omega (arith, t), omega (arith, L.invariant.1), none-more (words c.args.clauses.now) c.args.nb c.args.nh c.args.to L.c (L.c - 1) (omega (arith, t)) (sym c.has_size.ensures ∙ c.if-has_size.false) L.invariant.2)
+    (omega (arith, t), omega (arith, L.invariant.1), none_more_lem (words c.args.clauses.now) c.args.nb c.args.nh c.args.to L.c (L.c - 1) (omega (arith, t)) (sym c.has_size.ensures ∙ c.if-has_size.false) L.invariant.2)
 
 pub returns : goal.returns
 returns c =

@@ -3,8 +3,8 @@ use Prim.Native.Nat.{◌+◌, ◌*◌, ◌-◌}
 use native.Mathlib.Omega.{arith}
 use borrow.Author.Tests.{not-true, not-false}
 use Rattle.words.specs.Words.{words}
-use Rattle.words.specs.Laws.{length-words}
-use Rattle.contraction.specs.SameLaws.{runs-on, runs-apart}
+use Rattle.words.specs.Laws.{length_words}
+use Rattle.contraction.specs.SameLaws.{runs_on, runs_apart}
 use Rattle.contraction.proofs.clause.same_records.Goals as goal
 
 pub loop-m-init : goal.loop-m-init
@@ -32,7 +32,7 @@ same_record-requires c = (omega arith, omega arith)
 pub returns-then-not-same_record : goal.returns-then-not-same_record
 returns-then-not-same_record c =
     let L = c.loop-m in
-    sym (L.invariant.1 ∙ runs-apart (words c.args.s.now) (words c.args.t.now) c.args.i c.args.j c.args.n L.m c.loop-m-test.true (omega (arith, length-words c.args.s.now, c.requires.0)) (omega (arith, length-words c.args.t.now, c.requires.1)) (sym c.same_record.ensures ∙ not-true c.same_record.result c.if-not-same_record.true-raw))
+    sym (L.invariant.1 ∙ runs_apart (words c.args.s.now) (words c.args.t.now) c.args.i c.args.j c.args.n L.m c.loop-m-test.true (omega (arith, length_words c.args.s.now, c.requires.0)) (omega (arith, length_words c.args.t.now, c.requires.1)) (sym c.same_record.ensures ∙ not-true c.same_record.result c.if-not-same_record.true-raw))
 
 pub overflow_add-m : goal.overflow_add-m
 overflow_add-m c = omega arith
@@ -43,7 +43,7 @@ loop-m-smaller c = omega arith
 pub loop-m-preserved : goal.loop-m-preserved
 loop-m-preserved c =
     let L = c.loop-m in
-    (omega arith, L.invariant.1 ∙ runs-on (words c.args.s.now) (words c.args.t.now) c.args.i c.args.j c.args.n L.m c.loop-m-test.true (omega (arith, length-words c.args.s.now, c.requires.0)) (omega (arith, length-words c.args.t.now, c.requires.1)) (sym c.same_record.ensures ∙ not-false c.same_record.result c.if-not-same_record.false-raw))
+    (omega arith, L.invariant.1 ∙ runs_on (words c.args.s.now) (words c.args.t.now) c.args.i c.args.j c.args.n L.m c.loop-m-test.true (omega (arith, length_words c.args.s.now, c.requires.0)) (omega (arith, length_words c.args.t.now, c.requires.1)) (sym c.same_record.ensures ∙ not-false c.same_record.result c.if-not-same_record.false-raw))
 
 pub returns : goal.returns
 returns c =

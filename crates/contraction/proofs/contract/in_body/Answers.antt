@@ -3,10 +3,10 @@ use Prim.Native.Nat.{◌+◌, ◌-◌}
 use native.Mathlib.Omega.{arith}
 use lib.ListN.{get_or}
 use Rattle.words.specs.Words.{words}
-use Rattle.ir.specs.Records.{sameAtom}
-use Rattle.tables.specs.AtomLaws.{noAtom, flat-nth}
-use Rattle.contraction.specs.InHands.{handAt}
-use Rattle.contraction.specs.SameLaws.{any-found, any-on, any-none, record-same}
+use Rattle.ir.specs.Records.{same_atom}
+use Rattle.tables.specs.AtomLaws.{no_atom, flat_nth}
+use Rattle.contraction.specs.InHands.{hand_at}
+use Rattle.contraction.specs.SameLaws.{any_found, any_on, any_none, record_same}
 use Rattle.contraction.proofs.contract.in_body.Goals as goal
 
 pub loop-j-init : goal.loop-j-init
@@ -32,8 +32,8 @@ returns-then-same_record c =
     let w = words c.args.scratch.now in
     let L = c.loop-j in
     let lt = c.loop-j-test.true in
-    λ b x e B X. sym (L.invariant b x e B X ∙ any-found (sameAtom x) b L.j noAtom (omega (arith, lt, e))
-    (sym (record-same w c.args.i (handAt + L.j) x (get_or b L.j noAtom) c.same_record.result c.same_record.ensures X (flat-nth w handAt b L.j B (omega (arith, lt, e)))) ∙ c.if-same_record.true))
+    λ b x e B X. sym (L.invariant b x e B X ∙ any_found (same_atom x) b L.j no_atom (omega (arith, lt, e))
+    (sym (record_same w c.args.i (hand_at + L.j) x (get_or b L.j no_atom) c.same_record.result c.same_record.ensures X (flat_nth w hand_at b L.j B (omega (arith, lt, e)))) ∙ c.if-same_record.true))
 
 pub overflow_add-j-in-loop-j : goal.overflow_add-j-in-loop-j
 overflow_add-j-in-loop-j c = omega arith
@@ -46,8 +46,8 @@ loop-j-preserved c =
     let w = words c.args.scratch.now in
     let L = c.loop-j in
     let lt = c.loop-j-test.true in
-    λ b x e B X. L.invariant b x e B X ∙ any-on (sameAtom x) b L.j noAtom (omega (arith, lt, e))
-    (sym (record-same w c.args.i (handAt + L.j) x (get_or b L.j noAtom) c.same_record.result c.same_record.ensures X (flat-nth w handAt b L.j B (omega (arith, lt, e)))) ∙ c.if-same_record.false)
+    λ b x e B X. L.invariant b x e B X ∙ any_on (same_atom x) b L.j no_atom (omega (arith, lt, e))
+    (sym (record_same w c.args.i (hand_at + L.j) x (get_or b L.j no_atom) c.same_record.result c.same_record.ensures X (flat_nth w hand_at b L.j B (omega (arith, lt, e)))) ∙ c.if-same_record.false)
 
 pub returns : goal.returns
-returns c = let L = c.loop-j in λ b x e B X. sym (L.invariant b x e B X ∙ any-none (sameAtom x) b L.j (omega (arith, c.loop-j-test.false, e)))
+returns c = let L = c.loop-j in λ b x e B X. sym (L.invariant b x e B X ∙ any_none (same_atom x) b L.j (omega (arith, c.loop-j-test.false, e)))

@@ -3,15 +3,15 @@ use Prim.Native.Nat.{◌*◌, ◌-◌, ◌≤◌}
 use native.Mathlib.Omega.{arith}
 use lib.ListN.{length, get_or}
 use Rattle.words.specs.Words.{words}
-use Rattle.words.specs.Laws.{length-words}
-use Rattle.tables.specs.AtomLaws.{noAtom}
-use Rattle.contraction.specs.InHands.{handAt}
-use Rattle.contraction.specs.SameLaws.{any-none}
-use Rattle.contraction.specs.TrivialLaws.{body-at, head-at, head-there, always, trivial-start, trivial-body, trivial-loop, trivial-on}
+use Rattle.words.specs.Laws.{length_words}
+use Rattle.tables.specs.AtomLaws.{no_atom}
+use Rattle.contraction.specs.InHands.{hand_at}
+use Rattle.contraction.specs.SameLaws.{any_none}
+use Rattle.contraction.specs.TrivialLaws.{body_at_lem, head_at_lem, head_there, always, trivial_start, trivial_body, trivial_loop, trivial_on}
 use Rattle.contraction.proofs.contract.is_trivial.Goals as goal
 
 pub loop-j-init : goal.loop-j-init
-loop-j-init c = λ set x F X. trivial-start set x
+loop-j-init c = λ set x F X. trivial_start set x
 
 pub overflow_add-i : goal.overflow_add-i
 overflow_add-i c = omega arith
@@ -28,29 +28,29 @@ in_body-requires c = let h = c.requires.0.short in (omega (arith, h.0, c.require
 pub returns-then-in_body : goal.returns-then-in_body
 returns-then-in_body c =
     let w = words c.args.scratch.now in
-    let fit : 6 * handAt ≤ length w = omega (arith, length-words c.args.scratch.now, c.requires.1) in
+    let fit : 6 * hand_at ≤ length w = omega (arith, length_words c.args.scratch.now, c.requires.1) in
     let L = c.loop-j in
     let lt = c.loop-j-test.true in
-    λ set x F X. sym (L.invariant set x F X ∙ trivial-body set x L.j (omega (arith, lt, X.head))
-    (sym (c.in_body.ensures x.body (get_or x.head L.j noAtom) X.body (body-at w c.args.nb c.args.nh x X fit) (head-at w c.args.nb c.args.nh x X fit L.j lt)) ∙ c.if-in_body.true))
+    λ set x F X. sym (L.invariant set x F X ∙ trivial_body set x L.j (omega (arith, lt, X.head))
+    (sym (c.in_body.ensures x.body (get_or x.head L.j no_atom) X.body (body_at_lem w c.args.nb c.args.nh x X fit) (head_at_lem w c.args.nb c.args.nh x X fit L.j lt)) ∙ c.if-in_body.true))
 
 pub is_self_loop-requires : goal.is_self_loop-requires
 is_self_loop-requires c =
     let w = words c.args.scratch.now in
-    let fit : 6 * handAt ≤ length w = omega (arith, length-words c.args.scratch.now, c.requires.1) in
+    let fit : 6 * hand_at ≤ length w = omega (arith, length_words c.args.scratch.now, c.requires.1) in
     let L = c.loop-j in
     let lt = c.loop-j-test.true in
-    (head-there w c.args.nb c.args.nh L.j c.requires.0 fit lt, omega (arith, c.requires.1))
+    (head_there w c.args.nb c.args.nh L.j c.requires.0 fit lt, omega (arith, c.requires.1))
 
 pub returns-then-is_self_loop : goal.returns-then-is_self_loop
 returns-then-is_self_loop c =
     let w = words c.args.scratch.now in
-    let fit : 6 * handAt ≤ length w = omega (arith, length-words c.args.scratch.now, c.requires.1) in
+    let fit : 6 * hand_at ≤ length w = omega (arith, length_words c.args.scratch.now, c.requires.1) in
     let L = c.loop-j in
     let lt = c.loop-j-test.true in
-    λ set x F X. sym (L.invariant set x F X ∙ trivial-loop set x L.j (omega (arith, lt, X.head))
-    (sym (c.in_body.ensures x.body (get_or x.head L.j noAtom) X.body (body-at w c.args.nb c.args.nh x X fit) (head-at w c.args.nb c.args.nh x X fit L.j lt)) ∙ c.if-in_body.false)
-    (sym (c.is_self_loop.ensures set (get_or x.head L.j noAtom) F (head-at w c.args.nb c.args.nh x X fit L.j lt)) ∙ c.if-is_self_loop.true))
+    λ set x F X. sym (L.invariant set x F X ∙ trivial_loop set x L.j (omega (arith, lt, X.head))
+    (sym (c.in_body.ensures x.body (get_or x.head L.j no_atom) X.body (body_at_lem w c.args.nb c.args.nh x X fit) (head_at_lem w c.args.nb c.args.nh x X fit L.j lt)) ∙ c.if-in_body.false)
+    (sym (c.is_self_loop.ensures set (get_or x.head L.j no_atom) F (head_at_lem w c.args.nb c.args.nh x X fit L.j lt)) ∙ c.if-is_self_loop.true))
 
 pub overflow_add-j : goal.overflow_add-j
 overflow_add-j c = omega arith
@@ -61,12 +61,12 @@ loop-j-smaller c = omega arith
 pub loop-j-preserved : goal.loop-j-preserved
 loop-j-preserved c =
     let w = words c.args.scratch.now in
-    let fit : 6 * handAt ≤ length w = omega (arith, length-words c.args.scratch.now, c.requires.1) in
+    let fit : 6 * hand_at ≤ length w = omega (arith, length_words c.args.scratch.now, c.requires.1) in
     let L = c.loop-j in
     let lt = c.loop-j-test.true in
-    λ set x F X. L.invariant set x F X ∙ trivial-on set x L.j (omega (arith, lt, X.head))
-    (sym (c.in_body.ensures x.body (get_or x.head L.j noAtom) X.body (body-at w c.args.nb c.args.nh x X fit) (head-at w c.args.nb c.args.nh x X fit L.j lt)) ∙ c.if-in_body.false)
-    (sym (c.is_self_loop.ensures set (get_or x.head L.j noAtom) F (head-at w c.args.nb c.args.nh x X fit L.j lt)) ∙ c.if-is_self_loop.false)
+    λ set x F X. L.invariant set x F X ∙ trivial_on set x L.j (omega (arith, lt, X.head))
+    (sym (c.in_body.ensures x.body (get_or x.head L.j no_atom) X.body (body_at_lem w c.args.nb c.args.nh x X fit) (head_at_lem w c.args.nb c.args.nh x X fit L.j lt)) ∙ c.if-in_body.false)
+    (sym (c.is_self_loop.ensures set (get_or x.head L.j no_atom) F (head_at_lem w c.args.nb c.args.nh x X fit L.j lt)) ∙ c.if-is_self_loop.false)
 
 pub returns : goal.returns
-returns c = let L = c.loop-j in λ set x F X. sym (L.invariant set x F X ∙ any-none (always set x) x.head L.j (omega (arith, c.loop-j-test.false, X.head)))
+returns c = let L = c.loop-j in λ set x F X. sym (L.invariant set x F X ∙ any_none (always set x) x.head L.j (omega (arith, c.loop-j-test.false, X.head)))

@@ -5,14 +5,14 @@ use lib.ListN.{drop}
 use Rattle.words.specs.Words.{words}
 use Rattle.rules.specs.Base.{any}
 use Rattle.rules.specs.State.{Clause}
-use Rattle.rules.specs.Reflexive.{isTrivial}
+use Rattle.rules.specs.Reflexive.{is_trivial}
 use Rattle.reflexive.specs.Flags.{FlagsHeld}
 use Rattle.contraction.specs.InHands.{ClauseInHand}
 use Rattle.contraction.specs.TrivialLaws.{always}
 use Rattle.contraction.proofs.contract.is_trivial.Given as goal
 
 abbrev pub invariant-loop-j : goal.invariant-loop-j
-invariant-loop-j l = (set : List ℕ) (x : Clause) → FlagsHeld (words l.scratch) set → ClauseInHand (words l.scratch) l.nb l.nh x → isTrivial set x ≡ any (always set x) (drop l.j x.head)
+invariant-loop-j l = (set : List ℕ) (x : Clause) → FlagsHeld (words l.scratch) set → ClauseInHand (words l.scratch) l.nb l.nh x → is_trivial set x ≡ any (always set x) (drop l.j x.head)
 
 abbrev pub decreases-loop-j : goal.decreases-loop-j
 decreases-loop-j l = l.nh - l.j

@@ -4,9 +4,9 @@ use native.Mathlib.Omega.{arith}
 use lib.ListN.{length, drop, length-take}
 use lib.Seq.{length-take-le}
 use Rattle.words.specs.Words.{words}
-use Rattle.rules.specs.Reflexive.{keptVar, droppedVar}
-use Rattle.contraction.specs.PlainLaws.{plain-front, plain-back}
-use Rattle.contraction.specs.ContractLaws.{contract-frame, contract-is}
+use Rattle.rules.specs.Reflexive.{kept_var, dropped_var}
+use Rattle.contraction.specs.PlainLaws.{plain_front, plain_back}
+use Rattle.contraction.specs.ContractLaws.{contract_frame, contract_is}
 use Rattle.contraction.proofs.contract.put_contracted.Goals as goal
 
 pub overflow_sub-last : goal.overflow_sub-last
@@ -24,7 +24,7 @@ slice_bounds-put_substituted-end c = sym (length-take-le (24 * c.args.i) c.args.
 pub put_substituted-requires : goal.put_substituted-requires
 put_substituted-requires c =
     let b = c.args.body.now in
-    (plain-front b c.requires.0 c.args.i (24 * c.args.i) refl (omega (arith, c.requires.2)), omega (arith, length-take-le (24 * c.args.i) b (omega (arith, c.requires.2)), c.requires.2, c.requires.3, c.requires.5))
+    (plain_front b c.requires.0 c.args.i (24 * c.args.i) refl (omega (arith, c.requires.2)), omega (arith, length-take-le (24 * c.args.i) b (omega (arith, c.requires.2)), c.requires.2, c.requires.3, c.requires.5))
 
 pub slice_bounds-put_substituted-count : goal.slice_bounds-put_substituted-count
 slice_bounds-put_substituted-count c = omega (arith, c.requires.0.run.long, c.requires.2)
@@ -35,7 +35,7 @@ slice_bounds-put_substituted-start c = omega (arith, c.requires.0.run.long, c.re
 pub put_substituted-requires-2 : goal.put_substituted-requires-2
 put_substituted-requires-2 c =
     let b = c.args.body.now in
-    (plain-back b c.requires.0 (c.args.i + 1) (24 * c.args.i + 24) (omega arith) (omega (arith, c.requires.0.run.long, c.requires.2)), omega (arith, length-take (length b - (24 * c.args.i + 24)) (drop (24 * c.args.i + 24) b), c.requires.0.run.long, c.requires.2, c.requires.3, c.requires.5, c.put_substituted.auto.scratch))
+    (plain_back b c.requires.0 (c.args.i + 1) (24 * c.args.i + 24) (omega arith) (omega (arith, c.requires.0.run.long, c.requires.2)), omega (arith, length-take (length b - (24 * c.args.i + 24)) (drop (24 * c.args.i + 24) b), c.requires.0.run.long, c.requires.2, c.requires.3, c.requires.5, c.put_substituted.auto.scratch))
 
 pub put_substituted-requires-3 : goal.put_substituted-requires-3
 put_substituted-requires-3 c =
@@ -54,6 +54,6 @@ returns c =
     let h = c.args.head.now in
     let w = words c.args.scratch.now in
     let i = c.args.i in record {
-      clause_in_hand = λ before after heads r src tgt B H eb. contract-is b h i (length b / 24 - 1) d.result k.result refl c.requires.2 w (words p1.new.scratch) (words p2.new.scratch) (words p3.new.scratch) p1.ensures.scratch_unchanged p1.ensures.substituted p2.ensures.scratch_unchanged p2.ensures.substituted p3.ensures.scratch_unchanged p3.ensures.substituted before after heads r src tgt B H eb (d.ensures ∙ ap₂ droppedVar es et) (k.ensures ∙ ap₂ keptVar es et);
-      scratch_unchanged = contract-frame b h i (length b / 24 - 1) d.result k.result refl c.requires.2 w (words p1.new.scratch) (words p2.new.scratch) (words p3.new.scratch) p1.ensures.scratch_unchanged p1.ensures.substituted p2.ensures.scratch_unchanged p2.ensures.substituted p3.ensures.scratch_unchanged p3.ensures.substituted;
+      clause_in_hand = λ before after heads r src tgt B H eb. contract_is b h i (length b / 24 - 1) d.result k.result refl c.requires.2 w (words p1.new.scratch) (words p2.new.scratch) (words p3.new.scratch) p1.ensures.scratch_unchanged p1.ensures.substituted p2.ensures.scratch_unchanged p2.ensures.substituted p3.ensures.scratch_unchanged p3.ensures.substituted before after heads r src tgt B H eb (d.ensures ∙ ap₂ dropped_var es et) (k.ensures ∙ ap₂ kept_var es et);
+      scratch_unchanged = contract_frame b h i (length b / 24 - 1) d.result k.result refl c.requires.2 w (words p1.new.scratch) (words p2.new.scratch) (words p3.new.scratch) p1.ensures.scratch_unchanged p1.ensures.substituted p2.ensures.scratch_unchanged p2.ensures.substituted p3.ensures.scratch_unchanged p3.ensures.substituted;
     }

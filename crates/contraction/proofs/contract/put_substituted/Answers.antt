@@ -3,13 +3,13 @@ use Prim.Native.Nat.{◌-◌}
 use native.Mathlib.Omega.{arith}
 use lib.ListN.{drop}
 use Rattle.words.specs.Words.{words}
-use Rattle.words.specs.Laws.{length-words}
-use Rattle.contraction.specs.PlainLaws.{plain-nth}
-use Rattle.contraction.specs.ContractLaws.{put-start, put-end, put-next}
+use Rattle.words.specs.Laws.{length_words}
+use Rattle.contraction.specs.PlainLaws.{plain_nth}
+use Rattle.contraction.specs.ContractLaws.{put_start, put_end, put_next}
 use Rattle.contraction.proofs.contract.put_substituted.Goals as goal
 
 pub loop-i-init : goal.loop-i-init
-loop-i-init c = (put-start c.args.run.now c.args.to c.args.drop c.args.keep (words c.args.scratch.now), refl)
+loop-i-init c = (put_start c.args.run.now c.args.to c.args.drop c.args.keep (words c.args.scratch.now), refl)
 
 pub overflow_add-to : goal.overflow_add-to
 overflow_add-to c = let L = c.loop-i in omega (arith, c.loop-i-test.true, c.requires.1, L.invariant.1)
@@ -18,7 +18,7 @@ pub put_one-requires : goal.put_one-requires
 put_one-requires c =
     let L = c.loop-i in
     let h = c.loop-i-test.true in
-    (plain-nth c.args.run.now c.requires.0 L.i h, omega (arith, h, c.requires.1, L.invariant.1))
+    (plain_nth c.args.run.now c.requires.0 L.i h, omega (arith, h, c.requires.1, L.invariant.1))
 
 pub overflow_add-i : goal.overflow_add-i
 overflow_add-i c = omega (arith, c.loop-i-test.true)
@@ -30,7 +30,7 @@ pub loop-i-preserved : goal.loop-i-preserved
 loop-i-preserved c =
     let L = c.loop-i in
     let h = c.loop-i-test.true in (
-      put-next c.args.run.now c.args.to c.args.drop c.args.keep (words c.args.scratch.now) (words L.scratch) L.i L.invariant.0 h c.requires.0 (omega (arith, h, c.requires.1, L.invariant.1, length-words L.scratch)) _ c.put_one.ensures,
+      put_next c.args.run.now c.args.to c.args.drop c.args.keep (words c.args.scratch.now) (words L.scratch) L.i L.invariant.0 h c.requires.0 (omega (arith, h, c.requires.1, L.invariant.1, length_words L.scratch)) _ c.put_one.ensures,
       c.put_one.auto.scratch ∙ L.invariant.1,
     )
 
@@ -41,6 +41,6 @@ pub returns : goal.returns
 returns c =
     let L = c.loop-i in
     record {
-      substituted = put-end c.args.run.now c.args.to c.args.drop c.args.keep (words c.args.scratch.now) (words L.scratch) L.i L.invariant.0 c.loop-i-test.false;
+      substituted = put_end c.args.run.now c.args.to c.args.drop c.args.keep (words c.args.scratch.now) (words L.scratch) L.i L.invariant.0 c.loop-i-test.false;
       scratch_unchanged = L.invariant.0.frame;
     }

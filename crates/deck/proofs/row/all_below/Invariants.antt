@@ -3,11 +3,11 @@ use Prim.Native.Nat.{◌-◌}
 use lib.ListN.{drop}
 use lib.Dec.{ltb}
 use Rattle.rules.specs.Base.{all}
-use Rattle.text.specs.Rows.{rowAt}
+use Rattle.text.specs.Rows.{row_at}
 use Rattle.deck.proofs.row.all_below.Given as goal
 
 abbrev pub invariant-loop-k : goal.invariant-loop-k
-invariant-loop-k l = all (λ x. ltb x (l.bound)) (drop l.k (rowAt l.deck l.p l.n)) ≡ all (λ x. ltb x (l.bound)) (drop l.from (rowAt l.deck l.p l.n))
+invariant-loop-k l = all (λ x. ltb x (l.bound)) (drop l.k (row_at l.deck l.p l.n)) ≡ all (λ x. ltb x (l.bound)) (drop l.from (row_at l.deck l.p l.n))
 
 abbrev pub decreases-loop-k : goal.decreases-loop-k
 decreases-loop-k l = l.n - l.k

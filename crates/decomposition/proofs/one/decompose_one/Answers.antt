@@ -4,36 +4,36 @@ use mathlib.Core.Path.{sym, ◌∙◌}
 use native.Mathlib.Omega.{arith}
 use lib.ListN.{length}
 use Rattle.words.specs.Words.{words}
-use Rattle.words.specs.Laws.{length-words}
-use Rattle.rules.specs.Branches.{headVars}
-use Rattle.branches.specs.Layout.{workWords}
-use Rattle.naming.specs.AgreeLaws.{same-words}
+use Rattle.words.specs.Laws.{length_words}
+use Rattle.rules.specs.Branches.{head_vars}
+use Rattle.branches.specs.Layout.{work_words}
+use Rattle.naming.specs.AgreeLaws.{same_words_lem}
 use Rattle.decomposition.specs.PlainLaws.{other}
-use Rattle.decomposition.specs.OneLaws.{one-narrow, one-other, one-named}
-use Rattle.decomposition.specs.CopiedLaws.{body-there, held-still, there-still, keep-still, tame-there}
+use Rattle.decomposition.specs.OneLaws.{one_narrow, one_other, one_named}
+use Rattle.decomposition.specs.CopiedLaws.{body_there, held_still, there_still, keep_still, tame_there}
 use Rattle.decomposition.proofs.one.decompose_one.Goals as goal
 
 pub returns-then-not-is_wide : goal.returns-then-not-is_wide
 returns-then-not-is_wide c =
-    λ x z B H N. one-narrow (words c.args.scratch.now) c.args.s x z (sym (not-true _ c.if-not-is_wide.true-raw) ∙ c.is_wide.ensures x.body B) N
+    λ x z B H N. one_narrow (words c.args.scratch.now) c.args.s x z (sym (not-true _ c.if-not-is_wide.true-raw) ∙ c.is_wide.ensures x.body B) N
 
 pub returns-then-not-is_plain : goal.returns-then-not-is_plain
 returns-then-not-is_plain c =
-    λ x z B H N. one-other (words c.args.scratch.now) c.args.s x z (sym (not-true _ c.if-not-is_plain.true-raw) ∙ c.is_plain.ensures x.body B) N
+    λ x z B H N. one_other (words c.args.scratch.now) c.args.s x z (sym (not-true _ c.if-not-is_plain.true-raw) ∙ c.is_plain.ensures x.body B) N
 
 pub head_vars-keep-requires : goal.head_vars-keep-requires
 head_vars-keep-requires c =
-    (omega (arith, c.requires.0.headIs.long, c.requires.0.inside.headShort), c.requires.3)
+    (omega (arith, c.requires.0.head_is.long, c.requires.0.inside.head_short), c.requires.3)
 
 pub copy_words-requires : goal.copy_words-requires
 copy_words-requires c =
     let P = c.requires.0 in
-    (omega (arith, P.bodyIs.long, P.inside.bodyShort, c.head_vars-keep.auto.scratch, c.requires.3), omega (arith, P.bodyIs.long))
+    (omega (arith, P.body_is.long, P.inside.body_short, c.head_vars-keep.auto.scratch, c.requires.3), omega (arith, P.body_is.long))
 
 pub overflow_cast-count : goal.overflow_cast-count
 overflow_cast-count c =
     let P = c.requires.0 in
-    omega (arith, c.atom_room-count.ensures, P.bodyIs.long, P.inside.bodyShort)
+    omega (arith, c.atom_room-count.ensures, P.body_is.long, P.inside.body_short)
 
 pub name_branches-requires : goal.name_branches-requires
 name_branches-requires c =
@@ -42,16 +42,16 @@ name_branches-requires c =
     let w2 = words c.copy_words.new.s in
     let P = c.requires.0 in
     let nb = c.atom_room-count.result in
-    let few : nb ≤ 256 = omega (arith, c.atom_room-count.ensures, P.bodyIs.long, P.inside.bodyShort) in
-    let work : workWords ≤ length w = omega (arith, c.requires.3, length-words c.args.scratch.now) in
-    let long = same-words c.args.scratch.now c.head_vars-keep.new.scratch c.head_vars-keep.auto.scratch in
+    let few : nb ≤ 256 = omega (arith, c.atom_room-count.ensures, P.body_is.long, P.inside.body_short) in
+    let work : work_words ≤ length w = omega (arith, c.requires.3, length_words c.args.scratch.now) in
+    let long = same_words_lem c.args.scratch.now c.head_vars-keep.new.scratch c.head_vars-keep.auto.scratch in
     let x = P.clause in
-    let plain = not-true (other x.body) (sym (c.is_plain.ensures x.body P.bodyIs) ∙ not-false _ c.if-not-is_plain.false-raw) in (
-      tame-there c.args.body.now nb w w1 w2 c.atom_room-count.ensures few long work c.head_vars-keep.ensures.upper_bound.1 c.copy_words.ensures c.args.head.now P plain,
+    let plain = not-true (other x.body) (sym (c.is_plain.ensures x.body P.body_is) ∙ not-false _ c.if-not-is_plain.false-raw) in (
+      tame_there c.args.body.now nb w w1 w2 c.atom_room-count.ensures few long work c.head_vars-keep.ensures.upper_bound.1 c.copy_words.ensures c.args.head.now P plain,
       few,
       omega arith,
       omega arith,
-      there-still c.args.body.now nb w w1 w2 c.atom_room-count.ensures few long work c.head_vars-keep.ensures.upper_bound.1 c.copy_words.ensures x.body P.bodyIs c.args.s c.requires.1,
+      there_still c.args.body.now nb w w1 w2 c.atom_room-count.ensures few long work c.head_vars-keep.ensures.upper_bound.1 c.copy_words.ensures x.body P.body_is c.args.s c.requires.1,
       c.requires.2,
       c.head_vars-keep.ensures.upper_bound.0,
       omega (arith, c.requires.3, c.head_vars-keep.auto.scratch, c.copy_words.auto.s),
@@ -64,15 +64,15 @@ returns c =
     let w2 = words c.copy_words.new.s in
     let P = c.requires.0 in
     let nb = c.atom_room-count.result in
-    let few : nb ≤ 256 = omega (arith, c.atom_room-count.ensures, P.bodyIs.long, P.inside.bodyShort) in
-    let work : workWords ≤ length w = omega (arith, c.requires.3, length-words c.args.scratch.now) in
-    let long = same-words c.args.scratch.now c.head_vars-keep.new.scratch c.head_vars-keep.auto.scratch in
+    let few : nb ≤ 256 = omega (arith, c.atom_room-count.ensures, P.body_is.long, P.inside.body_short) in
+    let work : work_words ≤ length w = omega (arith, c.requires.3, length_words c.args.scratch.now) in
+    let long = same_words_lem c.args.scratch.now c.head_vars-keep.new.scratch c.head_vars-keep.auto.scratch in
     λ x z B H N.
     let wide = sym (not-false _ c.if-not-is_wide.false-raw) ∙ c.is_wide.ensures x.body B in
     let plain = not-true (other x.body) (sym (c.is_plain.ensures x.body B) ∙ not-false _ c.if-not-is_plain.false-raw) in
-    one-named (words c.name_branches.new.scratch) c.args.s x z nb c.name_branches.result (omega (arith, c.atom_room-count.ensures, B.long)) wide plain
-    (c.name_branches.ensures.reduced_by x.body z (headVars x.head) (suc (length x.body))
-    (body-there c.args.body.now nb w w1 w2 c.atom_room-count.ensures few long work c.head_vars-keep.ensures.upper_bound.1 c.copy_words.ensures x.body B)
-    (held-still c.args.body.now nb w w1 w2 c.atom_room-count.ensures few long work c.head_vars-keep.ensures.upper_bound.1 c.copy_words.ensures x.body B c.args.s z N)
-    (keep-still c.args.body.now nb w w1 w2 c.atom_room-count.ensures few long work c.head_vars-keep.ensures.upper_bound.1 c.copy_words.ensures x.body B c.head_vars-keep.result (headVars x.head) (c.head_vars-keep.ensures.keep_is x.head H))
+    one_named (words c.name_branches.new.scratch) c.args.s x z nb c.name_branches.result (omega (arith, c.atom_room-count.ensures, B.long)) wide plain
+    (c.name_branches.ensures.reduced_by x.body z (head_vars x.head) (suc (length x.body))
+    (body_there c.args.body.now nb w w1 w2 c.atom_room-count.ensures few long work c.head_vars-keep.ensures.upper_bound.1 c.copy_words.ensures x.body B)
+    (held_still c.args.body.now nb w w1 w2 c.atom_room-count.ensures few long work c.head_vars-keep.ensures.upper_bound.1 c.copy_words.ensures x.body B c.args.s z N)
+    (keep_still c.args.body.now nb w w1 w2 c.atom_room-count.ensures few long work c.head_vars-keep.ensures.upper_bound.1 c.copy_words.ensures x.body B c.head_vars-keep.result (head_vars x.head) (c.head_vars-keep.ensures.keep_is x.head H))
     (omega (arith, c.atom_room-count.ensures, B.long)))

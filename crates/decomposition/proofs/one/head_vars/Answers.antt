@@ -2,12 +2,12 @@ use Prim.Native.Nat.{◌-◌}
 use mathlib.Core.Path.{refl, ◌∙◌}
 use native.Mathlib.Omega.{arith}
 use Rattle.words.specs.Words.{words}
-use Rattle.decomposition.specs.HeadVarLaws.{heading-start, heading-on, heading-end}
+use Rattle.decomposition.specs.HeadVarLaws.{heading_start, heading_on, heading_end}
 use Rattle.decomposition.proofs.one.head_vars.Goals as goal
 
 pub loop-i-init : goal.loop-i-init
 loop-i-init c =
-    (refl, heading-start c.args.head.now (words c.args.scratch.now) c.atom_room-count.result c.atom_room-count.ensures)
+    (refl, heading_start c.args.head.now (words c.args.scratch.now) c.atom_room-count.result c.atom_room-count.ensures)
 
 pub overflow_mul-i : goal.overflow_mul-i
 overflow_mul-i c =
@@ -55,7 +55,7 @@ loop-i-preserved c =
     let g1 = c.get_word in
     let g2 = c.get_word-in-loop-i in (
       c.keep_var-n-in-loop-i.auto.scratch ∙ c.keep_var-n.auto.scratch ∙ L.invariant.0,
-      heading-on c.args.head.now (words c.args.scratch.now) c.atom_room-count.result (words L.scratch) L.n L.i L.invariant.1 c.loop-i-test.true g1.result g2.result g1.ensures g2.ensures
+      heading_on c.args.head.now (words c.args.scratch.now) c.atom_room-count.result (words L.scratch) L.n L.i L.invariant.1 c.loop-i-test.true g1.result g2.result g1.ensures g2.ensures
           (words c.keep_var-n.new.scratch) (words c.keep_var-n-in-loop-i.new.scratch) c.keep_var-n.result c.keep_var-n-in-loop-i.result c.keep_var-n.ensures.by_index c.keep_var-n-in-loop-i.ensures.by_index c.keep_var-n.ensures.upper_bound.0 c.keep_var-n-in-loop-i.ensures.upper_bound.0
           c.keep_var-n.ensures.upper_bound.1 c.keep_var-n-in-loop-i.ensures.upper_bound.1,
     )
@@ -67,6 +67,6 @@ pub returns : goal.returns
 returns c =
     let L = c.loop-i in
     record {
-      keep_is = heading-end c.args.head.now (words c.args.scratch.now) c.atom_room-count.result (words L.scratch) L.n L.i L.invariant.1 c.loop-i-test.false;
+      keep_is = heading_end c.args.head.now (words c.args.scratch.now) c.atom_room-count.result (words L.scratch) L.n L.i L.invariant.1 c.loop-i-test.false;
       upper_bound = (omega (arith, L.invariant.1.few, L.invariant.1.here, L.invariant.1.all, c.requires.0), L.invariant.1.only);
     }

@@ -2,11 +2,11 @@ use mathlib.Core.Path.{refl, ◌∙◌}
 use Prim.Native.Nat.{◌-◌}
 use native.Mathlib.Omega.{arith}
 use Rattle.words.specs.Words.{words}
-use Rattle.decomposition.specs.BranchAtoms.{atoms-start, atom-fits, atoms-next, atoms-end}
+use Rattle.decomposition.specs.BranchAtoms.{atoms_start, atom_fits, atoms_next, atoms_end}
 use Rattle.decomposition.proofs.place.put_branch.Goals as goal
 
 pub loop-j-init : goal.loop-j-init
-loop-j-init c = let a = c.args in (atoms-start (words a.scratch.now) a.p a.n a.at a.name (words a.atoms.now), refl)
+loop-j-init c = let a = c.args in (atoms_start (words a.scratch.now) a.p a.n a.at a.name (words a.atoms.now), refl)
 
 pub overflow_add-at : goal.overflow_add-at
 overflow_add-at c = omega (arith, c.loop-j-test.true, c.requires.1, c.loop-j.invariant.1)
@@ -26,7 +26,7 @@ put_atom-requires c =
     let a = c.args in
     let h = c.loop-j-test.true in (
       omega (arith, h, c.requires.1, L.invariant.1),
-      atom-fits (words a.scratch.now) a.p a.n a.at a.name (words a.atoms.now) (words L.atoms) L.j L.invariant.0 h c.unpack.result (λ y k e. c.unpack.ensures y k (c.get_word.ensures ∙ e)) c.requires.2,
+      atom_fits (words a.scratch.now) a.p a.n a.at a.name (words a.atoms.now) (words L.atoms) L.j L.invariant.0 h c.unpack.result (λ y k e. c.unpack.ensures y k (c.get_word.ensures ∙ e)) c.requires.2,
     )
 
 pub overflow_add-j : goal.overflow_add-j
@@ -40,7 +40,7 @@ loop-j-preserved c =
     let L = c.loop-j in
     let a = c.args in
     let h = c.loop-j-test.true in (
-      atoms-next (words a.scratch.now) a.p a.n a.at a.name (words a.atoms.now) (words L.atoms) L.j L.invariant.0 h c.unpack.result (λ y k e. c.unpack.ensures y k (c.get_word.ensures ∙ e)) (words c.put_atom.new.t) c.put_atom.ensures,
+      atoms_next (words a.scratch.now) a.p a.n a.at a.name (words a.atoms.now) (words L.atoms) L.j L.invariant.0 h c.unpack.result (λ y k e. c.unpack.ensures y k (c.get_word.ensures ∙ e)) (words c.put_atom.new.t) c.put_atom.ensures,
       c.put_atom.auto.t ∙ L.invariant.1,
     )
 
@@ -57,4 +57,4 @@ pub returns : goal.returns
 returns c =
     let L = c.loop-j in
     let a = c.args in
-    atoms-end (words a.scratch.now) a.p a.n a.at a.name (words a.atoms.now) (words L.atoms) L.j L.invariant.0 c.loop-j-test.false (words c.put_atom-2.new.t) c.put_atom-2.ensures
+    atoms_end (words a.scratch.now) a.p a.n a.at a.name (words a.atoms.now) (words L.atoms) L.j L.invariant.0 c.loop-j-test.false (words c.put_atom-2.new.t) c.put_atom-2.ensures

@@ -2,24 +2,24 @@ use mathlib.Core.Path.{refl, ◌∙◌}
 use Prim.Native.Nat.{◌-◌}
 use native.Mathlib.Omega.{arith}
 use Rattle.words.specs.Words.{words}
-use Rattle.decomposition.specs.BranchRecords.{branches-start, branch-get, branch-room, branch-there, branches-next, clauses-are, atoms-are}
+use Rattle.decomposition.specs.BranchRecords.{branches_start, branch_get, branch_room, branch_there, branches_next, clauses_are, atoms_are}
 use Rattle.decomposition.proofs.place.put_named.Goals as goal
 
 pub loop-i-init : goal.loop-i-init
-loop-i-init c = let e = c.args in (branches-start (words e.scratch.now) e.s e.c e.to (words e.clauses.now) (words e.atoms.now), refl, refl)
+loop-i-init c = let e = c.args in (branches_start (words e.scratch.now) e.s e.c e.to (words e.clauses.now) (words e.atoms.now), refl, refl)
 
 pub get_word-n-requires : goal.get_word-n-requires
 get_word-n-requires c =
     let e = c.args in
     let L = c.loop-i in
-    omega (arith, c.requires.2, branch-get (words e.scratch.now) e.s e.c e.to (words e.clauses.now) (words e.atoms.now) (words L.clauses) (words L.atoms) L.p L.a L.i L.invariant.0 c.requires.0 c.loop-i-test.true)
+    omega (arith, c.requires.2, branch_get (words e.scratch.now) e.s e.c e.to (words e.clauses.now) (words e.atoms.now) (words L.clauses) (words L.atoms) L.p L.a L.i L.invariant.0 c.requires.0 c.loop-i-test.true)
 
 pub overflow_add-p : goal.overflow_add-p
 overflow_add-p c =
     let e = c.args in
     let L = c.loop-i in
     let g = c.get_word-n in
-    let r = branch-room (words e.scratch.now) e.s e.c e.to (words e.clauses.now) (words e.atoms.now) (words L.clauses) (words L.atoms) L.p L.a L.i L.invariant.0 c.requires.0 c.loop-i-test.true g.result g.ensures in
+    let r = branch_room (words e.scratch.now) e.s e.c e.to (words e.clauses.now) (words e.atoms.now) (words L.clauses) (words L.atoms) L.p L.a L.i L.invariant.0 c.requires.0 c.loop-i-test.true g.result g.ensures in
     omega (arith, r.0, r.1)
 
 pub overflow_cast-a : goal.overflow_cast-a
@@ -27,7 +27,7 @@ overflow_cast-a c =
     let e = c.args in
     let L = c.loop-i in
     let g = c.get_word-n in
-    let r = branch-room (words e.scratch.now) e.s e.c e.to (words e.clauses.now) (words e.atoms.now) (words L.clauses) (words L.atoms) L.p L.a L.i L.invariant.0 c.requires.0 c.loop-i-test.true g.result g.ensures in
+    let r = branch_room (words e.scratch.now) e.s e.c e.to (words e.clauses.now) (words e.atoms.now) (words L.clauses) (words L.atoms) L.p L.a L.i L.invariant.0 c.requires.0 c.loop-i-test.true g.result g.ensures in
     omega (arith, r.2, c.requires.4, c.requires.5.atoms)
 
 pub put_branch-requires : goal.put_branch-requires
@@ -35,10 +35,10 @@ put_branch-requires c =
     let e = c.args in
     let L = c.loop-i in
     let g = c.get_word-n in
-    let r = branch-room (words e.scratch.now) e.s e.c e.to (words e.clauses.now) (words e.atoms.now) (words L.clauses) (words L.atoms) L.p L.a L.i L.invariant.0 c.requires.0 c.loop-i-test.true g.result g.ensures in (
+    let r = branch_room (words e.scratch.now) e.s e.c e.to (words e.clauses.now) (words e.atoms.now) (words L.clauses) (words L.atoms) L.p L.a L.i L.invariant.0 c.requires.0 c.loop-i-test.true g.result g.ensures in (
       omega (arith, r.0, r.1, c.requires.2),
       omega (arith, r.2, c.requires.4, L.invariant.2),
-      branch-there (words e.scratch.now) e.s e.c e.to (words e.clauses.now) (words e.atoms.now) (words L.clauses) (words L.atoms) L.p L.a L.i L.invariant.0 c.requires.0 c.loop-i-test.true g.result g.ensures,
+      branch_there (words e.scratch.now) e.s e.c e.to (words e.clauses.now) (words e.atoms.now) (words L.clauses) (words L.atoms) L.p L.a L.i L.invariant.0 c.requires.0 c.loop-i-test.true g.result g.ensures,
       omega (arith, c.loop-i-test.true, c.requires.1, c.requires.3, c.requires.5.clauses),
     )
 
@@ -47,7 +47,7 @@ overflow_add-a c =
     let e = c.args in
     let L = c.loop-i in
     let g = c.get_word-n in
-    let r = branch-room (words e.scratch.now) e.s e.c e.to (words e.clauses.now) (words e.atoms.now) (words L.clauses) (words L.atoms) L.p L.a L.i L.invariant.0 c.requires.0 c.loop-i-test.true g.result g.ensures in
+    let r = branch_room (words e.scratch.now) e.s e.c e.to (words e.clauses.now) (words e.atoms.now) (words L.clauses) (words L.atoms) L.p L.a L.i L.invariant.0 c.requires.0 c.loop-i-test.true g.result g.ensures in
     omega (arith, r.2, c.requires.4, c.requires.5.atoms)
 
 pub overflow_add-a-in-loop-i : goal.overflow_add-a-in-loop-i
@@ -55,7 +55,7 @@ overflow_add-a-in-loop-i c =
     let e = c.args in
     let L = c.loop-i in
     let g = c.get_word-n in
-    let r = branch-room (words e.scratch.now) e.s e.c e.to (words e.clauses.now) (words e.atoms.now) (words L.clauses) (words L.atoms) L.p L.a L.i L.invariant.0 c.requires.0 c.loop-i-test.true g.result g.ensures in
+    let r = branch_room (words e.scratch.now) e.s e.c e.to (words e.clauses.now) (words e.atoms.now) (words L.clauses) (words L.atoms) L.p L.a L.i L.invariant.0 c.requires.0 c.loop-i-test.true g.result g.ensures in
     omega (arith, r.2, c.requires.4, c.requires.5.atoms)
 
 pub overflow_add-p-in-loop-i : goal.overflow_add-p-in-loop-i
@@ -63,7 +63,7 @@ overflow_add-p-in-loop-i c =
     let e = c.args in
     let L = c.loop-i in
     let g = c.get_word-n in
-    let r = branch-room (words e.scratch.now) e.s e.c e.to (words e.clauses.now) (words e.atoms.now) (words L.clauses) (words L.atoms) L.p L.a L.i L.invariant.0 c.requires.0 c.loop-i-test.true g.result g.ensures in
+    let r = branch_room (words e.scratch.now) e.s e.c e.to (words e.clauses.now) (words e.atoms.now) (words L.clauses) (words L.atoms) L.p L.a L.i L.invariant.0 c.requires.0 c.loop-i-test.true g.result g.ensures in
     omega (arith, r.0, r.1)
 
 pub overflow_add-p-in-loop-i-2 : goal.overflow_add-p-in-loop-i-2
@@ -71,14 +71,14 @@ overflow_add-p-in-loop-i-2 c =
     let e = c.args in
     let L = c.loop-i in
     let g = c.get_word-n in
-    let r = branch-room (words e.scratch.now) e.s e.c e.to (words e.clauses.now) (words e.atoms.now) (words L.clauses) (words L.atoms) L.p L.a L.i L.invariant.0 c.requires.0 c.loop-i-test.true g.result g.ensures in
+    let r = branch_room (words e.scratch.now) e.s e.c e.to (words e.clauses.now) (words e.atoms.now) (words L.clauses) (words L.atoms) L.p L.a L.i L.invariant.0 c.requires.0 c.loop-i-test.true g.result g.ensures in
     omega (arith, r.0, r.1)
 
 pub loop-i-preserved : goal.loop-i-preserved
 loop-i-preserved c =
     let e = c.args in
     let L = c.loop-i in (
-      branches-next (words e.scratch.now) e.s e.c e.to (words e.clauses.now) (words e.atoms.now) (words L.clauses) (words L.atoms) L.p L.a L.i L.invariant.0 c.loop-i-test.true c.get_word-n.result c.get_word-n.ensures (words c.put_clause.new.clauses) (words c.put_branch.new.atoms) c.put_clause.ensures c.put_branch.ensures,
+      branches_next (words e.scratch.now) e.s e.c e.to (words e.clauses.now) (words e.atoms.now) (words L.clauses) (words L.atoms) L.p L.a L.i L.invariant.0 c.loop-i-test.true c.get_word-n.result c.get_word-n.ensures (words c.put_clause.new.clauses) (words c.put_branch.new.atoms) c.put_clause.ensures c.put_branch.ensures,
       c.put_clause.auto.clauses ∙ L.invariant.1,
       c.put_branch.auto.atoms ∙ L.invariant.2,
     )
@@ -94,6 +94,6 @@ returns c =
     let e = c.args in
     let L = c.loop-i in
     record {
-      clauses_after = clauses-are (words e.scratch.now) e.s e.c e.to (words e.clauses.now) (words e.atoms.now) (words L.clauses) (words L.atoms) L.p L.a L.i L.invariant.0 c.loop-i-test.false;
-      atoms_after = atoms-are (words e.scratch.now) e.s e.c e.to (words e.clauses.now) (words e.atoms.now) (words L.clauses) (words L.atoms) L.p L.a L.i L.invariant.0 c.loop-i-test.false;
+      clauses_after = clauses_are (words e.scratch.now) e.s e.c e.to (words e.clauses.now) (words e.atoms.now) (words L.clauses) (words L.atoms) L.p L.a L.i L.invariant.0 c.loop-i-test.false;
+      atoms_after = atoms_are (words e.scratch.now) e.s e.c e.to (words e.clauses.now) (words e.atoms.now) (words L.clauses) (words L.atoms) L.p L.a L.i L.invariant.0 c.loop-i-test.false;
     }

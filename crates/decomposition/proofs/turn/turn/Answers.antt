@@ -1,22 +1,22 @@
 use mathlib.Core.Path.{refl}
 use native.Mathlib.Omega.{arith}
 use Rattle.words.specs.Words.{words}
-use Rattle.words.specs.Laws.{length-words}
-use Rattle.decomposition.specs.HereLaws.{clause-here}
-use Rattle.decomposition.specs.TurnLaws.{turn-full, turn-whole, turn-rewritten, there, there-parts, fits, there-shorter}
+use Rattle.words.specs.Laws.{length_words}
+use Rattle.decomposition.specs.HereLaws.{clause_here}
+use Rattle.decomposition.specs.TurnLaws.{turn_full, turn_whole, turn_rewritten, there, there_parts, fits, there_shorter}
 use Rattle.decomposition.proofs.turn.turn.Goals as goal
 
 pub first_atom-first-requires : goal.first_atom-first-requires
 first_atom-first-requires c =
-    omega (arith, (there c.requires.0).is.row, length-words c.args.clauses.now)
+    omega (arith, (there c.requires.0).is.row, length_words c.args.clauses.now)
 
 pub body_count-nb-requires : goal.body_count-nb-requires
 body_count-nb-requires c =
-    omega (arith, (there c.requires.0).is.row, length-words c.args.clauses.now)
+    omega (arith, (there c.requires.0).is.row, length_words c.args.clauses.now)
 
 pub head_count-nh-requires : goal.head_count-nh-requires
 head_count-nh-requires c =
-    omega (arith, (there c.requires.0).is.row, length-words c.args.clauses.now)
+    omega (arith, (there c.requires.0).is.row, length_words c.args.clauses.now)
 
 pub body_of-body-requires : goal.body_of-body-requires
 body_of-body-requires c = let H = there c.requires.0 in record { clause = H.clause; is = H.is }
@@ -27,7 +27,7 @@ head_of-head-requires c = let H = there c.requires.0 in record { clause = H.clau
 pub decompose_one-requires : goal.decompose_one-requires
 decompose_one-requires c =
     let T = c.requires.0 in
-    (there-parts T _ _ c.body_of-body.ensures c.head_of-head.ensures, record { state = T.passed.state; held = T.passed.held }, omega (arith, T.passed.first, T.listed.classes), c.requires.1)
+    (there_parts T _ _ c.body_of-body.ensures c.head_of-head.ensures, record { state = T.passed.state; held = T.passed.held }, omega (arith, T.passed.first, T.listed.classes), c.requires.1)
 
 pub overflow_add-from : goal.overflow_add-from
 overflow_add-from c =
@@ -36,7 +36,7 @@ overflow_add-from c =
     let f = c.first_atom-first in
     let T = c.requires.0 in
     let F = fits T f.ensures m.ensures h.ensures in
-    let la = length-words c.args.atoms.now in
+    let la = length_words c.args.atoms.now in
     omega (arith, F.room, la, c.requires.2.atoms)
 
 pub put_rewritten-requires : goal.put_rewritten-requires
@@ -46,11 +46,11 @@ put_rewritten-requires c =
     let f = c.first_atom-first in
     let T = c.requires.0 in
     let F = fits T f.ensures m.ensures h.ensures in
-    let lc = length-words c.args.clauses.now in
-    let la = length-words c.args.atoms.now in
+    let lc = length_words c.args.clauses.now in
+    let la = length_words c.args.atoms.now in
     let H = there T in
     let one = c.decompose_one in
-    let short = there-shorter T f.ensures m.ensures h.ensures (words one.new.scratch) _ c.in-To.n (rw c.in-To.is at (one.ensures H.clause T.passed.state (c.body_of-body.ensures H.clause H.is) (c.head_of-head.ensures H.clause H.is) T.passed.held)) in
+    let short = there_shorter T f.ensures m.ensures h.ensures (words one.new.scratch) _ c.in-To.n (rw c.in-To.is at (one.ensures H.clause T.passed.state (c.body_of-body.ensures H.clause H.is) (c.head_of-head.ensures H.clause H.is) T.passed.held)) in
     (omega (arith, short, F.short), omega (arith, one.auto.scratch, c.requires.1), omega (arith, F.row, lc), omega (arith, F.room, la), c.requires.2.atoms, omega (arith, short, F.low))
 
 pub overflow_add-body_end : goal.overflow_add-body_end
@@ -60,10 +60,10 @@ overflow_add-body_end c =
     let f = c.first_atom-first in
     let T = c.requires.0 in
     let F = fits T f.ensures m.ensures h.ensures in
-    let la = length-words c.args.atoms.now in
+    let la = length_words c.args.atoms.now in
     let H = there T in
     let one = c.decompose_one in
-    let short = there-shorter T f.ensures m.ensures h.ensures (words one.new.scratch) _ c.in-To.n (rw c.in-To.is at (one.ensures H.clause T.passed.state (c.body_of-body.ensures H.clause H.is) (c.head_of-head.ensures H.clause H.is) T.passed.held)) in
+    let short = there_shorter T f.ensures m.ensures h.ensures (words one.new.scratch) _ c.in-To.n (rw c.in-To.is at (one.ensures H.clause T.passed.state (c.body_of-body.ensures H.clause H.is) (c.head_of-head.ensures H.clause H.is) T.passed.held)) in
     omega (arith, short, F.low, F.room, la, c.requires.2.atoms)
 
 pub overflow_add-end : goal.overflow_add-end
@@ -73,10 +73,10 @@ overflow_add-end c =
     let f = c.first_atom-first in
     let T = c.requires.0 in
     let F = fits T f.ensures m.ensures h.ensures in
-    let la = length-words c.args.atoms.now in
+    let la = length_words c.args.atoms.now in
     let H = there T in
     let one = c.decompose_one in
-    let short = there-shorter T f.ensures m.ensures h.ensures (words one.new.scratch) _ c.in-To.n (rw c.in-To.is at (one.ensures H.clause T.passed.state (c.body_of-body.ensures H.clause H.is) (c.head_of-head.ensures H.clause H.is) T.passed.held)) in
+    let short = there_shorter T f.ensures m.ensures h.ensures (words one.new.scratch) _ c.in-To.n (rw c.in-To.is at (one.ensures H.clause T.passed.state (c.body_of-body.ensures H.clause H.is) (c.head_of-head.ensures H.clause H.is) T.passed.held)) in
     omega (arith, short, F.low, F.room, la, c.requires.2.atoms)
 
 pub overflow_add-more : goal.overflow_add-more
@@ -86,7 +86,7 @@ overflow_add-more c =
     let f = c.first_atom-first in
     let T = c.requires.0 in
     let F = fits T f.ensures m.ensures h.ensures in
-    let lc = length-words c.args.clauses.now in
+    let lc = length_words c.args.clauses.now in
     omega (arith, F.fewer, F.row, lc, c.requires.2.clauses)
 
 pub overflow_add-count : goal.overflow_add-count
@@ -96,7 +96,7 @@ overflow_add-count c =
     let f = c.first_atom-first in
     let T = c.requires.0 in
     let F = fits T f.ensures m.ensures h.ensures in
-    let la = length-words c.args.atoms.now in
+    let la = length_words c.args.atoms.now in
     omega (arith, F.room, la, c.requires.2.atoms)
 
 pub put_whole-requires : goal.put_whole-requires
@@ -106,8 +106,8 @@ put_whole-requires c =
     let f = c.first_atom-first in
     let T = c.requires.0 in
     let F = fits T f.ensures m.ensures h.ensures in
-    let lc = length-words c.args.clauses.now in
-    let la = length-words c.args.atoms.now in
+    let lc = length_words c.args.clauses.now in
+    let la = length_words c.args.atoms.now in
     (omega (arith, F.row, lc), omega (arith, F.room, la), F.low)
 
 pub overflow_add-whole_end : goal.overflow_add-whole_end
@@ -117,7 +117,7 @@ overflow_add-whole_end c =
     let f = c.first_atom-first in
     let T = c.requires.0 in
     let F = fits T f.ensures m.ensures h.ensures in
-    let la = length-words c.args.atoms.now in
+    let la = length_words c.args.atoms.now in
     omega (arith, F.low, F.room, la, c.requires.2.atoms)
 
 pub returns-in-To : goal.returns-in-To
@@ -137,9 +137,9 @@ returns-in-To c =
     let put = c.put_rewritten in
     let low = (fits c.requires.0 f.ensures m.ensures h.ensures).low in
     λ l fresh c0 a0 L k P.
-    let H = clause-here l c0 a0 cl at i to P.done.clauses L.tabled P.half k in
+    let H = clause_here l c0 a0 cl at i to P.done.clauses L.tabled P.half k in
     let r = one.ensures H.clause P.state (c.body_of-body.ensures H.clause H.is) (c.head_of-head.ensures H.clause H.is) P.held in
-    turn-rewritten l fresh c0 a0 w cl at s i to n P H f.result m.result h.result f.ensures m.ensures h.ensures w1 (words put.new.clauses) (words put.new.atoms) _ _ _ (rw c.in-To.is at r) low put.ensures.clauses_after put.ensures.atoms_after refl
+    turn_rewritten l fresh c0 a0 w cl at s i to n P H f.result m.result h.result f.ensures m.ensures h.ensures w1 (words put.new.clauses) (words put.new.atoms) _ _ _ (rw c.in-To.is at r) low put.ensures.clauses_after put.ensures.atoms_after refl
 
 pub returns-in-None : goal.returns-in-None
 returns-in-None c =
@@ -157,9 +157,9 @@ returns-in-None c =
     let w1 = words one.new.scratch in
     let put = c.put_whole in
     λ l fresh c0 a0 L k P.
-    let H = clause-here l c0 a0 cl at i to P.done.clauses L.tabled P.half k in
+    let H = clause_here l c0 a0 cl at i to P.done.clauses L.tabled P.half k in
     let r = one.ensures H.clause P.state (c.body_of-body.ensures H.clause H.is) (c.head_of-head.ensures H.clause H.is) P.held in
-    turn-whole l fresh c0 a0 w cl at s i to n P H f.result m.result h.result f.ensures m.ensures h.ensures w1 (words put.new.clauses) (words put.new.atoms) _ (rw c.in-None.is at r) put.ensures.clauses_after put.ensures.atoms_after refl
+    turn_whole l fresh c0 a0 w cl at s i to n P H f.result m.result h.result f.ensures m.ensures h.ensures w1 (words put.new.clauses) (words put.new.atoms) _ (rw c.in-None.is at r) put.ensures.clauses_after put.ensures.atoms_after refl
 
 pub returns-in-Refused : goal.returns-in-Refused
 returns-in-Refused c =
@@ -176,6 +176,6 @@ returns-in-Refused c =
     let one = c.decompose_one in
     let w1 = words one.new.scratch in
     λ l fresh c0 a0 L k P.
-    let H = clause-here l c0 a0 cl at i to P.done.clauses L.tabled P.half k in
+    let H = clause_here l c0 a0 cl at i to P.done.clauses L.tabled P.half k in
     let r = one.ensures H.clause P.state (c.body_of-body.ensures H.clause H.is) (c.head_of-head.ensures H.clause H.is) P.held in
-    turn-full l fresh c0 a0 w cl at s i to n P H w1 _ (rw c.in-Refused.is at r)
+    turn_full l fresh c0 a0 w cl at s i to n P H w1 _ (rw c.in-Refused.is at r)

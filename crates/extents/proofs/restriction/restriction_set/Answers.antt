@@ -1,12 +1,12 @@
 use mathlib.Core.Path.{◌≡◌, refl, ap, ◌∙◌}
 use Prim.Native.Nat.{ℕ, ◌-◌}
 use native.Mathlib.Omega.{arith}
-use Rattle.states.specs.Masks.{maskOf}
+use Rattle.states.specs.Masks.{mask_of}
 use Rattle.extents.specs.Sets.{restricted}
 use Rattle.extents.proofs.restriction.restriction_set.Goals as goal
 
 pub loop-x-init : goal.loop-x-init
-unfolding maskOf
+unfolding mask_of
 loop-x-init c = (omega arith, λ f g R e. refl)
 
 pub loop-x-preserved : goal.loop-x-preserved
@@ -24,4 +24,4 @@ returns c =
     let L = c.loop-x in
     let a = c.args in
     let q : L.x ≡ a.n = omega (arith, c.loop-x-test.false, L.invariant.0) in
-    λ f g R e. L.invariant.1 f g R e ∙ ap (λ (k : ℕ). maskOf k (λ y. restricted a.kind a.number a.n (f y) g)) q
+    λ f g R e. L.invariant.1 f g R e ∙ ap (λ (k : ℕ). mask_of k (λ y. restricted a.kind a.number a.n (f y) g)) q

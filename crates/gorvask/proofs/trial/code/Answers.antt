@@ -1,6 +1,6 @@
 use mathlib.Core.Path.{sym, ap}
-use Rattle.gorvask.specs.Trials.{codeOfTried}
+use Rattle.gorvask.specs.Trials.{code_of_tried}
 use Rattle.gorvask.proofs.trial.code.Goals as goal
 
 pub returns-in-Refused : goal.returns-in-Refused
-returns-in-Refused c = sym (ap codeOfTried c.in-Refused.is)
+returns-in-Refused c = sym (ap code_of_tried c.in-Refused.is)

@@ -1,9 +1,9 @@
-use Rattle.inclusions.specs.Parted.{hardAt, PartsIn}
-use Rattle.inclusions.specs.GrowLaws.{front-pool, clausifying-front}
-use Rattle.inclusions.specs.HardLaws.{positive, parts-none, parts-none-queued, parts-some, parts-some-queued, parts-then, parts-queued, parts-refused, parts-divided}
-use Rattle.ir.specs.Scratch.{stackAt}
+use Rattle.inclusions.specs.Parted.{hard_at, PartsIn}
+use Rattle.inclusions.specs.GrowLaws.{front_pool, clausifying_front}
+use Rattle.inclusions.specs.HardLaws.{positive, parts_none, parts_none_queued, parts_some, parts_some_queued, parts_then, parts_queued, parts_refused, parts_divided}
+use Rattle.ir.specs.Scratch.{stack_at}
 use Rattle.pool.specs.Layout.{run}
-use Rattle.axioms.specs.QueuedLaws.{queued-no}
+use Rattle.axioms.specs.QueuedLaws.{queued_no}
 use Rattle.hands.specs.Hands.{four}
 use Rattle.words.specs.Words.{words}
 use native.Mathlib.Omega.{arith}
@@ -23,8 +23,8 @@ absorb_none-requires c =
     let soft = c.in-Found.soft in
     let hard = c.in-Found.hard in
     let S = subst (PartsIn k sub (words s0) (words s1)) c.in-Found.is p.ensures.parts_in in
-    let same = front-pool s0 s1 k stackAt c.requires.0.encoding.reading (omega arith) p.ensures.scratch_unchanged in
-    let K = clausifying-front s0 s1 k l c.requires.0 p.auto.scratch p.ensures.scratch_unchanged S.alike S.good in
+    let same = front_pool s0 s1 k stack_at c.requires.0.encoding.reading (omega arith) p.ensures.scratch_unchanged in
+    let K = clausifying_front s0 s1 k l c.requires.0 p.auto.scratch p.ensures.scratch_unchanged S.alike S.good in
     (K, omega (arith, c.requires.1, S.alike.concepts), omega (arith, c.requires.2, S.alike.concepts), c.requires.3)
 
 pub returns-then-soft-eq0 : goal.returns-then-soft-eq0
@@ -39,15 +39,15 @@ returns-then-soft-eq0 c =
     let soft = c.in-Found.soft in
     let hard = c.in-Found.hard in
     let S = subst (PartsIn k sub (words s0) (words s1)) c.in-Found.is p.ensures.parts_in in
-    let same = front-pool s0 s1 k stackAt c.requires.0.encoding.reading (omega arith) p.ensures.scratch_unchanged in
-    let K = clausifying-front s0 s1 k l c.requires.0 p.auto.scratch p.ensures.scratch_unchanged S.alike S.good in
+    let same = front_pool s0 s1 k stack_at c.requires.0.encoding.reading (omega arith) p.ensures.scratch_unchanged in
+    let K = clausifying_front s0 s1 k l c.requires.0 p.auto.scratch p.ensures.scratch_unchanged S.alike S.good in
     let z = c.absorb_none in
     let y = four (words z.new.scratch) (words z.new.clauses) (words z.new.atoms) (words z.new.deferrals) in record {
       clausified = (
-        parts-then k sub sup (words s0) (words s1) (words c.args.clauses.now) (words c.args.atoms.now) (words c.args.deferrals.now) p.result p.ensures.scratch_after l soft hard y z.result c.in-Found.is S.alike same p.ensures.scratch_unchanged
-            (parts-none (words s1) sub sup soft (run (words s1) hardAt hard) l (four (words s1) (words c.args.clauses.now) (words c.args.atoms.now) (words c.args.deferrals.now)) y z.result c.if-soft-eq0.true z.ensures.clausified.0),
-        parts-queued k sub sup (words s0) (words s1) (words c.args.clauses.now) (words c.args.atoms.now) (words c.args.deferrals.now) p.result p.ensures.scratch_after l soft hard y c.in-Found.is S.alike same p.ensures.scratch_unchanged S.behind
-            (parts-none-queued (words s1) sub sup soft (run (words s1) hardAt hard) l (four (words s1) (words c.args.clauses.now) (words c.args.atoms.now) (words c.args.deferrals.now)) y c.if-soft-eq0.true z.ensures.clausified.1),
+        parts_then k sub sup (words s0) (words s1) (words c.args.clauses.now) (words c.args.atoms.now) (words c.args.deferrals.now) p.result p.ensures.scratch_after l soft hard y z.result c.in-Found.is S.alike same p.ensures.scratch_unchanged
+            (parts_none (words s1) sub sup soft (run (words s1) hard_at hard) l (four (words s1) (words c.args.clauses.now) (words c.args.atoms.now) (words c.args.deferrals.now)) y z.result c.if-soft-eq0.true z.ensures.clausified.0),
+        parts_queued k sub sup (words s0) (words s1) (words c.args.clauses.now) (words c.args.atoms.now) (words c.args.deferrals.now) p.result p.ensures.scratch_after l soft hard y c.in-Found.is S.alike same p.ensures.scratch_unchanged S.behind
+            (parts_none_queued (words s1) sub sup soft (run (words s1) hard_at hard) l (four (words s1) (words c.args.clauses.now) (words c.args.atoms.now) (words c.args.deferrals.now)) y c.if-soft-eq0.true z.ensures.clausified.1),
       );
       clausifying_after = z.ensures.clausifying_after;
     }
@@ -64,12 +64,12 @@ absorb_some-requires c =
     let soft = c.in-Found.soft in
     let hard = c.in-Found.hard in
     let S = subst (PartsIn k sub (words s0) (words s1)) c.in-Found.is p.ensures.parts_in in
-    let same = front-pool s0 s1 k stackAt c.requires.0.encoding.reading (omega arith) p.ensures.scratch_unchanged in
-    let K = clausifying-front s0 s1 k l c.requires.0 p.auto.scratch p.ensures.scratch_unchanged S.alike S.good in (
+    let same = front_pool s0 s1 k stack_at c.requires.0.encoding.reading (omega arith) p.ensures.scratch_unchanged in
+    let K = clausifying_front s0 s1 k l c.requires.0 p.auto.scratch p.ensures.scratch_unchanged S.alike S.good in (
       K,
       omega (arith, c.requires.1, S.alike.concepts),
       omega (arith, c.requires.2, S.alike.concepts),
-      parts-divided s1 (words s0) k l sub soft hard c.requires.1 same S (positive soft c.if-soft-eq0.false),
+      parts_divided s1 (words s0) k l sub soft hard c.requires.1 same S (positive soft c.if-soft-eq0.false),
       c.requires.3,
     )
 
@@ -85,15 +85,15 @@ returns-else-soft-eq0 c =
     let soft = c.in-Found.soft in
     let hard = c.in-Found.hard in
     let S = subst (PartsIn k sub (words s0) (words s1)) c.in-Found.is p.ensures.parts_in in
-    let same = front-pool s0 s1 k stackAt c.requires.0.encoding.reading (omega arith) p.ensures.scratch_unchanged in
-    let K = clausifying-front s0 s1 k l c.requires.0 p.auto.scratch p.ensures.scratch_unchanged S.alike S.good in
+    let same = front_pool s0 s1 k stack_at c.requires.0.encoding.reading (omega arith) p.ensures.scratch_unchanged in
+    let K = clausifying_front s0 s1 k l c.requires.0 p.auto.scratch p.ensures.scratch_unchanged S.alike S.good in
     let z = c.absorb_some in
     let y = four (words z.new.scratch) (words z.new.clauses) (words z.new.atoms) (words z.new.deferrals) in record {
       clausified = (
-        parts-then k sub sup (words s0) (words s1) (words c.args.clauses.now) (words c.args.atoms.now) (words c.args.deferrals.now) p.result p.ensures.scratch_after l soft hard y z.result c.in-Found.is S.alike same p.ensures.scratch_unchanged
-            (parts-some (words s1) sub sup soft (run (words s1) hardAt hard) l (four (words s1) (words c.args.clauses.now) (words c.args.atoms.now) (words c.args.deferrals.now)) y z.result (positive soft c.if-soft-eq0.false) z.ensures.clausified.0),
-        parts-queued k sub sup (words s0) (words s1) (words c.args.clauses.now) (words c.args.atoms.now) (words c.args.deferrals.now) p.result p.ensures.scratch_after l soft hard y c.in-Found.is S.alike same p.ensures.scratch_unchanged S.behind
-            (parts-some-queued (words s1) sub sup soft (run (words s1) hardAt hard) l (four (words s1) (words c.args.clauses.now) (words c.args.atoms.now) (words c.args.deferrals.now)) y (positive soft c.if-soft-eq0.false) z.ensures.clausified.1),
+        parts_then k sub sup (words s0) (words s1) (words c.args.clauses.now) (words c.args.atoms.now) (words c.args.deferrals.now) p.result p.ensures.scratch_after l soft hard y z.result c.in-Found.is S.alike same p.ensures.scratch_unchanged
+            (parts_some (words s1) sub sup soft (run (words s1) hard_at hard) l (four (words s1) (words c.args.clauses.now) (words c.args.atoms.now) (words c.args.deferrals.now)) y z.result (positive soft c.if-soft-eq0.false) z.ensures.clausified.0),
+        parts_queued k sub sup (words s0) (words s1) (words c.args.clauses.now) (words c.args.atoms.now) (words c.args.deferrals.now) p.result p.ensures.scratch_after l soft hard y c.in-Found.is S.alike same p.ensures.scratch_unchanged S.behind
+            (parts_some_queued (words s1) sub sup soft (run (words s1) hard_at hard) l (four (words s1) (words c.args.clauses.now) (words c.args.atoms.now) (words c.args.deferrals.now)) y (positive soft c.if-soft-eq0.false) z.ensures.clausified.1),
       );
       clausifying_after = z.ensures.clausifying_after;
     }
@@ -106,5 +106,5 @@ returns-in-Refused c =
     let sup = c.args.sup in
     let p = c.partition in
     let s1 = p.new.scratch in
-    let K = parts-refused k sub sup (words s0) (words s1) (words c.args.clauses.now) (words c.args.atoms.now) (words c.args.deferrals.now) p.result p.ensures.scratch_after c.in-Refused.e c.in-Refused.is p.ensures.scratch_unchanged in
-    record { clausified = (K, queued-no _ _ _ _ _ K); clausifying_after = tt }
+    let K = parts_refused k sub sup (words s0) (words s1) (words c.args.clauses.now) (words c.args.atoms.now) (words c.args.deferrals.now) p.result p.ensures.scratch_after c.in-Refused.e c.in-Refused.is p.ensures.scratch_unchanged in
+    record { clausified = (K, queued_no _ _ _ _ _ K); clausifying_after = tt }

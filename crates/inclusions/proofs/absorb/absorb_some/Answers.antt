@@ -1,12 +1,12 @@
-use Rattle.inclusions.specs.Parted.{softAt, hardAt, headOver, softAndOf, Normalised}
-use Rattle.inclusions.specs.Absorbs.{givesHead}
-use Rattle.inclusions.specs.GrowLaws.{grew-normal, grew-then, grew-asks, filled-clausifying}
-use Rattle.inclusions.specs.AbsorbLaws.{soft-inside, some-done, some-queued, some-stop}
-use Rattle.inclusions.specs.NormalLaws.{nnf-stop}
-use Rattle.axioms.specs.WholeLaws.{clausifying-after}
-use Rattle.axioms.specs.QueuedLaws.{queued-no}
+use Rattle.inclusions.specs.Parted.{soft_at, hard_at, head_over, soft_and_of, Normalised}
+use Rattle.inclusions.specs.Absorbs.{gives_head}
+use Rattle.inclusions.specs.GrowLaws.{grew_normal, grew_then, grew_asks, filled_clausifying}
+use Rattle.inclusions.specs.AbsorbLaws.{soft_inside, some_done, some_queued, some_stop}
+use Rattle.inclusions.specs.NormalLaws.{nnf_stop}
+use Rattle.axioms.specs.WholeLaws.{clausifying_after}
+use Rattle.axioms.specs.QueuedLaws.{queued_no}
 use Rattle.rules.specs.Base.{◌>>=◌}
-use Rattle.rules.specs.Axioms.{inNnf, inOut}
+use Rattle.rules.specs.Axioms.{in_nnf, in_out}
 use Rattle.pool.specs.Layout.{run}
 use Rattle.hands.specs.Hands.{four}
 use Rattle.words.specs.Words.{words}
@@ -21,13 +21,13 @@ soft_and-requires c =
     let k = c.args.k in
     let sup = c.args.sup in
     let soft = c.args.soft in
-    let hard = run (words s0) hardAt c.args.hard in
+    let hard = run (words s0) hard_at c.args.hard in
     let h = c.head_over in
     let s1 = h.new.scratch in
     let l = c.in-Done.l in
     let head = c.in-Done.head in
-    let M = subst (Normalised (headOver hard sup) k s0 s1) c.in-Done.is h.ensures in
-    (M.interned.reading, M.interned.good, c.requires.3.few, omega (arith, c.requires.0.space, h.auto.scratch), soft-inside (headOver hard sup) k l head s0 s1 soft M c.requires.3.softIn)
+    let M = subst (Normalised (head_over hard sup) k s0 s1) c.in-Done.is h.ensures in
+    (M.interned.reading, M.interned.good, c.requires.3.few, omega (arith, c.requires.0.space, h.auto.scratch), soft_inside (head_over hard sup) k l head s0 s1 soft M c.requires.3.soft_in)
 
 pub number_alternatives-requires : goal.number_alternatives-requires
 number_alternatives-requires c =
@@ -35,20 +35,20 @@ number_alternatives-requires c =
     let k = c.args.k in
     let sup = c.args.sup in
     let soft = c.args.soft in
-    let hard = run (words s0) hardAt c.args.hard in
+    let hard = run (words s0) hard_at c.args.hard in
     let h = c.head_over in
     let s1 = h.new.scratch in
     let l = c.in-Done.l in
     let head = c.in-Done.head in
-    let M = subst (Normalised (headOver hard sup) k s0 s1) c.in-Done.is h.ensures in
+    let M = subst (Normalised (head_over hard sup) k s0 s1) c.in-Done.is h.ensures in
     let a = c.soft_and in
     let s2 = a.new.scratch in
     let m = c.in-Done-soft_and.m in
     let g = c.in-Done-soft_and.g in
-    let J = subst (Normalised (softAndOf (run (words s1) softAt soft)) l s1 s2) c.in-Done-soft_and.is a.ensures in
-    let H = grew-normal (softAndOf (run (words s1) softAt soft)) l m g s1 s2 J in
-    let G = grew-then s0 s1 s2 k l m (grew-normal (headOver hard sup) k l head s0 s1 M) H in
-    grew-asks s0 s2 k m c.requires.0 (a.auto.scratch ∙ h.auto.scratch) G
+    let J = subst (Normalised (soft_and_of (run (words s1) soft_at soft)) l s1 s2) c.in-Done-soft_and.is a.ensures in
+    let H = grew_normal (soft_and_of (run (words s1) soft_at soft)) l m g s1 s2 J in
+    let G = grew_then s0 s1 s2 k l m (grew_normal (head_over hard sup) k l head s0 s1 M) H in
+    grew_asks s0 s2 k m c.requires.0 (a.auto.scratch ∙ h.auto.scratch) G
 
 pub emit_soft-requires : goal.emit_soft-requires
 emit_soft-requires c =
@@ -56,22 +56,22 @@ emit_soft-requires c =
     let k = c.args.k in
     let sup = c.args.sup in
     let soft = c.args.soft in
-    let hard = run (words s0) hardAt c.args.hard in
+    let hard = run (words s0) hard_at c.args.hard in
     let h = c.head_over in
     let s1 = h.new.scratch in
     let l = c.in-Done.l in
     let head = c.in-Done.head in
-    let M = subst (Normalised (headOver hard sup) k s0 s1) c.in-Done.is h.ensures in
+    let M = subst (Normalised (head_over hard sup) k s0 s1) c.in-Done.is h.ensures in
     let a = c.soft_and in
     let s2 = a.new.scratch in
     let m = c.in-Done-soft_and.m in
     let g = c.in-Done-soft_and.g in
-    let J = subst (Normalised (softAndOf (run (words s1) softAt soft)) l s1 s2) c.in-Done-soft_and.is a.ensures in
-    let H = grew-normal (softAndOf (run (words s1) softAt soft)) l m g s1 s2 J in
-    let G = grew-then s0 s1 s2 k l m (grew-normal (headOver hard sup) k l head s0 s1 M) H in
+    let J = subst (Normalised (soft_and_of (run (words s1) soft_at soft)) l s1 s2) c.in-Done-soft_and.is a.ensures in
+    let H = grew_normal (soft_and_of (run (words s1) soft_at soft)) l m g s1 s2 J in
+    let G = grew_then s0 s1 s2 k l m (grew_normal (head_over hard sup) k l head s0 s1 M) H in
     let n = c.number_alternatives in
     let s3 = n.new.scratch in
-    let K = filled-clausifying s0 s2 s3 k m G n.ensures.1 c.requires.0 (a.auto.scratch ∙ h.auto.scratch) n.auto.scratch n.ensures.0 in
+    let K = filled_clausifying s0 s2 s3 k m G n.ensures.1 c.requires.0 (a.auto.scratch ∙ h.auto.scratch) n.auto.scratch n.ensures.0 in
     (K, J.interned.inside, omega (arith, M.interned.inside, H.onward.concepts), c.requires.4)
 
 pub shape_of-scratch-in-Done-soft_and : goal.shape_of-scratch-in-Done-soft_and
@@ -84,25 +84,25 @@ returns-in-Done-soft_and c =
     let k = c.args.k in
     let sup = c.args.sup in
     let soft = c.args.soft in
-    let hard = run (words s0) hardAt c.args.hard in
+    let hard = run (words s0) hard_at c.args.hard in
     let h = c.head_over in
     let s1 = h.new.scratch in
     let l = c.in-Done.l in
     let head = c.in-Done.head in
-    let M = subst (Normalised (headOver hard sup) k s0 s1) c.in-Done.is h.ensures in
+    let M = subst (Normalised (head_over hard sup) k s0 s1) c.in-Done.is h.ensures in
     let a = c.soft_and in
     let s2 = a.new.scratch in
     let m = c.in-Done-soft_and.m in
     let g = c.in-Done-soft_and.g in
-    let J = subst (Normalised (softAndOf (run (words s1) softAt soft)) l s1 s2) c.in-Done-soft_and.is a.ensures in
-    let H = grew-normal (softAndOf (run (words s1) softAt soft)) l m g s1 s2 J in
-    let G = grew-then s0 s1 s2 k l m (grew-normal (headOver hard sup) k l head s0 s1 M) H in
+    let J = subst (Normalised (soft_and_of (run (words s1) soft_at soft)) l s1 s2) c.in-Done-soft_and.is a.ensures in
+    let H = grew_normal (soft_and_of (run (words s1) soft_at soft)) l m g s1 s2 J in
+    let G = grew_then s0 s1 s2 k l m (grew_normal (head_over hard sup) k l head s0 s1 M) H in
     let n = c.number_alternatives in
     let s3 = n.new.scratch in
-    let K = filled-clausifying s0 s2 s3 k m G n.ensures.1 c.requires.0 (a.auto.scratch ∙ h.auto.scratch) n.auto.scratch n.ensures.0 in
+    let K = filled_clausifying s0 s2 s3 k m G n.ensures.1 c.requires.0 (a.auto.scratch ∙ h.auto.scratch) n.auto.scratch n.ensures.0 in
     let z = c.emit_soft in record {
-      clausified = (some-done sup head soft hard k l s0 s1 s2 (words c.args.clauses.now) (words c.args.atoms.now) (words c.args.deferrals.now) M m g s3 (four (words z.new.scratch) (words z.new.clauses) (words z.new.atoms) (words z.new.deferrals)) z.result J n.ensures.1 K.encoding.reading.ready.held z.ensures.0, some-queued sup head soft hard k l s0 s1 s2 (words c.args.clauses.now) (words c.args.atoms.now) (words c.args.deferrals.now) M m g s3 (four (words z.new.scratch) (words z.new.clauses) (words z.new.atoms) (words z.new.deferrals)) J n.ensures.1 z.ensures.1);
-      clausifying_after = clausifying-after s3 z.new.scratch m z.result K z.auto.scratch z.ensures.0.frame z.ensures.0.good z.ensures.0.kept;
+      clausified = (some_done sup head soft hard k l s0 s1 s2 (words c.args.clauses.now) (words c.args.atoms.now) (words c.args.deferrals.now) M m g s3 (four (words z.new.scratch) (words z.new.clauses) (words z.new.atoms) (words z.new.deferrals)) z.result J n.ensures.1 K.encoding.reading.ready.held z.ensures.0, some_queued sup head soft hard k l s0 s1 s2 (words c.args.clauses.now) (words c.args.atoms.now) (words c.args.deferrals.now) M m g s3 (four (words z.new.scratch) (words z.new.clauses) (words z.new.atoms) (words z.new.deferrals)) J n.ensures.1 z.ensures.1);
+      clausifying_after = clausifying_after s3 z.new.scratch m z.result K z.auto.scratch z.ensures.0.frame z.ensures.0.good z.ensures.0.kept;
     }
 
 pub returns-in-Refused-soft_and : goal.returns-in-Refused-soft_and
@@ -111,17 +111,17 @@ returns-in-Refused-soft_and c =
     let k = c.args.k in
     let sup = c.args.sup in
     let soft = c.args.soft in
-    let hard = run (words s0) hardAt c.args.hard in
+    let hard = run (words s0) hard_at c.args.hard in
     let h = c.head_over in
     let s1 = h.new.scratch in
     let l = c.in-Done.l in
     let head = c.in-Done.head in
-    let M = subst (Normalised (headOver hard sup) k s0 s1) c.in-Done.is h.ensures in
+    let M = subst (Normalised (head_over hard sup) k s0 s1) c.in-Done.is h.ensures in
     let a = c.soft_and in
     let s2 = a.new.scratch in
-    let J = subst (Normalised (softAndOf (run (words s1) softAt soft)) l s1 s2) c.in-Refused-soft_and.is a.ensures in
-    let K = some-stop sup head soft hard k l s0 s1 s2 (words c.args.clauses.now) (words c.args.atoms.now) (words c.args.deferrals.now) M c.in-Refused-soft_and.e J in
-    record { clausified = (K, queued-no _ _ _ _ _ K); clausifying_after = tt }
+    let J = subst (Normalised (soft_and_of (run (words s1) soft_at soft)) l s1 s2) c.in-Refused-soft_and.is a.ensures in
+    let K = some_stop sup head soft hard k l s0 s1 s2 (words c.args.clauses.now) (words c.args.atoms.now) (words c.args.deferrals.now) M c.in-Refused-soft_and.e J in
+    record { clausified = (K, queued_no _ _ _ _ _ K); clausifying_after = tt }
 
 pub returns-in-Refused : goal.returns-in-Refused
 returns-in-Refused c =
@@ -129,9 +129,9 @@ returns-in-Refused c =
     let k = c.args.k in
     let sup = c.args.sup in
     let soft = c.args.soft in
-    let hard = run (words s0) hardAt c.args.hard in
+    let hard = run (words s0) hard_at c.args.hard in
     let h = c.head_over in
     let s1 = h.new.scratch in
-    let M = subst (Normalised (headOver hard sup) k s0 s1) c.in-Refused.is h.ensures in
-    let K = nnf-stop (headOver hard sup) k s0 s1 (words c.args.clauses.now) (words c.args.atoms.now) (words c.args.deferrals.now) (λ env j. inNnf (softAndOf (run (words s0) softAt soft)) >>= (λ g. inOut (givesHead env g j))) c.in-Refused.e M in
-    record { clausified = (K, queued-no _ _ _ _ _ K); clausifying_after = tt }
+    let M = subst (Normalised (head_over hard sup) k s0 s1) c.in-Refused.is h.ensures in
+    let K = nnf_stop (head_over hard sup) k s0 s1 (words c.args.clauses.now) (words c.args.atoms.now) (words c.args.deferrals.now) (λ env j. in_nnf (soft_and_of (run (words s0) soft_at soft)) >>= (λ g. in_out (gives_head env g j))) c.in-Refused.e M in
+    record { clausified = (K, queued_no _ _ _ _ _ K); clausifying_after = tt }

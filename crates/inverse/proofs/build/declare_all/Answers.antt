@@ -1,20 +1,20 @@
 use Prim.Native.Nat.{◌-◌}
-use Rattle.inverse.specs.AxiomLaws.{reading-first, reading-asks, reading-next, reading-end}
+use Rattle.inverse.specs.AxiomLaws.{reading_first, reading_asks, reading_next, reading_end}
 use Rattle.inverse.proofs.build.declare_all.Goals as goal
 
 pub loop-i-init : goal.loop-i-init
-loop-i-init c = reading-first _ _ c.requires.0 c.requires.1
+loop-i-init c = reading_first _ _ c.requires.0 c.requires.1
 
 pub declare_axiom-requires : goal.declare_axiom-requires
-declare_axiom-requires c = (reading-asks _ _ _ _ c.loop-i.invariant, c.loop-i-test.true)
+declare_axiom-requires c = (reading_asks _ _ _ _ c.loop-i.invariant, c.loop-i-test.true)
 
 pub loop-i-preserved : goal.loop-i-preserved
 loop-i-preserved c =
     let x = c.declare_axiom in
-    reading-next _ _ _ _ c.loop-i.invariant c.loop-i-test.true _ x.ensures.mapped x.ensures.beside x.auto.scratch
+    reading_next _ _ _ _ c.loop-i.invariant c.loop-i-test.true _ x.ensures.mapped x.ensures.beside x.auto.scratch
 
 pub returns : goal.returns
 returns c = record {
-  mapped = reading-end _ _ _ _ c.loop-i.invariant c.loop-i-test.false;
+  mapped = reading_end _ _ _ _ c.loop-i.invariant c.loop-i-test.false;
   beside = c.loop-i.invariant.beside;
 }

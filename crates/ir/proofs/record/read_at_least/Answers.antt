@@ -1,12 +1,12 @@
 use borrow.Author.Tests.{eq-eqb, ne_eqb}
 use mathlib.Core.Path.{refl}
-use Rattle.ir.specs.Records.{atLeastRead}
+use Rattle.ir.specs.Records.{at_least_read}
 use Rattle.ir.proofs.record.read_at_least.Goals as goal
 
 pub returns-then-w-ne0 : goal.returns-then-w-ne0
-unfolding atLeastRead
+unfolding at_least_read
 returns-then-w-ne0 c = rw (ne_eqb _ _ c.if-w-ne0.true) refl
 
 pub returns : goal.returns
-unfolding atLeastRead
+unfolding at_least_read
 returns c = rw (eq-eqb _ _ c.if-w-ne0.false, c.of_code.ensures, c.of_word.ensures) refl

@@ -1,12 +1,12 @@
 use borrow.Author.Tests.{eq-eqb, ne_eqb}
 use mathlib.Core.Path.{refl}
-use Rattle.ir.specs.Records.{atMostRead}
+use Rattle.ir.specs.Records.{at_most_read}
 use Rattle.ir.proofs.record.read_at_most.Goals as goal
 
 pub returns-then-w-ne0 : goal.returns-then-w-ne0
-unfolding atMostRead
+unfolding at_most_read
 returns-then-w-ne0 c = rw (ne_eqb _ _ c.if-w-ne0.true) refl
 
 pub returns : goal.returns
-unfolding atMostRead
+unfolding at_most_read
 returns c = rw (eq-eqb _ _ c.if-w-ne0.false, c.of_code.ensures, c.of_word.ensures) refl

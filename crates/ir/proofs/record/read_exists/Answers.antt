@@ -1,16 +1,16 @@
 use borrow.Author.Tests.{eq-eqb, ne_eqb, not-false, not-true}
 use mathlib.Core.Path.{refl}
-use Rattle.ir.specs.Records.{existsRead}
+use Rattle.ir.specs.Records.{exists_read}
 use Rattle.ir.proofs.record.read_exists.Goals as goal
 
 pub returns-then-not-unused : goal.returns-then-not-unused
-unfolding existsRead
+unfolding exists_read
 returns-then-not-unused c = rw (← c.unused.ensures, not-true c.unused.result c.if-not-unused.true-raw) refl
 
 pub returns-then-k-eq0 : goal.returns-then-k-eq0
-unfolding existsRead
+unfolding exists_read
 returns-then-k-eq0 c = rw (← c.unused.ensures, not-false c.unused.result c.if-not-unused.false-raw, eq-eqb _ _ c.if-k-eq0.true) refl
 
 pub returns : goal.returns
-unfolding existsRead
+unfolding exists_read
 returns c = rw (← c.unused.ensures, not-false c.unused.result c.if-not-unused.false-raw, ne_eqb _ _ c.if-k-eq0.false, c.of_code.ensures) refl

@@ -5,47 +5,47 @@ use mathlib.Core.Path.{sym, ◌∙◌}
 use Prim.Native.Nat.{◌-◌, ◌/◌}
 use lib.ListN.{length, drop}
 use Rattle.words.specs.Words.{words}
-use Rattle.text.specs.Rows.{rowAt, fieldsIn}
-use Rattle.sets.specs.Places.{lineAt}
-use Rattle.layouts.specs.Lines.{lineIn}
-use Rattle.layouts.proofs.Reading.{kept-before, placed-is, read-is, line-is, rows-kept, next-bad, next-long, next-other, next-good}
+use Rattle.text.specs.Rows.{row_at, fields_in}
+use Rattle.sets.specs.Places.{line_at}
+use Rattle.layouts.specs.Lines.{line_in}
+use Rattle.layouts.proofs.Reading.{kept_before, placed_is, read_is, line_is, rows_kept, next_bad, next_long, next_other, next_good}
 use Rattle.layouts.proofs.line.next_line.Goals as goal
 
 pub returns-in_default : goal.returns-in_default
 returns-in_default c =
     record {
-      next_as = next-other c.args.m c.args.at.kind c.args.at.id c.args.size c.args.text.now c.args.p c.read_row.result (length c.args.scratch.now / 4 - lineAt) c.requires.2 (opened c.in_default.in_default-own.keys2) c.read_row.ensures.result_value c.read_row.ensures.placed (omega (arith, c.requires.0));
-      kept_to = kept-before (words c.args.scratch.now) (words c.read_row.new.t) (rowAt c.args.text.now c.args.p (fieldsIn c.read_row.result)) lineAt c.read_row.ensures.t_after;
+      next_as = next_other c.args.m c.args.at.kind c.args.at.id c.args.size c.args.text.now c.args.p c.read_row.result (length c.args.scratch.now / 4 - line_at) c.requires.2 (opened c.in_default.in_default-own.keys2) c.read_row.ensures.result_value c.read_row.ensures.placed (omega (arith, c.requires.0));
+      kept_to = kept_before (words c.args.scratch.now) (words c.read_row.new.t) (row_at c.args.text.now c.args.p (fields_in c.read_row.result)) line_at c.read_row.ensures.t_after;
     }
 
 pub returns-then-n-gt40960 : goal.returns-then-n-gt40960
 returns-then-n-gt40960 c =
     let n = c.in-Read.n in
     let q = c.in-Read.q in
-    let e = read-is c.args.text.now c.args.p c.args.scratch.now c.requires.0 (words c.read_row.new.t) n q c.read_row.result c.in-Read.is c.read_row.ensures.result_value c.read_row.ensures.t_after in
+    let e = read_is c.args.text.now c.args.p c.args.scratch.now c.requires.0 (words c.read_row.new.t) n q c.read_row.result c.in-Read.is c.read_row.ensures.result_value c.read_row.ensures.t_after in
     record {
-      next_as = next-long c.args.m c.args.at.kind c.args.at.id c.args.size c.args.text.now c.args.p n (drop q c.args.text.now) c.requires.2 e c.if-n-gt40960.true;
-      kept_to = kept-before (words c.args.scratch.now) (words c.read_row.new.t) (rowAt c.args.text.now c.args.p (fieldsIn c.read_row.result)) lineAt c.read_row.ensures.t_after;
+      next_as = next_long c.args.m c.args.at.kind c.args.at.id c.args.size c.args.text.now c.args.p n (drop q c.args.text.now) c.requires.2 e c.if-n-gt40960.true;
+      kept_to = kept_before (words c.args.scratch.now) (words c.read_row.new.t) (row_at c.args.text.now c.args.p (fields_in c.read_row.result)) line_at c.read_row.ensures.t_after;
     }
 
 pub returns-then-not-line_ok : goal.returns-then-not-line_ok
 returns-then-not-line_ok c =
     let n = c.in-Read.n in
     let q = c.in-Read.q in
-    let e = read-is c.args.text.now c.args.p c.args.scratch.now c.requires.0 (words c.read_row.new.t) n q c.read_row.result c.in-Read.is c.read_row.ensures.result_value c.read_row.ensures.t_after in
-    let l = line-is c.args.text.now c.args.p c.args.scratch.now c.requires.0 (words c.read_row.new.t) n q c.read_row.result c.in-Read.is c.read_row.ensures.result_value c.read_row.ensures.t_after c.if-n-gt40960.false in
+    let e = read_is c.args.text.now c.args.p c.args.scratch.now c.requires.0 (words c.read_row.new.t) n q c.read_row.result c.in-Read.is c.read_row.ensures.result_value c.read_row.ensures.t_after in
+    let l = line_is c.args.text.now c.args.p c.args.scratch.now c.requires.0 (words c.read_row.new.t) n q c.read_row.result c.in-Read.is c.read_row.ensures.result_value c.read_row.ensures.t_after c.if-n-gt40960.false in
     record {
-      next_as = next-bad c.args.m c.args.at.kind c.args.at.id c.args.size c.args.text.now c.args.p (rowAt c.args.text.now c.args.p n) (lineIn (words c.read_row.new.t) n) (drop q c.args.text.now) e l (sym (not-true c.line_ok.result c.if-not-line_ok.true-raw) ∙ c.line_ok.ensures);
-      kept_to = kept-before (words c.args.scratch.now) (words c.read_row.new.t) (rowAt c.args.text.now c.args.p (fieldsIn c.read_row.result)) lineAt c.read_row.ensures.t_after;
+      next_as = next_bad c.args.m c.args.at.kind c.args.at.id c.args.size c.args.text.now c.args.p (row_at c.args.text.now c.args.p n) (line_in (words c.read_row.new.t) n) (drop q c.args.text.now) e l (sym (not-true c.line_ok.result c.if-not-line_ok.true-raw) ∙ c.line_ok.ensures);
+      kept_to = kept_before (words c.args.scratch.now) (words c.read_row.new.t) (row_at c.args.text.now c.args.p (fields_in c.read_row.result)) line_at c.read_row.ensures.t_after;
     }
 
 pub returns : goal.returns
 returns c =
     let n = c.in-Read.n in
     let q = c.in-Read.q in
-    let e = read-is c.args.text.now c.args.p c.args.scratch.now c.requires.0 (words c.read_row.new.t) n q c.read_row.result c.in-Read.is c.read_row.ensures.result_value c.read_row.ensures.t_after in
-    let l = line-is c.args.text.now c.args.p c.args.scratch.now c.requires.0 (words c.read_row.new.t) n q c.read_row.result c.in-Read.is c.read_row.ensures.result_value c.read_row.ensures.t_after c.if-n-gt40960.false in
-    let P = placed-is c.args.text.now c.args.p (length c.args.scratch.now / 4 - lineAt) n q c.read_row.result c.in-Read.is c.read_row.ensures.placed in record {
-      next_as = next-good c.args.m c.args.at.kind c.args.at.id c.args.size c.args.text.now c.args.p (words c.args.scratch.now) (words c.read_row.new.t) n q e l (sym c.line_ok.ensures ∙ not-false c.line_ok.result c.if-not-line_ok.false-raw) c.if-n-gt40960.false P.1.0 P.1.1 (rows-kept c.args.text.now c.args.p c.args.scratch.now c.requires.0 (words c.read_row.new.t) n q c.read_row.result c.in-Read.is c.read_row.ensures.result_value c.read_row.ensures.t_after c.if-n-gt40960.false);
-      kept_to = kept-before (words c.args.scratch.now) (words c.read_row.new.t) (rowAt c.args.text.now c.args.p (fieldsIn c.read_row.result)) lineAt c.read_row.ensures.t_after;
+    let e = read_is c.args.text.now c.args.p c.args.scratch.now c.requires.0 (words c.read_row.new.t) n q c.read_row.result c.in-Read.is c.read_row.ensures.result_value c.read_row.ensures.t_after in
+    let l = line_is c.args.text.now c.args.p c.args.scratch.now c.requires.0 (words c.read_row.new.t) n q c.read_row.result c.in-Read.is c.read_row.ensures.result_value c.read_row.ensures.t_after c.if-n-gt40960.false in
+    let P = placed_is c.args.text.now c.args.p (length c.args.scratch.now / 4 - line_at) n q c.read_row.result c.in-Read.is c.read_row.ensures.placed in record {
+      next_as = next_good c.args.m c.args.at.kind c.args.at.id c.args.size c.args.text.now c.args.p (words c.args.scratch.now) (words c.read_row.new.t) n q e l (sym c.line_ok.ensures ∙ not-false c.line_ok.result c.if-not-line_ok.false-raw) c.if-n-gt40960.false P.1.0 P.1.1 (rows_kept c.args.text.now c.args.p c.args.scratch.now c.requires.0 (words c.read_row.new.t) n q c.read_row.result c.in-Read.is c.read_row.ensures.result_value c.read_row.ensures.t_after c.if-n-gt40960.false);
+      kept_to = kept_before (words c.args.scratch.now) (words c.read_row.new.t) (row_at c.args.text.now c.args.p (fields_in c.read_row.result)) line_at c.read_row.ensures.t_after;
     }

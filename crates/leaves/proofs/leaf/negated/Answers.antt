@@ -6,33 +6,33 @@ use mathlib.Core.Option.{some}
 use Prim.{tt}
 use native.Mathlib.Omega.{arith}
 use Rattle.words.specs.Words.{words}
-use Rattle.pool.specs.Layout.{conceptAt, poolOf}
+use Rattle.pool.specs.Layout.{concept_at, pool_of}
 use Rattle.ir.specs.declared.role.Role.{Role}
 use Rattle.ir.specs.declared.atom.Atom.TheVariants as AtomIs
-use Rattle.leaves.specs.Classes.{classIn, SmallClass}
-use Rattle.leaves.specs.ReadLaws.{kind-of, concept-5, self-role, negated-class, negated-none}
+use Rattle.leaves.specs.Classes.{class_in, SmallClass}
+use Rattle.leaves.specs.ReadLaws.{kind_of, concept_5, self_role, negated_class, negated_none}
 use Rattle.leaves.proofs.leaf.negated.Goals as goal
 
 pub canon-requires : goal.canon-requires
-canon-requires c = (c.requires.0, c.requires.1, self-role (conceptAt (words c.args.scratch.now) c.args.d) (sym (kind-of c.args.scratch.now c.args.k c.requires.0 c.args.d c.requires.1) ∙ sym c.kind.ensures ∙ c.if-kind-eq5.true))
+canon-requires c = (c.requires.0, c.requires.1, self_role (concept_at (words c.args.scratch.now) c.args.d) (sym (kind_of c.args.scratch.now c.args.k c.requires.0 c.args.d c.requires.1) ∙ sym c.kind.ensures ∙ c.if-kind-eq5.true))
 
 pub returns-then-kind-eq5 : goal.returns-then-kind-eq5
 returns-then-kind-eq5 c = let e = sym c.kind.ensures ∙ c.if-kind-eq5.true in
     record {
-      result_value = λ env E. rw (concept-5 (words c.args.scratch.now) c.args.d e) (ap (λ (r : Role). some (AtomIs.Role r c.args.v c.args.v)) (c.canon.ensures.value env E));
+      result_value = λ env E. rw (concept_5 (words c.args.scratch.now) c.args.d e) (ap (λ (r : Role). some (AtomIs.Role r c.args.v c.args.v)) (c.canon.ensures.value env E));
       literal_fits = c.canon.ensures.result_bound;
     }
 
 pub returns-in-Some : goal.returns-in-Some
 returns-in-Some c = let q = c.class_id_of in
     record {
-      result_value = λ env E. negated-class env (poolOf (words c.args.scratch.now) c.args.k.concepts) c.args.v c.in-Some.a (conceptAt (words c.args.scratch.now) c.args.d) (ap classIn (sym c.in-Some.is) ∙ q.ensures.result_value env E);
+      result_value = λ env E. negated_class env (pool_of (words c.args.scratch.now) c.args.k.concepts) c.args.v c.in-Some.a (concept_at (words c.args.scratch.now) c.args.d) (ap class_in (sym c.in-Some.is) ∙ q.ensures.result_value env E);
       literal_fits = (let h = subst SmallClass c.in-Some.is q.ensures.small_class in omega (arith, h));
     }
 
 pub returns-in-None : goal.returns-in-None
 returns-in-None c = let q = c.class_id_of in
     record {
-      result_value = λ env E. negated-none env (poolOf (words c.args.scratch.now) c.args.k.concepts) c.args.v 0 (conceptAt (words c.args.scratch.now) c.args.d) (λ h. c.if-kind-eq5.false (c.kind.ensures ∙ kind-of c.args.scratch.now c.args.k c.requires.0 c.args.d c.requires.1 ∙ h)) (ap classIn (sym c.in-None.is) ∙ q.ensures.result_value env E);
+      result_value = λ env E. negated_none env (pool_of (words c.args.scratch.now) c.args.k.concepts) c.args.v 0 (concept_at (words c.args.scratch.now) c.args.d) (λ h. c.if-kind-eq5.false (c.kind.ensures ∙ kind_of c.args.scratch.now c.args.k c.requires.0 c.args.d c.requires.1 ∙ h)) (ap class_in (sym c.in-None.is) ∙ q.ensures.result_value env E);
       literal_fits = tt;
     }

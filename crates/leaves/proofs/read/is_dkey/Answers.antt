@@ -5,4 +5,4 @@ pub returns-then-a-lt4096 : goal.returns-then-a-lt4096
 returns-then-a-lt4096 c = λ env E. c.is_key.ensures ∙ E.keys.marked _ c.if-a-lt4096.true
 
 pub returns : goal.returns
-returns c = λ env E. sym (E.noKeys _ c.if-a-lt4096.false)
+returns c = λ env E. sym (E.no_keys _ c.if-a-lt4096.false)

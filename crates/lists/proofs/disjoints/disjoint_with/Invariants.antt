@@ -7,14 +7,14 @@ use Rattle.rules.specs.Axioms.{paired}
 use Rattle.pool.specs.Layout.{run}
 use Rattle.hands.specs.Hands.{four}
 use Rattle.lists.specs.Turns.{Turned}
-use Rattle.lists.specs.ListTurns.{eachOf}
+use Rattle.lists.specs.ListTurns.{each_of}
 use Rattle.lists.specs.WordLaws.{left}
-use Rattle.lists.specs.CallLaws.{pairOf}
+use Rattle.lists.specs.CallLaws.{pair_of}
 use Rattle.lists.proofs.disjoints.disjoint_with.Given as goal
 
 abbrev pub invariant-loop-j : goal.invariant-loop-j
-invariant-loop-j l = Turned (eachOf (pairOf l.deferred) (paired (get_or (words l.initial.scratch) (l.at + l.i) 0) (run (words l.initial.scratch) (l.at + l.i + 1) (l.count - (l.i + 1))) []))
-    (eachOf (pairOf l.deferred) (paired (get_or (words l.initial.scratch) (l.at + l.i) 0) (left (words l.initial.scratch) l.at l.count l.j) []))
+invariant-loop-j l = Turned (each_of (pair_of l.deferred) (paired (get_or (words l.initial.scratch) (l.at + l.i) 0) (run (words l.initial.scratch) (l.at + l.i + 1) (l.count - (l.i + 1))) []))
+    (each_of (pair_of l.deferred) (paired (get_or (words l.initial.scratch) (l.at + l.i) 0) (left (words l.initial.scratch) l.at l.count l.j) []))
     l.initial.l l.l (four (words l.initial.scratch) (words l.initial.clauses) (words l.initial.atoms) (words l.initial.deferrals)) l.scratch (words l.clauses) (words l.atoms) (words l.deferrals)
     × (length l.scratch ≡ length l.initial.scratch) × (length l.clauses ≡ length l.initial.clauses) × (length l.atoms ≡ length l.initial.atoms) × (length l.deferrals ≡ length l.initial.deferrals)
 

@@ -4,20 +4,20 @@ use Prim.{tt}
 use Prim.Native.Nat.{ℕ, ◌-◌}
 use native.Mathlib.Omega.{arith}
 use Rattle.words.specs.Words.{words}
-use Rattle.rules.specs.Axioms.{numbered, orderedFrom}
+use Rattle.rules.specs.Axioms.{numbered, ordered_from}
 use Rattle.pool.specs.Layout.{run}
-use Rattle.lists.specs.TurnLaws.{long-words, sized-kept}
-use Rattle.lists.specs.QueueTurns.{queue-start, queue-end, queue-part, queue-part-stop}
-use Rattle.lists.specs.PairLaws.{ordered-end}
-use Rattle.lists.specs.WordLaws.{left, left-all, left-end, listed-kept, ordered-turn}
-use Rattle.lists.specs.CallLaws.{gciOf}
+use Rattle.lists.specs.TurnLaws.{long_words, sized_kept}
+use Rattle.lists.specs.QueueTurns.{queue_start, queue_end, queue_part, queue_part_stop}
+use Rattle.lists.specs.PairLaws.{ordered_end}
+use Rattle.lists.specs.WordLaws.{left, left_all, left_end, listed_kept, ordered_turn}
+use Rattle.lists.specs.CallLaws.{gci_of}
 use Rattle.lists.proofs.equivalents.equivalent.Goals as goal
 
 pub loop-i-init : goal.loop-i-init
 loop-i-init c =
     let w = words c.args.scratch.now in (
-      queue-start gciOf c.args.k c.args.scratch.now (words c.args.clauses.now) (words c.args.atoms.now) (words c.args.deferrals.now) _ _ c.requires.0
-          (ap (λ (l : List ℕ). orderedFrom (numbered 0 l) (numbered 0 (run w c.args.at c.args.count))) (sym (left-all w c.args.at c.args.count))),
+      queue_start gci_of c.args.k c.args.scratch.now (words c.args.clauses.now) (words c.args.atoms.now) (words c.args.deferrals.now) _ _ c.requires.0
+          (ap (λ (l : List ℕ). ordered_from (numbered 0 l) (numbered 0 (run w c.args.at c.args.count))) (sym (left_all w c.args.at c.args.count))),
       refl,
       refl,
       refl,
@@ -28,8 +28,8 @@ pub equivalent_to-requires : goal.equivalent_to-requires
 equivalent_to-requires c =
     let L = c.loop-i in
     let T = L.invariant.0 in
-    let M = listed-kept (words c.args.scratch.now) (words L.scratch) T.turned.passed.untouched c.args.k L.l c.args.at c.args.count T.turned.passed.onward c.requires.1 in
-    (T.turned.clausifying, M, c.loop-i-test.true, sized-kept _ _ _ _ _ _ L.invariant.2 L.invariant.3 L.invariant.4 c.requires.2)
+    let M = listed_kept (words c.args.scratch.now) (words L.scratch) T.turned.passed.untouched c.args.k L.l c.args.at c.args.count T.turned.passed.onward c.requires.1 in
+    (T.turned.clausifying, M, c.loop-i-test.true, sized_kept _ _ _ _ _ _ L.invariant.2 L.invariant.3 L.invariant.4 c.requires.2)
 
 pub returns-in-Refused : goal.returns-in-Refused
 returns-in-Refused c =
@@ -39,9 +39,9 @@ returns-in-Refused c =
     let h = c.loop-i-test.true in
     let w = words c.args.scratch.now in
     let N = c.requires.1 in
-    let q = ordered-turn w (words L.scratch) T.turned.passed.untouched c.args.at c.args.count N.above N.below L.i h (numbered 0 (run w c.args.at c.args.count)) refl in
+    let q = ordered_turn w (words L.scratch) T.turned.passed.untouched c.args.at c.args.count N.above N.below L.i h (numbered 0 (run w c.args.at c.args.count)) refl in
     record {
-      clausified = queue-part-stop gciOf _ c.args.k L.l _ L.scratch (words L.clauses) (words L.atoms) (words L.deferrals) _ T _ _ _ _ r.result _ _ q (r.ensures.clausified, r.ensures.clausifying_after) c.in-Refused.e c.in-Refused.is;
+      clausified = queue_part_stop gci_of _ c.args.k L.l _ L.scratch (words L.clauses) (words L.atoms) (words L.deferrals) _ T _ _ _ _ r.result _ _ q (r.ensures.clausified, r.ensures.clausifying_after) c.in-Refused.e c.in-Refused.is;
       clausifying_after = tt;
     }
 
@@ -59,8 +59,8 @@ loop-i-preserved c =
     let h = c.loop-i-test.true in
     let w = words c.args.scratch.now in
     let N = c.requires.1 in
-    let q = ordered-turn w (words L.scratch) T.turned.passed.untouched c.args.at c.args.count N.above N.below L.i h (numbered 0 (run w c.args.at c.args.count)) refl in (
-      queue-part gciOf _ c.args.k L.l _ L.scratch (words L.clauses) (words L.atoms) (words L.deferrals) _ T _ _ _ _ r.result _ _ q (r.ensures.clausified, r.ensures.clausifying_after) (long-words _ _ L.clauses L.atoms L.deferrals _ _ _ r.auto.clauses r.auto.atoms r.auto.deferrals) c.in-Done.m c.in-Done.field-1 c.in-Done.is,
+    let q = ordered_turn w (words L.scratch) T.turned.passed.untouched c.args.at c.args.count N.above N.below L.i h (numbered 0 (run w c.args.at c.args.count)) refl in (
+      queue_part gci_of _ c.args.k L.l _ L.scratch (words L.clauses) (words L.atoms) (words L.deferrals) _ T _ _ _ _ r.result _ _ q (r.ensures.clausified, r.ensures.clausifying_after) (long_words _ _ L.clauses L.atoms L.deferrals _ _ _ r.auto.clauses r.auto.atoms r.auto.deferrals) c.in-Done.m c.in-Done.field-1 c.in-Done.is,
       r.auto.scratch ∙ L.invariant.1,
       r.auto.clauses ∙ L.invariant.2,
       r.auto.atoms ∙ L.invariant.3,
@@ -70,5 +70,5 @@ loop-i-preserved c =
 pub returns : goal.returns
 returns c =
     let L = c.loop-i in
-    let w = words c.args.scratch.now in let both = queue-end gciOf _ c.args.k L.l _ L.scratch (words L.clauses) (words L.atoms) (words L.deferrals) _ L.invariant.0
-    (ordered-end L.i (left w c.args.at c.args.count L.i) (numbered 0 (run w c.args.at c.args.count)) (left-end w c.args.at c.args.count L.i c.loop-i-test.false)) in record { clausified = both.0; clausifying_after = both.1 }
+    let w = words c.args.scratch.now in let both = queue_end gci_of _ c.args.k L.l _ L.scratch (words L.clauses) (words L.atoms) (words L.deferrals) _ L.invariant.0
+    (ordered_end L.i (left w c.args.at c.args.count L.i) (numbered 0 (run w c.args.at c.args.count)) (left_end w c.args.at c.args.count L.i c.loop-i-test.false)) in record { clausified = both.0; clausifying_after = both.1 }

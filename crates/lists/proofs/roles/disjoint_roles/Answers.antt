@@ -4,19 +4,19 @@ use Prim.{tt}
 use Prim.Native.Nat.{ℕ, ◌-◌}
 use native.Mathlib.Omega.{arith}
 use Rattle.words.specs.Words.{words}
-use Rattle.ir.specs.Roles.{roleOf}
-use Rattle.rules.specs.Axioms.{laterPairs}
-use Rattle.lists.specs.Listed.{pairDisjoint}
-use Rattle.lists.specs.TurnLaws.{long-words-3, sized-kept}
-use Rattle.lists.specs.ListTurns.{list-start, list-end, part-next, part-stop}
-use Rattle.lists.specs.PairLaws.{later-end}
-use Rattle.lists.specs.WordLaws.{left, left-all, left-end, roles-kept, later-roles}
+use Rattle.ir.specs.Roles.{role_of}
+use Rattle.rules.specs.Axioms.{later_pairs}
+use Rattle.lists.specs.Listed.{pair_disjoint}
+use Rattle.lists.specs.TurnLaws.{long_words_3, sized_kept}
+use Rattle.lists.specs.ListTurns.{list_start, list_end, part_next, part_stop}
+use Rattle.lists.specs.PairLaws.{later_end}
+use Rattle.lists.specs.WordLaws.{left, left_all, left_end, roles_kept, later_roles}
 use Rattle.lists.proofs.roles.disjoint_roles.Goals as goal
 
 pub loop-i-init : goal.loop-i-init
 loop-i-init c = (
-  λ d. list-start pairDisjoint c.args.k c.args.scratch.now (words c.args.clauses.now) (words c.args.atoms.now) d _ _ c.requires.0
-      (ap (λ (l : List ℕ). laterPairs (map roleOf l)) (sym (left-all (words c.args.scratch.now) c.args.at c.args.count))),
+  λ d. list_start pair_disjoint c.args.k c.args.scratch.now (words c.args.clauses.now) (words c.args.atoms.now) d _ _ c.requires.0
+      (ap (λ (l : List ℕ). later_pairs (map role_of l)) (sym (left_all (words c.args.scratch.now) c.args.at c.args.count))),
   refl,
   refl,
   refl,
@@ -26,8 +26,8 @@ pub disjoint_roles_with-requires : goal.disjoint_roles_with-requires
 disjoint_roles_with-requires c =
     let L = c.loop-i in
     let T = L.invariant.0 [] in
-    let M = roles-kept (words c.args.scratch.now) (words L.scratch) T.passed.untouched c.args.at c.args.count c.requires.1 in
-    (T.clausifying, M, c.loop-i-test.true, sized-kept _ _ _ _ _ _ L.invariant.2 L.invariant.3 refl c.requires.2)
+    let M = roles_kept (words c.args.scratch.now) (words L.scratch) T.passed.untouched c.args.at c.args.count c.requires.1 in
+    (T.clausifying, M, c.loop-i-test.true, sized_kept _ _ _ _ _ _ L.invariant.2 L.invariant.3 refl c.requires.2)
 
 pub returns-in-Refused : goal.returns-in-Refused
 returns-in-Refused c =
@@ -36,9 +36,9 @@ returns-in-Refused c =
     let r = c.disjoint_roles_with in
     let h = c.loop-i-test.true in
     let N = c.requires.1 in
-    let q = later-roles (words c.args.scratch.now) (words L.scratch) (T []).passed.untouched c.args.at c.args.count N.above N.below L.i h in
+    let q = later_roles (words c.args.scratch.now) (words L.scratch) (T []).passed.untouched c.args.at c.args.count N.above N.below L.i h in
     record {
-      fact = (λ d. part-stop pairDisjoint _ c.args.k L.l _ L.scratch (words L.clauses) (words L.atoms) d _ (T d) _ _ _ _ r.result _ _ q (r.ensures.fact d, r.ensures.clausifying_after) c.in-Refused.e c.in-Refused.is);
+      fact = (λ d. part_stop pair_disjoint _ c.args.k L.l _ L.scratch (words L.clauses) (words L.atoms) d _ (T d) _ _ _ _ r.result _ _ q (r.ensures.fact d, r.ensures.clausifying_after) c.in-Refused.e c.in-Refused.is);
       clausifying_after = tt;
     }
 
@@ -55,8 +55,8 @@ loop-i-preserved c =
     let r = c.disjoint_roles_with in
     let h = c.loop-i-test.true in
     let N = c.requires.1 in
-    let q = later-roles (words c.args.scratch.now) (words L.scratch) (T []).passed.untouched c.args.at c.args.count N.above N.below L.i h in (
-      (λ d. part-next pairDisjoint _ c.args.k L.l _ L.scratch (words L.clauses) (words L.atoms) d _ (T d) _ _ _ _ r.result _ _ q (r.ensures.fact d, r.ensures.clausifying_after) (long-words-3 _ _ L.clauses L.atoms d _ _ r.auto.clauses r.auto.atoms) c.in-Done.m c.in-Done.field-1 c.in-Done.is),
+    let q = later_roles (words c.args.scratch.now) (words L.scratch) (T []).passed.untouched c.args.at c.args.count N.above N.below L.i h in (
+      (λ d. part_next pair_disjoint _ c.args.k L.l _ L.scratch (words L.clauses) (words L.atoms) d _ (T d) _ _ _ _ r.result _ _ q (r.ensures.fact d, r.ensures.clausifying_after) (long_words_3 _ _ L.clauses L.atoms d _ _ r.auto.clauses r.auto.atoms) c.in-Done.m c.in-Done.field-1 c.in-Done.is),
       r.auto.scratch ∙ L.invariant.1,
       r.auto.clauses ∙ L.invariant.2,
       r.auto.atoms ∙ L.invariant.3,
@@ -66,8 +66,8 @@ pub returns : goal.returns
 returns c =
     let L = c.loop-i in
     let w = words c.args.scratch.now in
-    let z = ap (map roleOf) (left-end w c.args.at c.args.count L.i c.loop-i-test.false) in
+    let z = ap (map role_of) (left_end w c.args.at c.args.count L.i c.loop-i-test.false) in
     record {
-      fact = (λ d. (list-end pairDisjoint _ c.args.k L.l _ L.scratch (words L.clauses) (words L.atoms) d _ (L.invariant.0 d) (later-end (map roleOf (left w c.args.at c.args.count L.i)) z)).0);
+      fact = (λ d. (list_end pair_disjoint _ c.args.k L.l _ L.scratch (words L.clauses) (words L.atoms) d _ (L.invariant.0 d) (later_end (map role_of (left w c.args.at c.args.count L.i)) z)).0);
       clausifying_after = (L.invariant.0 []).clausifying;
     }

@@ -5,13 +5,13 @@ use Rattle.words.specs.Words.{words}
 use Rattle.pool.specs.Layout.{run}
 use Rattle.hands.specs.Hands.{four}
 use Rattle.lists.specs.Turns.{Turned}
-use Rattle.lists.specs.ListTurns.{eachOf}
+use Rattle.lists.specs.ListTurns.{each_of}
 use Rattle.lists.specs.WordLaws.{left}
-use Rattle.lists.specs.CallLaws.{memberOf}
+use Rattle.lists.specs.CallLaws.{member_of}
 use Rattle.lists.proofs.unions.union_members.Given as goal
 
 abbrev pub invariant-loop-i : goal.invariant-loop-i
-invariant-loop-i l = Turned (eachOf (memberOf l.class) (run (words l.initial.scratch) l.at l.count)) (eachOf (memberOf l.class) (left (words l.initial.scratch) l.at l.count l.i))
+invariant-loop-i l = Turned (each_of (member_of l.class) (run (words l.initial.scratch) l.at l.count)) (each_of (member_of l.class) (left (words l.initial.scratch) l.at l.count l.i))
     l.initial.l l.l (four (words l.initial.scratch) (words l.initial.clauses) (words l.initial.atoms) (words l.initial.deferrals)) l.scratch (words l.clauses) (words l.atoms) (words l.deferrals)
     × (length l.scratch ≡ length l.initial.scratch) × (length l.clauses ≡ length l.initial.clauses) × (length l.atoms ≡ length l.initial.atoms) × (length l.deferrals ≡ length l.initial.deferrals)
 

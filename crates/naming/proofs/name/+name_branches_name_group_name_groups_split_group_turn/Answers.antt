@@ -4,19 +4,19 @@ use Prim.Native.Nat.{◌+◌, ◌*◌, ◌-◌, ◌≤◌}
 use native.Mathlib.Omega.{arith}
 use lib.ListN.{length, get_or, take}
 use Rattle.words.specs.Words.{words}
-use Rattle.words.specs.Laws.{length-words}
-use Rattle.naming.specs.Splits.{splitRule, groupRule}
-use Rattle.naming.specs.AgreeLaws.{same-words}
-use Rattle.naming.specs.SplitLaws.{keep-none, there-of, tame-of, part-of, split-narrow, split-none, innerAt, named-front, there-front, inner-are, inner-there, fronted-again, split-to, split-full, split-back, split-only, only-back, names-none, below, reduced-short}
-use Rattle.naming.specs.CallLaws.{call-name, call-none, call-full, split-there, call-only}
+use Rattle.words.specs.Laws.{length_words}
+use Rattle.naming.specs.Splits.{split_rule, group_rule}
+use Rattle.naming.specs.AgreeLaws.{same_words_lem}
+use Rattle.naming.specs.SplitLaws.{keep_none, there_of, tame_of, part_of, split_narrow, split_none, inner_at, named_front, there_front, inner_are, inner_there, fronted_again, split_to, split_full, split_back, split_only, only_back, names_none, below, reduced_short}
+use Rattle.naming.specs.CallLaws.{call_name, call_none, call_full, split_there, call_only}
 use Rattle.branches.specs.Edges.{fronted}
-use Rattle.naming.specs.TurnLaws.{child-are, child-there, child-high, child-low, child-few, child-named, stay-only, stay-turned, turn-only, turn-full, named-only, call-turned, called-small}
+use Rattle.naming.specs.TurnLaws.{child_are, child_there, child_high, child_low, child_few, child_named, stay_only, stay_turned, turn_only, turn_full, named_only, call_turned, called_small}
 use Rattle.branches.specs.Sorting.{sum}
-use Rattle.naming.specs.GroupTurns.{walk-start, sum-fits, walk-low, walk-high, walk-standing, walk-child, child-most, walk-only, walk-next, walk-stop, left-some, left-none}
-use Rattle.rules.specs.Branches.{treeOf, grouped, nameBy}
+use Rattle.naming.specs.GroupTurns.{walk_start, sum_fits, walk_low, walk_high, walk_standing, walk_child, child_most, walk_only, walk_next, walk_stop, left_some, left_none}
+use Rattle.rules.specs.Branches.{tree_of, grouped, name_by}
 use Rattle.branches.specs.Grouped.{nothing}
-use Rattle.naming.specs.NameSteps.{tree-atoms, tree-only, tree-none, connected, groupsFor, laid-by, laid-few, step-answer, laid-held, laid-named, laid-keep, laid-only}
-use Rattle.branches.specs.Layout.{workWords}
+use Rattle.naming.specs.NameSteps.{tree_atoms, tree_only, tree_none, connected, groups_for, laid_by, laid_few, step_answer, laid_held, laid_named, laid_keep, laid_only}
+use Rattle.branches.specs.Layout.{work_words}
 use Prim.Native.Nat.{ℕ}
 use Rattle.naming.proofs.name.+name_branches_name_group_name_groups_split_group_turn.Goals as goal
 
@@ -25,7 +25,7 @@ name_branches-tree-n-requires t c =
     let w0 = words c.args.scratch.now in
     let base = c.args.base in
     let count = c.args.count in
-    (there-of w0 base count c.requires.0, c.requires.1, omega (arith, c.requires.3), c.requires.7)
+    (there_of w0 base count c.requires.0, c.requires.1, omega (arith, c.requires.3), c.requires.7)
 
 pub name_branches-returns-then-n-eq0 : goal.name_branches-returns-then-n-eq0
 name_branches-returns-then-n-eq0 t c =
@@ -37,10 +37,10 @@ name_branches-returns-then-n-eq0 t c =
     let count = c.args.count in
     let root = c.args.root in
     let s = c.args.s in
-    let long1 = same-words c.args.scratch.now the-tree.new.scratch the-tree.auto.scratch in
+    let long1 = same_words_lem c.args.scratch.now the-tree.new.scratch the-tree.auto.scratch in
     record {
-      reduced_by = λ l z kept f A H K k. tree-none w0 w1 base count root s long1 c.requires.2 c.requires.3 the-tree.ensures.only_tree the-tree.result the-if1.true l z kept f A H k (the-tree.ensures.tree_is l A);
-      only_names = tree-only w0 w1 base count root s long1 c.requires.2 c.requires.3 the-tree.ensures.only_tree;
+      reduced_by = λ l z kept f A H K k. tree_none w0 w1 base count root s long1 c.requires.2 c.requires.3 the-tree.ensures.only_tree the-tree.result the-if1.true l z kept f A H k (the-tree.ensures.tree_is l A);
+      only_names = tree_only w0 w1 base count root s long1 c.requires.2 c.requires.3 the-tree.ensures.only_tree;
     }
 
 pub name_branches-arrange-groups-requires : goal.name_branches-arrange-groups-requires
@@ -54,9 +54,9 @@ name_branches-arrange-groups-requires t c =
     let count = c.args.count in
     let root = c.args.root in
     let s = c.args.s in
-    let long1 = same-words c.args.scratch.now the-tree.new.scratch the-tree.auto.scratch in
+    let long1 = same_words_lem c.args.scratch.now the-tree.new.scratch the-tree.auto.scratch in
     let joined = connected w1 root list the-tree.result the-if1.false (the-tree.ensures.tree_is list c.requires.0.are) in
-    (record { list = list; are = tree-atoms w0 w1 base count root s long1 c.requires.2 c.requires.3 the-tree.ensures.only_tree list c.requires.0.are }, record { root = root; tree = treeOf list root; treed = joined.1 }, c.requires.1, c.requires.3, omega arith, omega arith, omega (arith, the-tree.auto.scratch, c.requires.7))
+    (record { list = list; are = tree_atoms w0 w1 base count root s long1 c.requires.2 c.requires.3 the-tree.ensures.only_tree list c.requires.0.are }, record { root = root; tree = tree_of list root; treed = joined.1 }, c.requires.1, c.requires.3, omega arith, omega arith, omega (arith, the-tree.auto.scratch, c.requires.7))
 
 pub name_branches-name_groups-requires : goal.name_branches-name_groups-requires
 name_branches-name_groups-requires t c =
@@ -66,7 +66,7 @@ name_branches-name_groups-requires t c =
     let count = c.args.count in
     let list = c.requires.0.list in
     let root = c.args.root in
-    let made = groupsFor list (grouped (treeOf list root).parents root nothing list) in
+    let made = groups_for list (grouped (tree_of list root).parents root nothing list) in
     let w2 = words the-arrange.new.scratch in
     let tops = the-arrange.new.tops in
     let counts = the-arrange.new.counts in
@@ -75,13 +75,13 @@ name_branches-name_groups-requires t c =
     let w0 = words c.args.scratch.now in
     let w1 = words the-tree.new.scratch in
     let s = c.args.s in
-    let long1 = same-words c.args.scratch.now the-tree.new.scratch the-tree.auto.scratch in
+    let long1 = same_words_lem c.args.scratch.now the-tree.new.scratch the-tree.auto.scratch in
     let joined = connected w1 root list the-tree.result the-if1.false (the-tree.ensures.tree_is list c.requires.0.are) in
-    let laid = laid-by w2 tops counts base count groups list c.requires.0.tame root (treeOf list root).parents (the-arrange.ensures.arranged_by list root (treeOf list root) (tree-atoms w0 w1 base count root s long1 c.requires.2 c.requires.3 the-tree.ensures.only_tree list c.requires.0.are) joined.1) in
-    let few = laid-few w2 tops counts base count groups made laid in
-    let long2 = same-words the-tree.new.scratch the-arrange.new.scratch the-arrange.auto.scratch in
+    let laid = laid_by w2 tops counts base count groups list c.requires.0.tame root (tree_of list root).parents (the-arrange.ensures.arranged_by list root (tree_of list root) (tree_atoms w0 w1 base count root s long1 c.requires.2 c.requires.3 the-tree.ensures.only_tree list c.requires.0.are) joined.1) in
+    let few = laid_few w2 tops counts base count groups made laid in
+    let long2 = same_words_lem the-tree.new.scratch the-arrange.new.scratch the-arrange.auto.scratch in
     let mt : 5 * count + 4 ≡ t = c.decreases in
-    (omega (arith, mt), (record { groups = made; laid = laid }, omega (arith, few, c.requires.1, the-arrange.auto.tops), omega (arith, few, c.requires.1, the-arrange.auto.counts), c.requires.1, c.requires.2, c.requires.3, laid-named w0 w1 w2 base count s long1 long2 c.requires.2 c.requires.3 the-tree.ensures.only_tree the-arrange.ensures.only_records c.requires.4, c.requires.5, c.requires.6, omega (arith, the-arrange.auto.scratch, the-tree.auto.scratch, c.requires.7)))
+    (omega (arith, mt), (record { groups = made; laid = laid }, omega (arith, few, c.requires.1, the-arrange.auto.tops), omega (arith, few, c.requires.1, the-arrange.auto.counts), c.requires.1, c.requires.2, c.requires.3, laid_named w0 w1 w2 base count s long1 long2 c.requires.2 c.requires.3 the-tree.ensures.only_tree the-arrange.ensures.only_records c.requires.4, c.requires.5, c.requires.6, omega (arith, the-arrange.auto.scratch, the-tree.auto.scratch, c.requires.7)))
 
 pub name_branches-returns : goal.name_branches-returns
 name_branches-returns t c =
@@ -100,12 +100,12 @@ name_branches-returns t c =
     let counts = the-arrange.new.counts in
     let groups = the-arrange.result in
     let w0 = words c.args.scratch.now in
-    let long1 = same-words c.args.scratch.now the-tree.new.scratch the-tree.auto.scratch in
-    let long2 = same-words the-tree.new.scratch the-arrange.new.scratch the-arrange.auto.scratch in
+    let long1 = same_words_lem c.args.scratch.now the-tree.new.scratch the-tree.auto.scratch in
+    let long2 = same_words_lem the-tree.new.scratch the-arrange.new.scratch the-arrange.auto.scratch in
     let keep = c.args.keep in
     record {
-      reduced_by = λ l z kept f A H K k. step-answer w3 base count root s l kept f z the-name-groups.result (connected w1 root l the-tree.result the-if1.false (the-tree.ensures.tree_is l A)).0 k (λ g h. the-name-groups.ensures.reduced_by (groupsFor l (grouped (treeOf l root).parents root nothing l)) z kept g (laid-by w2 tops counts base count groups l (tame-of w0 base count l c.requires.0 A) root (treeOf l root).parents (the-arrange.ensures.arranged_by l root (treeOf l root) (tree-atoms w0 w1 base count root s long1 c.requires.2 c.requires.3 the-tree.ensures.only_tree l A) (connected w1 root l the-tree.result the-if1.false (the-tree.ensures.tree_is l A)).1)) (laid-held w0 w1 w2 base count s long1 long2 c.requires.2 c.requires.3 the-tree.ensures.only_tree the-arrange.ensures.only_records z H) (laid-keep w0 w1 w2 base count s long1 long2 c.requires.2 c.requires.3 the-tree.ensures.only_tree the-arrange.ensures.only_records keep kept K) h);
-      only_names = laid-only w0 w1 w2 base count s long1 long2 c.requires.2 c.requires.3 the-tree.ensures.only_tree the-arrange.ensures.only_records w3 the-name-groups.ensures.only_names;
+      reduced_by = λ l z kept f A H K k. step_answer w3 base count root s l kept f z the-name-groups.result (connected w1 root l the-tree.result the-if1.false (the-tree.ensures.tree_is l A)).0 k (λ g h. the-name-groups.ensures.reduced_by (groups_for l (grouped (tree_of l root).parents root nothing l)) z kept g (laid_by w2 tops counts base count groups l (tame_of w0 base count l c.requires.0 A) root (tree_of l root).parents (the-arrange.ensures.arranged_by l root (tree_of l root) (tree_atoms w0 w1 base count root s long1 c.requires.2 c.requires.3 the-tree.ensures.only_tree l A) (connected w1 root l the-tree.result the-if1.false (the-tree.ensures.tree_is l A)).1)) (laid_held w0 w1 w2 base count s long1 long2 c.requires.2 c.requires.3 the-tree.ensures.only_tree the-arrange.ensures.only_records z H) (laid_keep w0 w1 w2 base count s long1 long2 c.requires.2 c.requires.3 the-tree.ensures.only_tree the-arrange.ensures.only_records keep kept K) h);
+      only_names = laid_only w0 w1 w2 base count s long1 long2 c.requires.2 c.requires.3 the-tree.ensures.only_tree the-arrange.ensures.only_records w3 the-name-groups.ensures.only_names;
     }
 
 pub name_group-split_group-requires : goal.name_group-split_group-requires
@@ -125,7 +125,7 @@ name_group-name_of-requires t c =
     let root = c.args.root in
     let top = c.args.t in
     let state = c.requires.4.state in
-    let D = (split-there w1 base count s _ _ (splitRule count list root top state) (rw c.in-To.is at (the-split-group.ensures.split_by list state count c.requires.0.are c.requires.4.held (omega arith)))) in
+    let D = (split_there w1 base count s _ _ (split_rule count list root top state) (rw c.in-To.is at (the-split-group.ensures.split_by list state count c.requires.0.are c.requires.4.held (omega arith)))) in
     (D.tame, omega (arith, D.shorter, c.requires.1), omega (arith, c.requires.2), omega (arith, D.shorter, c.requires.3), D.named, omega (arith, D.first, D.few, c.requires.5), omega (arith, the-split-group.auto.scratch, c.requires.6))
 
 pub name_group-returns-in-To : goal.name_group-returns-in-To
@@ -141,8 +141,8 @@ name_group-returns-in-To t c =
     let top = c.args.t in
     let w0 = words c.args.scratch.now in
     record {
-      called_by = λ l z f A H k. call-name w1 w2 base count root s _ _ _ c.requires.5 the-name-of.ensures.named_by f l top z (rw c.in-To.is at (the-split-group.ensures.split_by l z f A H k));
-      only_names = call-only base count w0 w1 w2 c.requires.2 c.requires.3 the-split-group.ensures.only_names the-name-of.ensures.only_memo;
+      called_by = λ l z f A H k. call_name w1 w2 base count root s _ _ _ c.requires.5 the-name-of.ensures.named_by f l top z (rw c.in-To.is at (the-split-group.ensures.split_by l z f A H k));
+      only_names = call_only base count w0 w1 w2 c.requires.2 c.requires.3 the-split-group.ensures.only_names the-name-of.ensures.only_memo;
     }
 
 pub name_group-returns-in-None : goal.name_group-returns-in-None
@@ -155,7 +155,7 @@ name_group-returns-in-None t c =
     let s = c.args.s in
     let top = c.args.t in
     record {
-      called_by = λ l z f A H k. call-none w1 w1 base count root s f l top z _ (rw c.in-None.is at (the-split-group.ensures.split_by l z f A H k));
+      called_by = λ l z f A H k. call_none w1 w1 base count root s f l top z _ (rw c.in-None.is at (the-split-group.ensures.split_by l z f A H k));
       only_names = the-split-group.ensures.only_names;
     }
 
@@ -169,7 +169,7 @@ name_group-returns-in-Refused t c =
     let s = c.args.s in
     let top = c.args.t in
     record {
-      called_by = λ l z f A H k. call-full w1 w1 base count root s f l top z _ (rw c.in-Refused.is at (the-split-group.ensures.split_by l z f A H k));
+      called_by = λ l z f A H k. call_full w1 w1 base count root s f l top z _ (rw c.in-Refused.is at (the-split-group.ensures.split_by l z f A H k));
       only_names = the-split-group.ensures.only_names;
     }
 
@@ -184,7 +184,7 @@ name_groups-behind-requires t c =
     let root = c.args.root in
     let keep = c.args.keep in
     let s = c.args.s in
-    (c.requires.2, omega (arith, sum-fits w0 tops counts base count groups root keep s c.requires.0.groups c.requires.0.laid c.requires.2, c.requires.3), omega arith)
+    (c.requires.2, omega (arith, sum_fits w0 tops counts base count groups root keep s c.requires.0.groups c.requires.0.laid c.requires.2, c.requires.3), omega arith)
 
 pub name_groups-overflow_sub-p : goal.name_groups-overflow_sub-p
 name_groups-overflow_sub-p t c =
@@ -198,7 +198,7 @@ name_groups-overflow_sub-p t c =
     let root = c.args.root in
     let keep = c.args.keep in
     let s = c.args.s in
-    let e : the-behind.result ≡ sum (take groups counts) = the-behind.ensures in omega (arith, e, sum-fits w0 tops counts base count groups root keep s c.requires.0.groups c.requires.0.laid c.requires.2)
+    let e : the-behind.result ≡ sum (take groups counts) = the-behind.ensures in omega (arith, e, sum_fits w0 tops counts base count groups root keep s c.requires.0.groups c.requires.0.laid c.requires.2)
 
 pub name_groups-overflow_add-p : goal.name_groups-overflow_add-p
 name_groups-overflow_add-p t c = omega (arith, c.requires.5)
@@ -215,7 +215,7 @@ name_groups-loop-g-init t c =
     let root = c.args.root in
     let keep = c.args.keep in
     let s = c.args.s in
-    (refl, walk-start w0 tops counts base count groups root keep s _ c.requires.2 (ap (λ (x : ℕ). base + (count - x)) the-behind.ensures))
+    (refl, walk_start w0 tops counts base count groups root keep s _ c.requires.2 (ap (λ (x : ℕ). base + (count - x)) the-behind.ensures))
 
 pub name_groups-turn-requires : goal.name_groups-turn-requires
 name_groups-turn-requires t c =
@@ -230,10 +230,10 @@ name_groups-turn-requires t c =
     let root = c.args.root in
     let keep = c.args.keep in
     let s = c.args.s in
-    let room : workWords ≤ length w0 = omega (arith, c.requires.9, length-words c.args.scratch.now) in
+    let room : work_words ≤ length w0 = omega (arith, c.requires.9, length_words c.args.scratch.now) in
     let w1 = words the-loop.scratch in
     let mt : 5 * count + 3 ≡ t = c.decreases in
-    (omega (arith, mt, child-most w0 tops counts base count groups root keep s c.requires.4 c.requires.5 c.requires.3 c.requires.7 c.requires.0 c.requires.6 c.requires.8 room w1 the-loop.m the-loop.any the-loop.p the-loop.q the-loop.g the-loop.invariant.1 the-loop-test.true (get_or counts the-loop.g 0) (get_or tops the-loop.g 0) refl refl), (walk-standing w0 tops counts base count groups root keep s c.requires.4 c.requires.5 c.requires.3 c.requires.7 c.requires.0 c.requires.6 c.requires.8 room w1 the-loop.m the-loop.any the-loop.p the-loop.q the-loop.g the-loop.invariant.1 the-loop-test.true (get_or counts the-loop.g 0) (get_or tops the-loop.g 0) refl refl, c.requires.8, omega (arith, the-loop.invariant.0, c.requires.9)))
+    (omega (arith, mt, child_most w0 tops counts base count groups root keep s c.requires.4 c.requires.5 c.requires.3 c.requires.7 c.requires.0 c.requires.6 c.requires.8 room w1 the-loop.m the-loop.any the-loop.p the-loop.q the-loop.g the-loop.invariant.1 the-loop-test.true (get_or counts the-loop.g 0) (get_or tops the-loop.g 0) refl refl), (walk_standing w0 tops counts base count groups root keep s c.requires.4 c.requires.5 c.requires.3 c.requires.7 c.requires.0 c.requires.6 c.requires.8 room w1 the-loop.m the-loop.any the-loop.p the-loop.q the-loop.g the-loop.invariant.1 the-loop-test.true (get_or counts the-loop.g 0) (get_or tops the-loop.g 0) refl refl, c.requires.8, omega (arith, the-loop.invariant.0, c.requires.9)))
 
 pub name_groups-returns-in-Refused : goal.name_groups-returns-in-Refused
 name_groups-returns-in-Refused t c =
@@ -249,12 +249,12 @@ name_groups-returns-in-Refused t c =
     let root = c.args.root in
     let keep = c.args.keep in
     let s = c.args.s in
-    let room : workWords ≤ length w0 = omega (arith, c.requires.9, length-words c.args.scratch.now) in
+    let room : work_words ≤ length w0 = omega (arith, c.requires.9, length_words c.args.scratch.now) in
     let w1 = words the-loop.scratch in
     let w2 = words the-turn.new.scratch in
     record {
-      reduced_by = walk-stop w0 tops counts base count groups root keep s c.requires.4 c.requires.5 c.requires.3 c.requires.7 c.requires.0 c.requires.6 c.requires.8 room w1 the-loop.m the-loop.any the-loop.p the-loop.q the-loop.g the-loop.invariant.1 the-loop-test.true (get_or counts the-loop.g 0) (get_or tops the-loop.g 0) refl refl w2 (same-words c.args.scratch.now the-loop.scratch the-loop.invariant.0) the-turn.result the-turn.ensures.fact the-turn.ensures.fact_2 _ c.in-Refused.is;
-      only_names = walk-only w0 tops counts base count groups root keep s c.requires.4 c.requires.5 c.requires.3 c.requires.7 c.requires.0 c.requires.6 c.requires.8 room w1 the-loop.m the-loop.any the-loop.p the-loop.q the-loop.g the-loop.invariant.1 the-loop-test.true (get_or counts the-loop.g 0) (get_or tops the-loop.g 0) refl refl w2 (same-words c.args.scratch.now the-loop.scratch the-loop.invariant.0) the-turn.result the-turn.ensures.fact the-turn.ensures.fact_2;
+      reduced_by = walk_stop w0 tops counts base count groups root keep s c.requires.4 c.requires.5 c.requires.3 c.requires.7 c.requires.0 c.requires.6 c.requires.8 room w1 the-loop.m the-loop.any the-loop.p the-loop.q the-loop.g the-loop.invariant.1 the-loop-test.true (get_or counts the-loop.g 0) (get_or tops the-loop.g 0) refl refl w2 (same_words_lem c.args.scratch.now the-loop.scratch the-loop.invariant.0) the-turn.result the-turn.ensures.fact the-turn.ensures.fact_2 _ c.in-Refused.is;
+      only_names = walk_only w0 tops counts base count groups root keep s c.requires.4 c.requires.5 c.requires.3 c.requires.7 c.requires.0 c.requires.6 c.requires.8 room w1 the-loop.m the-loop.any the-loop.p the-loop.q the-loop.g the-loop.invariant.1 the-loop-test.true (get_or counts the-loop.g 0) (get_or tops the-loop.g 0) refl refl w2 (same_words_lem c.args.scratch.now the-loop.scratch the-loop.invariant.0) the-turn.result the-turn.ensures.fact the-turn.ensures.fact_2;
     }
 
 pub name_groups-overflow_cast-p-in-loop-g : goal.name_groups-overflow_cast-p-in-loop-g
@@ -270,9 +270,9 @@ name_groups-overflow_cast-p-in-loop-g t c =
     let root = c.args.root in
     let keep = c.args.keep in
     let s = c.args.s in
-    let room : workWords ≤ length w0 = omega (arith, c.requires.9, length-words c.args.scratch.now) in
+    let room : work_words ≤ length w0 = omega (arith, c.requires.9, length_words c.args.scratch.now) in
     let w1 = words the-loop.scratch in
-    omega (arith, child-most w0 tops counts base count groups root keep s c.requires.4 c.requires.5 c.requires.3 c.requires.7 c.requires.0 c.requires.6 c.requires.8 room w1 the-loop.m the-loop.any the-loop.p the-loop.q the-loop.g the-loop.invariant.1 the-loop-test.true (get_or counts the-loop.g 0) (get_or tops the-loop.g 0) refl refl, c.requires.3)
+    omega (arith, child_most w0 tops counts base count groups root keep s c.requires.4 c.requires.5 c.requires.3 c.requires.7 c.requires.0 c.requires.6 c.requires.8 room w1 the-loop.m the-loop.any the-loop.p the-loop.q the-loop.g the-loop.invariant.1 the-loop-test.true (get_or counts the-loop.g 0) (get_or tops the-loop.g 0) refl refl, c.requires.3)
 
 pub name_groups-overflow_add-p-in-loop-g : goal.name_groups-overflow_add-p-in-loop-g
 name_groups-overflow_add-p-in-loop-g t c =
@@ -287,9 +287,9 @@ name_groups-overflow_add-p-in-loop-g t c =
     let root = c.args.root in
     let keep = c.args.keep in
     let s = c.args.s in
-    let room : workWords ≤ length w0 = omega (arith, c.requires.9, length-words c.args.scratch.now) in
+    let room : work_words ≤ length w0 = omega (arith, c.requires.9, length_words c.args.scratch.now) in
     let w1 = words the-loop.scratch in
-    omega (arith, walk-child w0 tops counts base count groups root keep s c.requires.4 c.requires.5 c.requires.3 c.requires.7 c.requires.0 c.requires.6 c.requires.8 room w1 the-loop.m the-loop.any the-loop.p the-loop.q the-loop.g the-loop.invariant.1 the-loop-test.true (get_or counts the-loop.g 0) (get_or tops the-loop.g 0) refl refl, c.requires.5)
+    omega (arith, walk_child w0 tops counts base count groups root keep s c.requires.4 c.requires.5 c.requires.3 c.requires.7 c.requires.0 c.requires.6 c.requires.8 room w1 the-loop.m the-loop.any the-loop.p the-loop.q the-loop.g the-loop.invariant.1 the-loop-test.true (get_or counts the-loop.g 0) (get_or tops the-loop.g 0) refl refl, c.requires.5)
 
 pub name_groups-loop-g-preserved : goal.name_groups-loop-g-preserved
 name_groups-loop-g-preserved t c =
@@ -305,10 +305,10 @@ name_groups-loop-g-preserved t c =
     let root = c.args.root in
     let keep = c.args.keep in
     let s = c.args.s in
-    let room : workWords ≤ length w0 = omega (arith, c.requires.9, length-words c.args.scratch.now) in
+    let room : work_words ≤ length w0 = omega (arith, c.requires.9, length_words c.args.scratch.now) in
     let w1 = words the-loop.scratch in
     let w2 = words the-turn.new.scratch in
-    (the-turn.auto.scratch ∙ the-loop.invariant.0, walk-next w0 tops counts base count groups root keep s c.requires.4 c.requires.5 c.requires.3 c.requires.7 c.requires.0 c.requires.6 c.requires.8 room w1 the-loop.m the-loop.any the-loop.p the-loop.q the-loop.g the-loop.invariant.1 the-loop-test.true (get_or counts the-loop.g 0) (get_or tops the-loop.g 0) refl refl w2 (same-words c.args.scratch.now the-loop.scratch the-loop.invariant.0) the-turn.result the-turn.ensures.fact the-turn.ensures.fact_2 _ _ _ c.in-On.is)
+    (the-turn.auto.scratch ∙ the-loop.invariant.0, walk_next w0 tops counts base count groups root keep s c.requires.4 c.requires.5 c.requires.3 c.requires.7 c.requires.0 c.requires.6 c.requires.8 room w1 the-loop.m the-loop.any the-loop.p the-loop.q the-loop.g the-loop.invariant.1 the-loop-test.true (get_or counts the-loop.g 0) (get_or tops the-loop.g 0) refl refl w2 (same_words_lem c.args.scratch.now the-loop.scratch the-loop.invariant.0) the-turn.result the-turn.ensures.fact the-turn.ensures.fact_2 _ _ _ c.in-On.is)
 
 pub name_groups-overflow_sub-result : goal.name_groups-overflow_sub-result
 name_groups-overflow_sub-result t c =
@@ -322,9 +322,9 @@ name_groups-overflow_sub-result t c =
     let root = c.args.root in
     let keep = c.args.keep in
     let s = c.args.s in
-    let room : workWords ≤ length w0 = omega (arith, c.requires.9, length-words c.args.scratch.now) in
+    let room : work_words ≤ length w0 = omega (arith, c.requires.9, length_words c.args.scratch.now) in
     let w1 = words the-loop.scratch in
-    omega (arith, walk-low w0 tops counts base count groups root keep s c.requires.4 c.requires.5 c.requires.3 c.requires.7 c.requires.0 c.requires.6 c.requires.8 room w1 the-loop.m the-loop.any the-loop.p the-loop.q the-loop.g the-loop.invariant.1)
+    omega (arith, walk_low w0 tops counts base count groups root keep s c.requires.4 c.requires.5 c.requires.3 c.requires.7 c.requires.0 c.requires.6 c.requires.8 room w1 the-loop.m the-loop.any the-loop.p the-loop.q the-loop.g the-loop.invariant.1)
 
 pub name_groups-overflow_cast-result : goal.name_groups-overflow_cast-result
 name_groups-overflow_cast-result t c =
@@ -338,9 +338,9 @@ name_groups-overflow_cast-result t c =
     let root = c.args.root in
     let keep = c.args.keep in
     let s = c.args.s in
-    let room : workWords ≤ length w0 = omega (arith, c.requires.9, length-words c.args.scratch.now) in
+    let room : work_words ≤ length w0 = omega (arith, c.requires.9, length_words c.args.scratch.now) in
     let w1 = words the-loop.scratch in
-    omega (arith, walk-low w0 tops counts base count groups root keep s c.requires.4 c.requires.5 c.requires.3 c.requires.7 c.requires.0 c.requires.6 c.requires.8 room w1 the-loop.m the-loop.any the-loop.p the-loop.q the-loop.g the-loop.invariant.1, walk-high w0 tops counts base count groups root keep s c.requires.4 c.requires.5 c.requires.3 c.requires.7 c.requires.0 c.requires.6 c.requires.8 room w1 the-loop.m the-loop.any the-loop.p the-loop.q the-loop.g the-loop.invariant.1, the-loop.invariant.1.below, c.requires.3)
+    omega (arith, walk_low w0 tops counts base count groups root keep s c.requires.4 c.requires.5 c.requires.3 c.requires.7 c.requires.0 c.requires.6 c.requires.8 room w1 the-loop.m the-loop.any the-loop.p the-loop.q the-loop.g the-loop.invariant.1, walk_high w0 tops counts base count groups root keep s c.requires.4 c.requires.5 c.requires.3 c.requires.7 c.requires.0 c.requires.6 c.requires.8 room w1 the-loop.m the-loop.any the-loop.p the-loop.q the-loop.g the-loop.invariant.1, the-loop.invariant.1.below, c.requires.3)
 
 pub name_groups-returns-then-any : goal.name_groups-returns-then-any
 name_groups-returns-then-any t c =
@@ -358,7 +358,7 @@ name_groups-returns-then-any t c =
     let s = c.args.s in
     let w1 = words the-loop.scratch in
     record {
-      reduced_by = λ g z kept f L H K k. left-some w0 tops counts base count groups root keep s w1 the-loop.m the-loop.any the-loop.p the-loop.q the-loop.g the-loop.invariant.1 g L the-loop-test.false z kept f (the-loop.invariant.1.left g z kept f L H K k) the-if1.true;
+      reduced_by = λ g z kept f L H K k. left_some w0 tops counts base count groups root keep s w1 the-loop.m the-loop.any the-loop.p the-loop.q the-loop.g the-loop.invariant.1 g L the-loop-test.false z kept f (the-loop.invariant.1.left g z kept f L H K k) the-if1.true;
       only_names = the-loop.invariant.1.only;
     }
 
@@ -378,7 +378,7 @@ name_groups-returns t c =
     let s = c.args.s in
     let w1 = words the-loop.scratch in
     record {
-      reduced_by = λ g z kept f L H K k. left-none w0 tops counts base count groups root keep s w1 the-loop.m the-loop.any the-loop.p the-loop.q the-loop.g the-loop.invariant.1 g L the-loop-test.false z kept f (the-loop.invariant.1.left g z kept f L H K k) the-if1.false;
+      reduced_by = λ g z kept f L H K k. left_none w0 tops counts base count groups root keep s w1 the-loop.m the-loop.any the-loop.p the-loop.q the-loop.g the-loop.invariant.1 g L the-loop-test.false z kept f (the-loop.invariant.1.left g z kept f L H K k) the-if1.false;
       only_names = the-loop.invariant.1.only;
     }
 
@@ -393,8 +393,8 @@ split_group-returns-then-not-is_wide t c =
     let root = c.args.root in
     let top = c.args.t in
     record {
-      split_by = λ l z f A H k. split-narrow w0 base count s l root top z f A (tame-of w0 base count l c.requires.0 A) H (sym (the-is-wide.ensures l (part-of c.args.scratch.now base count l c.requires.3 c.requires.6 A)) ∙ the-if1.true);
-      only_names = names-none base count w0;
+      split_by = λ l z f A H k. split_narrow w0 base count s l root top z f A (tame_of w0 base count l c.requires.0 A) H (sym (the-is-wide.ensures l (part_of c.args.scratch.now base count l c.requires.3 c.requires.6 A)) ∙ the-if1.true);
+      only_names = names_none base count w0;
     }
 
 pub split_group-only_edge-e-requires : goal.split_group-only_edge-e-requires
@@ -414,8 +414,8 @@ split_group-returns-then-e-count t c =
     let root = c.args.root in
     let top = c.args.t in
     record {
-      split_by = λ l z f A H k. split-none w0 base count s l root top z f A (tame-of w0 base count l c.requires.0 A) H (sym (the-is-wide.ensures l (part-of c.args.scratch.now base count l c.requires.3 c.requires.6 A)) ∙ the-if1.false) ((the-only-edge.ensures l A).none the-if2.true);
-      only_names = names-none base count w0;
+      split_by = λ l z f A H k. split_none w0 base count s l root top z f A (tame_of w0 base count l c.requires.0 A) H (sym (the-is-wide.ensures l (part_of c.args.scratch.now base count l c.requires.3 c.requires.6 A)) ∙ the-if1.false) ((the-only-edge.ensures l A).none the-if2.true);
+      only_names = names_none base count w0;
     }
 
 pub split_group-to_front-requires : goal.split_group-to_front-requires
@@ -427,7 +427,7 @@ split_group-to_front-requires t c =
     let count = c.args.count in
     let e = the-only-edge.result in
     let h = below e count (the-only-edge.ensures c.requires.0.list c.requires.0.are).within the-if2.false in
-    (there-of w0 base count c.requires.0, h, c.requires.3, c.requires.6)
+    (there_of w0 base count c.requires.0, h, c.requires.3, c.requires.6)
 
 pub split_group-overflow_add-base : goal.split_group-overflow_add-base
 split_group-overflow_add-base t c = omega (arith, c.requires.3)
@@ -455,10 +455,10 @@ split_group-name_branches-requires t c =
     let root = c.args.root in
     let top = c.args.t in
     let s = c.args.s in
-    let long1 = same-words c.args.scratch.now the-to-front.new.scratch the-to-front.auto.scratch in
+    let long1 = same_words_lem c.args.scratch.now the-to-front.new.scratch the-to-front.auto.scratch in
     let list = c.requires.0.list in
     let mt : 5 * count ≡ t = c.decreases in
-    (omega (arith, mt, h), (inner-there w0 w1 w1 base count e root top s long1 refl c.requires.2 h the-to-front.ensures.only_records list c.requires.0.are c.requires.0.tame (the-to-front.ensures.atoms_are list c.requires.0.are), omega (arith, c.requires.1), omega (arith, c.requires.2), omega (arith, h, c.requires.3), there-front w0 w1 w1 base count e root top s long1 refl c.requires.2 h the-to-front.ensures.only_records c.requires.4, c.requires.5, omega arith, omega (arith, the-to-front.auto.scratch, c.requires.6)))
+    (omega (arith, mt, h), (inner_there w0 w1 w1 base count e root top s long1 refl c.requires.2 h the-to-front.ensures.only_records list c.requires.0.are c.requires.0.tame (the-to-front.ensures.atoms_are list c.requires.0.are), omega (arith, c.requires.1), omega (arith, c.requires.2), omega (arith, h, c.requires.3), there_front w0 w1 w1 base count e root top s long1 refl c.requires.2 h the-to-front.ensures.only_records c.requires.4, c.requires.5, omega arith, omega (arith, the-to-front.auto.scratch, c.requires.6)))
 
 pub split_group-overflow_add-result : goal.split_group-overflow_add-result
 split_group-overflow_add-result t c =
@@ -476,10 +476,10 @@ split_group-overflow_add-result t c =
     let w0 = words c.args.scratch.now in
     let w1 = words the-to-front.new.scratch in
     let root = c.args.root in
-    let long1 = same-words c.args.scratch.now the-to-front.new.scratch the-to-front.auto.scratch in
-    let long2 = same-words the-to-front.new.scratch the-name-branches.new.scratch the-name-branches.auto.scratch in
+    let long1 = same_words_lem c.args.scratch.now the-to-front.new.scratch the-to-front.auto.scratch in
+    let long2 = same_words_lem the-to-front.new.scratch the-name-branches.new.scratch the-name-branches.auto.scratch in
     let h = below e count (the-only-edge.ensures c.requires.0.list c.requires.0.are).within the-if2.false in
-    omega (arith, reduced-short w2 (base + 1) (count - 1) (innerAt list e) [] s (nameBy count (innerAt list e) top [] c.requires.4.state) _ _ (rw c.in-To.is at (the-name-branches.ensures.reduced_by (innerAt list e) c.requires.4.state [] count (inner-are w0 w1 w2 base count e root top s long1 long2 c.requires.2 h the-to-front.ensures.only_records list c.requires.0.are c.requires.0.tame (the-to-front.ensures.atoms_are list c.requires.0.are)) (named-front w0 w1 w2 base count e root top s long1 long2 c.requires.2 h the-to-front.ensures.only_records c.requires.4.state c.requires.4.held) (keep-none w1) (omega (arith, h)))), c.requires.1)
+    omega (arith, reduced_short w2 (base + 1) (count - 1) (inner_at list e) [] s (name_by count (inner_at list e) top [] c.requires.4.state) _ _ (rw c.in-To.is at (the-name-branches.ensures.reduced_by (inner_at list e) c.requires.4.state [] count (inner_are w0 w1 w2 base count e root top s long1 long2 c.requires.2 h the-to-front.ensures.only_records list c.requires.0.are c.requires.0.tame (the-to-front.ensures.atoms_are list c.requires.0.are)) (named_front w0 w1 w2 base count e root top s long1 long2 c.requires.2 h the-to-front.ensures.only_records c.requires.4.state c.requires.4.held) (keep_none w1) (omega (arith, h)))), c.requires.1)
 
 pub split_group-from_front-requires : goal.split_group-from_front-requires
 split_group-from_front-requires t c =
@@ -497,10 +497,10 @@ split_group-from_front-requires t c =
     let root = c.args.root in
     let top = c.args.t in
     let s = c.args.s in
-    let long1 = same-words c.args.scratch.now the-to-front.new.scratch the-to-front.auto.scratch in
-    let long2 = same-words the-to-front.new.scratch the-name-branches.new.scratch the-name-branches.auto.scratch in
+    let long1 = same_words_lem c.args.scratch.now the-to-front.new.scratch the-to-front.auto.scratch in
+    let long2 = same_words_lem the-to-front.new.scratch the-name-branches.new.scratch the-name-branches.auto.scratch in
     let h = below e count (the-only-edge.ensures c.requires.0.list c.requires.0.are).within the-if2.false in
-    (record { list = fronted list e; are = fronted-again w0 w1 w2 base count e root top s long1 long2 c.requires.2 h the-to-front.ensures.only_records list c.requires.0.are c.requires.0.tame (the-to-front.ensures.atoms_are list c.requires.0.are) the-name-branches.ensures.only_names count c.requires.4.state (rw c.in-None.is at (the-name-branches.ensures.reduced_by (innerAt list e) c.requires.4.state [] count (inner-are w0 w1 w2 base count e root top s long1 long2 c.requires.2 h the-to-front.ensures.only_records list c.requires.0.are c.requires.0.tame (the-to-front.ensures.atoms_are list c.requires.0.are)) (named-front w0 w1 w2 base count e root top s long1 long2 c.requires.2 h the-to-front.ensures.only_records c.requires.4.state c.requires.4.held) (keep-none w1) (omega (arith, h)))) }, h, c.requires.3, omega (arith, the-name-branches.auto.scratch, the-to-front.auto.scratch, c.requires.6))
+    (record { list = fronted list e; are = fronted_again w0 w1 w2 base count e root top s long1 long2 c.requires.2 h the-to-front.ensures.only_records list c.requires.0.are c.requires.0.tame (the-to-front.ensures.atoms_are list c.requires.0.are) the-name-branches.ensures.only_names count c.requires.4.state (rw c.in-None.is at (the-name-branches.ensures.reduced_by (inner_at list e) c.requires.4.state [] count (inner_are w0 w1 w2 base count e root top s long1 long2 c.requires.2 h the-to-front.ensures.only_records list c.requires.0.are c.requires.0.tame (the-to-front.ensures.atoms_are list c.requires.0.are)) (named_front w0 w1 w2 base count e root top s long1 long2 c.requires.2 h the-to-front.ensures.only_records c.requires.4.state c.requires.4.held) (keep_none w1) (omega (arith, h)))) }, h, c.requires.3, omega (arith, the-name-branches.auto.scratch, the-to-front.auto.scratch, c.requires.6))
 
 pub split_group-returns-in-To : goal.split_group-returns-in-To
 split_group-returns-in-To t c =
@@ -519,12 +519,12 @@ split_group-returns-in-To t c =
     let root = c.args.root in
     let top = c.args.t in
     let s = c.args.s in
-    let long1 = same-words c.args.scratch.now the-to-front.new.scratch the-to-front.auto.scratch in
-    let long2 = same-words the-to-front.new.scratch the-name-branches.new.scratch the-name-branches.auto.scratch in
+    let long1 = same_words_lem c.args.scratch.now the-to-front.new.scratch the-to-front.auto.scratch in
+    let long2 = same_words_lem the-to-front.new.scratch the-name-branches.new.scratch the-name-branches.auto.scratch in
     let h = below e count (the-only-edge.ensures c.requires.0.list c.requires.0.are).within the-if2.false in
     record {
-      split_by = λ l z f A H k. split-to w0 w1 w2 base count e root top s long1 long2 c.requires.2 h the-to-front.ensures.only_records l A (tame-of w0 base count l c.requires.0 A) (the-to-front.ensures.atoms_are l A) the-name-branches.ensures.only_names f z (sym (the-is-wide.ensures l (part-of c.args.scratch.now base count l c.requires.3 c.requires.6 A)) ∙ the-if1.false) (the-only-edge.ensures l A) _ _ (rw c.in-To.is at (the-name-branches.ensures.reduced_by (innerAt l e) z [] f (inner-are w0 w1 w2 base count e root top s long1 long2 c.requires.2 h the-to-front.ensures.only_records l A (tame-of w0 base count l c.requires.0 A) (the-to-front.ensures.atoms_are l A)) (named-front w0 w1 w2 base count e root top s long1 long2 c.requires.2 h the-to-front.ensures.only_records z H) (keep-none w1) (omega (arith, h, k))));
-      only_names = split-only w0 w1 w2 base count e root top s long1 long2 c.requires.2 h the-to-front.ensures.only_records the-name-branches.ensures.only_names;
+      split_by = λ l z f A H k. split_to w0 w1 w2 base count e root top s long1 long2 c.requires.2 h the-to-front.ensures.only_records l A (tame_of w0 base count l c.requires.0 A) (the-to-front.ensures.atoms_are l A) the-name-branches.ensures.only_names f z (sym (the-is-wide.ensures l (part_of c.args.scratch.now base count l c.requires.3 c.requires.6 A)) ∙ the-if1.false) (the-only-edge.ensures l A) _ _ (rw c.in-To.is at (the-name-branches.ensures.reduced_by (inner_at l e) z [] f (inner_are w0 w1 w2 base count e root top s long1 long2 c.requires.2 h the-to-front.ensures.only_records l A (tame_of w0 base count l c.requires.0 A) (the-to-front.ensures.atoms_are l A)) (named_front w0 w1 w2 base count e root top s long1 long2 c.requires.2 h the-to-front.ensures.only_records z H) (keep_none w1) (omega (arith, h, k))));
+      only_names = split_only w0 w1 w2 base count e root top s long1 long2 c.requires.2 h the-to-front.ensures.only_records the-name-branches.ensures.only_names;
     }
 
 pub split_group-returns-in-None : goal.split_group-returns-in-None
@@ -545,14 +545,14 @@ split_group-returns-in-None t c =
     let root = c.args.root in
     let top = c.args.t in
     let s = c.args.s in
-    let long1 = same-words c.args.scratch.now the-to-front.new.scratch the-to-front.auto.scratch in
-    let long2 = same-words the-to-front.new.scratch the-name-branches.new.scratch the-name-branches.auto.scratch in
+    let long1 = same_words_lem c.args.scratch.now the-to-front.new.scratch the-to-front.auto.scratch in
+    let long2 = same_words_lem the-to-front.new.scratch the-name-branches.new.scratch the-name-branches.auto.scratch in
     let h = below e count (the-only-edge.ensures c.requires.0.list c.requires.0.are).within the-if2.false in
     let w3 = words the-from-front.new.scratch in
-    let long3 = same-words the-name-branches.new.scratch the-from-front.new.scratch the-from-front.auto.scratch in
+    let long3 = same_words_lem the-name-branches.new.scratch the-from-front.new.scratch the-from-front.auto.scratch in
     record {
-      split_by = λ l z f A H k. let N = rw c.in-None.is at (the-name-branches.ensures.reduced_by (innerAt l e) z [] f (inner-are w0 w1 w2 base count e root top s long1 long2 c.requires.2 h the-to-front.ensures.only_records l A (tame-of w0 base count l c.requires.0 A) (the-to-front.ensures.atoms_are l A)) (named-front w0 w1 w2 base count e root top s long1 long2 c.requires.2 h the-to-front.ensures.only_records z H) (keep-none w1) (omega (arith, h, k))) in split-back w0 w1 w2 base count e root top s long1 long2 c.requires.2 h the-to-front.ensures.only_records l A (tame-of w0 base count l c.requires.0 A) (the-to-front.ensures.atoms_are l A) the-name-branches.ensures.only_names f z (sym (the-is-wide.ensures l (part-of c.args.scratch.now base count l c.requires.3 c.requires.6 A)) ∙ the-if1.false) (the-only-edge.ensures l A) w3 long3 the-from-front.ensures.only_records (the-from-front.ensures.atoms_are l (sym A.long) (fronted-again w0 w1 w2 base count e root top s long1 long2 c.requires.2 h the-to-front.ensures.only_records l A (tame-of w0 base count l c.requires.0 A) (the-to-front.ensures.atoms_are l A) the-name-branches.ensures.only_names f z N)) N;
-      only_names = only-back base count w0 w2 w3 (split-only w0 w1 w2 base count e root top s long1 long2 c.requires.2 h the-to-front.ensures.only_records the-name-branches.ensures.only_names) the-from-front.ensures.only_records;
+      split_by = λ l z f A H k. let N = rw c.in-None.is at (the-name-branches.ensures.reduced_by (inner_at l e) z [] f (inner_are w0 w1 w2 base count e root top s long1 long2 c.requires.2 h the-to-front.ensures.only_records l A (tame_of w0 base count l c.requires.0 A) (the-to-front.ensures.atoms_are l A)) (named_front w0 w1 w2 base count e root top s long1 long2 c.requires.2 h the-to-front.ensures.only_records z H) (keep_none w1) (omega (arith, h, k))) in split_back w0 w1 w2 base count e root top s long1 long2 c.requires.2 h the-to-front.ensures.only_records l A (tame_of w0 base count l c.requires.0 A) (the-to-front.ensures.atoms_are l A) the-name-branches.ensures.only_names f z (sym (the-is-wide.ensures l (part_of c.args.scratch.now base count l c.requires.3 c.requires.6 A)) ∙ the-if1.false) (the-only-edge.ensures l A) w3 long3 the-from-front.ensures.only_records (the-from-front.ensures.atoms_are l (sym A.long) (fronted_again w0 w1 w2 base count e root top s long1 long2 c.requires.2 h the-to-front.ensures.only_records l A (tame_of w0 base count l c.requires.0 A) (the-to-front.ensures.atoms_are l A) the-name-branches.ensures.only_names f z N)) N;
+      only_names = only_back base count w0 w2 w3 (split_only w0 w1 w2 base count e root top s long1 long2 c.requires.2 h the-to-front.ensures.only_records the-name-branches.ensures.only_names) the-from-front.ensures.only_records;
     }
 
 pub split_group-returns-in-Refused : goal.split_group-returns-in-Refused
@@ -572,12 +572,12 @@ split_group-returns-in-Refused t c =
     let root = c.args.root in
     let top = c.args.t in
     let s = c.args.s in
-    let long1 = same-words c.args.scratch.now the-to-front.new.scratch the-to-front.auto.scratch in
-    let long2 = same-words the-to-front.new.scratch the-name-branches.new.scratch the-name-branches.auto.scratch in
+    let long1 = same_words_lem c.args.scratch.now the-to-front.new.scratch the-to-front.auto.scratch in
+    let long2 = same_words_lem the-to-front.new.scratch the-name-branches.new.scratch the-name-branches.auto.scratch in
     let h = below e count (the-only-edge.ensures c.requires.0.list c.requires.0.are).within the-if2.false in
     record {
-      split_by = λ l z f A H k. split-full w0 w1 w2 base count e root top s long1 long2 c.requires.2 h the-to-front.ensures.only_records l A (tame-of w0 base count l c.requires.0 A) (the-to-front.ensures.atoms_are l A) the-name-branches.ensures.only_names f z (sym (the-is-wide.ensures l (part-of c.args.scratch.now base count l c.requires.3 c.requires.6 A)) ∙ the-if1.false) (the-only-edge.ensures l A) _ (rw c.in-Refused.is at (the-name-branches.ensures.reduced_by (innerAt l e) z [] f (inner-are w0 w1 w2 base count e root top s long1 long2 c.requires.2 h the-to-front.ensures.only_records l A (tame-of w0 base count l c.requires.0 A) (the-to-front.ensures.atoms_are l A)) (named-front w0 w1 w2 base count e root top s long1 long2 c.requires.2 h the-to-front.ensures.only_records z H) (keep-none w1) (omega (arith, h, k))));
-      only_names = split-only w0 w1 w2 base count e root top s long1 long2 c.requires.2 h the-to-front.ensures.only_records the-name-branches.ensures.only_names;
+      split_by = λ l z f A H k. split_full w0 w1 w2 base count e root top s long1 long2 c.requires.2 h the-to-front.ensures.only_records l A (tame_of w0 base count l c.requires.0 A) (the-to-front.ensures.atoms_are l A) the-name-branches.ensures.only_names f z (sym (the-is-wide.ensures l (part_of c.args.scratch.now base count l c.requires.3 c.requires.6 A)) ∙ the-if1.false) (the-only-edge.ensures l A) _ (rw c.in-Refused.is at (the-name-branches.ensures.reduced_by (inner_at l e) z [] f (inner_are w0 w1 w2 base count e root top s long1 long2 c.requires.2 h the-to-front.ensures.only_records l A (tame_of w0 base count l c.requires.0 A) (the-to-front.ensures.atoms_are l A)) (named_front w0 w1 w2 base count e root top s long1 long2 c.requires.2 h the-to-front.ensures.only_records z H) (keep_none w1) (omega (arith, h, k))));
+      only_names = split_only w0 w1 w2 base count e root top s long1 long2 c.requires.2 h the-to-front.ensures.only_records the-name-branches.ensures.only_names;
     }
 
 pub turn-mentions_kept-requires : goal.turn-mentions_kept-requires
@@ -589,7 +589,7 @@ turn-mentions_kept-requires t c =
     let size = c.args.c in
     let s = c.args.s in
     let stands = c.requires.0.standing in
-    (child-there w0 there.base there.count q p size there.result there.group there.rest s there.state stands, c.requires.1, c.requires.2)
+    (child_there w0 there.base there.count q p size there.result there.group there.rest s there.state stands, c.requires.1, c.requires.2)
 
 pub turn-overflow_mul-p : goal.turn-overflow_mul-p
 turn-overflow_mul-p t c =
@@ -600,7 +600,7 @@ turn-overflow_mul-p t c =
     let size = c.args.c in
     let s = c.args.s in
     let stands = c.requires.0.standing in
-    omega (arith, child-high w0 there.base there.count q p size there.result there.group there.rest s there.state stands)
+    omega (arith, child_high w0 there.base there.count q p size there.result there.group there.rest s there.state stands)
 
 pub turn-overflow_mul-q : goal.turn-overflow_mul-q
 turn-overflow_mul-q t c =
@@ -611,7 +611,7 @@ turn-overflow_mul-q t c =
     let size = c.args.c in
     let s = c.args.s in
     let stands = c.requires.0.standing in
-    omega (arith, child-high w0 there.base there.count q p size there.result there.group there.rest s there.state stands, stands.below)
+    omega (arith, child_high w0 there.base there.count q p size there.result there.group there.rest s there.state stands, stands.below)
 
 pub turn-overflow_mul-c : goal.turn-overflow_mul-c
 turn-overflow_mul-c t c =
@@ -622,7 +622,7 @@ turn-overflow_mul-c t c =
     let size = c.args.c in
     let s = c.args.s in
     let stands = c.requires.0.standing in
-    omega (arith, child-few w0 there.base there.count q p size there.result there.group there.rest s there.state stands)
+    omega (arith, child_few w0 there.base there.count q p size there.result there.group there.rest s there.state stands)
 
 pub turn-move_words-requires : goal.turn-move_words-requires
 turn-move_words-requires t c =
@@ -633,7 +633,7 @@ turn-move_words-requires t c =
     let size = c.args.c in
     let s = c.args.s in
     let stands = c.requires.0.standing in
-    (omega (arith, child-high w0 there.base there.count q p size there.result there.group there.rest s there.state stands, c.requires.2), omega (arith, child-high w0 there.base there.count q p size there.result there.group there.rest s there.state stands, stands.below, c.requires.2))
+    (omega (arith, child_high w0 there.base there.count q p size there.result there.group there.rest s there.state stands, c.requires.2), omega (arith, child_high w0 there.base there.count q p size there.result there.group there.rest s there.state stands, stands.below, c.requires.2))
 
 pub turn-overflow_add-result : goal.turn-overflow_add-result
 turn-overflow_add-result t c =
@@ -644,7 +644,7 @@ turn-overflow_add-result t c =
     let size = c.args.c in
     let s = c.args.s in
     let stands = c.requires.0.standing in
-    omega (arith, child-high w0 there.base there.count q p size there.result there.group there.rest s there.state stands, stands.below)
+    omega (arith, child_high w0 there.base there.count q p size there.result there.group there.rest s there.state stands, stands.below)
 
 pub turn-returns-then-mentions_kept : goal.turn-returns-then-mentions_kept
 turn-returns-then-mentions_kept t c =
@@ -657,13 +657,13 @@ turn-returns-then-mentions_kept t c =
     let p = c.args.p in
     let size = c.args.c in
     let s = c.args.s in
-    let room : workWords ≤ length w0 = omega (arith, c.requires.2, length-words c.args.scratch.now) in
+    let room : work_words ≤ length w0 = omega (arith, c.requires.2, length_words c.args.scratch.now) in
     let root = c.args.root in
     let top = c.args.t in
     let any = c.args.any in
     record {
-      fact = λ base count result group rest z kept f D K k. stay-turned w0 w1 base count q p size result group rest s z D room the-move-words.ensures f root top any kept (sym (the-mentions-kept.ensures group kept (child-are w0 base count q p size result group rest s z D) K) ∙ the-if1.true);
-      fact_2 = λ base count result group rest z D. stay-only w0 w1 base count q p size result group rest s z D room the-move-words.ensures;
+      fact = λ base count result group rest z kept f D K k. stay_turned w0 w1 base count q p size result group rest s z D room the-move-words.ensures f root top any kept (sym (the-mentions-kept.ensures group kept (child_are w0 base count q p size result group rest s z D) K) ∙ the-if1.true);
+      fact_2 = λ base count result group rest z D. stay_only w0 w1 base count q p size result group rest s z D room the-move-words.ensures;
     }
 
 pub turn-name_group-requires : goal.turn-name_group-requires
@@ -676,7 +676,7 @@ turn-name_group-requires t c =
     let s = c.args.s in
     let stands = c.requires.0.standing in
     let mt : 5 * size + 2 ≡ t = c.decreases in
-    (omega (arith, mt), (child-there w0 there.base there.count q p size there.result there.group there.rest s there.state stands, child-few w0 there.base there.count q p size there.result there.group there.rest s there.state stands, child-low w0 there.base there.count q p size there.result there.group there.rest s there.state stands, child-high w0 there.base there.count q p size there.result there.group there.rest s there.state stands, child-named w0 there.base there.count q p size there.result there.group there.rest s there.state stands, stands.first, c.requires.2))
+    (omega (arith, mt), (child_there w0 there.base there.count q p size there.result there.group there.rest s there.state stands, child_few w0 there.base there.count q p size there.result there.group there.rest s there.state stands, child_low w0 there.base there.count q p size there.result there.group there.rest s there.state stands, child_high w0 there.base there.count q p size there.result there.group there.rest s there.state stands, child_named w0 there.base there.count q p size there.result there.group there.rest s there.state stands, stands.first, c.requires.2))
 
 pub turn-put_atom-requires : goal.turn-put_atom-requires
 turn-put_atom-requires t c =
@@ -691,7 +691,7 @@ turn-put_atom-requires t c =
     let w1 = words the-name-group.new.scratch in
     let root = c.args.root in
     let top = c.args.t in
-    (omega (arith, child-high w0 there.base there.count q p size there.result there.group there.rest s there.state stands, stands.below, stands.filled, the-name-group.auto.scratch, c.requires.2), omega (arith, called-small w1 root s (groupRule size there.group root top there.state) _ _ (rw c.in-Named.is at (the-name-group.ensures.called_by there.group there.state size (child-are w0 there.base there.count q p size there.result there.group there.rest s there.state stands) stands.held (omega arith)))))
+    (omega (arith, child_high w0 there.base there.count q p size there.result there.group there.rest s there.state stands, stands.below, stands.filled, the-name-group.auto.scratch, c.requires.2), omega (arith, called_small w1 root s (group_rule size there.group root top there.state) _ _ (rw c.in-Named.is at (the-name-group.ensures.called_by there.group there.state size (child_are w0 there.base there.count q p size there.result there.group there.rest s there.state stands) stands.held (omega arith)))))
 
 pub turn-overflow_add-result-in-Named : goal.turn-overflow_add-result-in-Named
 turn-overflow_add-result-in-Named t c =
@@ -702,7 +702,7 @@ turn-overflow_add-result-in-Named t c =
     let size = c.args.c in
     let s = c.args.s in
     let stands = c.requires.0.standing in
-    omega (arith, child-high w0 there.base there.count q p size there.result there.group there.rest s there.state stands, stands.below)
+    omega (arith, child_high w0 there.base there.count q p size there.result there.group there.rest s there.state stands, stands.below)
 
 pub turn-returns-in-Named : goal.turn-returns-in-Named
 turn-returns-in-Named t c =
@@ -716,15 +716,15 @@ turn-returns-in-Named t c =
     let p = c.args.p in
     let size = c.args.c in
     let s = c.args.s in
-    let long1 = same-words c.args.scratch.now the-name-group.new.scratch the-name-group.auto.scratch in
+    let long1 = same_words_lem c.args.scratch.now the-name-group.new.scratch the-name-group.auto.scratch in
     let w2 = words the-put-atom.new.t in
-    let room : workWords ≤ length w0 = omega (arith, c.requires.2, length-words c.args.scratch.now) in
+    let room : work_words ≤ length w0 = omega (arith, c.requires.2, length_words c.args.scratch.now) in
     let root = c.args.root in
     let top = c.args.t in
     let any = c.args.any in
     record {
-      fact = λ base count result group rest z kept f D K k. call-turned w0 w1 base count q p size result group rest s z D long1 the-name-group.ensures.only_names w2 room _ _ root the-put-atom.ensures f top any kept (sym (the-mentions-kept.ensures group kept (child-are w0 base count q p size result group rest s z D) K) ∙ the-if1.false) (rw c.in-Named.is at (the-name-group.ensures.called_by group z f (child-are w0 base count q p size result group rest s z D) D.held k));
-      fact_2 = λ base count result group rest z D. named-only w0 w1 base count q p size result group rest s z D long1 the-name-group.ensures.only_names w2 room s _ root the-put-atom.ensures;
+      fact = λ base count result group rest z kept f D K k. call_turned w0 w1 base count q p size result group rest s z D long1 the-name-group.ensures.only_names w2 room _ _ root the-put-atom.ensures f top any kept (sym (the-mentions-kept.ensures group kept (child_are w0 base count q p size result group rest s z D) K) ∙ the-if1.false) (rw c.in-Named.is at (the-name-group.ensures.called_by group z f (child_are w0 base count q p size result group rest s z D) D.held k));
+      fact_2 = λ base count result group rest z D. named_only w0 w1 base count q p size result group rest s z D long1 the-name-group.ensures.only_names w2 room s _ root the-put-atom.ensures;
     }
 
 pub turn-returns-in-Refused : goal.turn-returns-in-Refused
@@ -738,11 +738,11 @@ turn-returns-in-Refused t c =
     let p = c.args.p in
     let size = c.args.c in
     let s = c.args.s in
-    let long1 = same-words c.args.scratch.now the-name-group.new.scratch the-name-group.auto.scratch in
+    let long1 = same_words_lem c.args.scratch.now the-name-group.new.scratch the-name-group.auto.scratch in
     let root = c.args.root in
     let top = c.args.t in
     let any = c.args.any in
     record {
-      fact = λ base count result group rest z kept f D K k. turn-full w0 w1 base count q p size result group rest s z D long1 the-name-group.ensures.only_names f root top any kept _ (sym (the-mentions-kept.ensures group kept (child-are w0 base count q p size result group rest s z D) K) ∙ the-if1.false) (rw c.in-Refused.is at (the-name-group.ensures.called_by group z f (child-are w0 base count q p size result group rest s z D) D.held k));
-      fact_2 = λ base count result group rest z D. turn-only w0 w1 base count q p size result group rest s z D long1 the-name-group.ensures.only_names;
+      fact = λ base count result group rest z kept f D K k. turn_full w0 w1 base count q p size result group rest s z D long1 the-name-group.ensures.only_names f root top any kept _ (sym (the-mentions-kept.ensures group kept (child_are w0 base count q p size result group rest s z D) K) ∙ the-if1.false) (rw c.in-Refused.is at (the-name-group.ensures.called_by group z f (child_are w0 base count q p size result group rest s z D) D.held k));
+      fact_2 = λ base count result group rest z D. turn_only w0 w1 base count q p size result group rest s z D long1 the-name-group.ensures.only_names;
     }

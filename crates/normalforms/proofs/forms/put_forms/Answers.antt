@@ -3,11 +3,11 @@ use mathlib.Core.List.{List}
 use Prim.Native.Nat.{ℕ}
 use native.Mathlib.Omega.{arith}
 use Rattle.words.specs.Words.{words}
-use Rattle.rules.specs.Deck.{readDeck}
+use Rattle.rules.specs.Deck.{read_deck}
 use Rattle.rows.specs.Rows.{Put}
-use Rattle.normalforms.specs.Forms.{formsText, mostVisits}
-use Rattle.normalize.specs.Loaded.{as-fine, as-refused}
-use Rattle.normalforms.proofs.FormLaws.{fine-ready, fine-line, fine-text}
+use Rattle.normalforms.specs.Forms.{forms_text, most_visits}
+use Rattle.normalize.specs.Loaded.{as_fine, as_refused}
+use Rattle.normalforms.proofs.FormLaws.{fine_ready, fine_line, fine_text}
 use Rattle.normalforms.proofs.forms.put_forms.Goals as goal
 
 pub load-requires : goal.load-requires
@@ -18,18 +18,18 @@ put_normalized-requires c =
     let deck = c.args.deck.now in
     let l = c.load in
     let s' = l.new.scratch in
-    let F = as-fine mostVisits (readDeck deck) (words s') l.result l.ensures c.in-Accepted.k c.in-Accepted.n c.in-Accepted.is in
-    (fine-ready deck s' c.in-Accepted.k c.in-Accepted.n F (omega (arith, c.requires.0, l.auto.scratch)), fine-line deck s' c.in-Accepted.k c.in-Accepted.n F, omega (arith, c.requires.1))
+    let F = as_fine most_visits (read_deck deck) (words s') l.result l.ensures c.in-Accepted.k c.in-Accepted.n c.in-Accepted.is in
+    (fine_ready deck s' c.in-Accepted.k c.in-Accepted.n F (omega (arith, c.requires.0, l.auto.scratch)), fine_line deck s' c.in-Accepted.k c.in-Accepted.n F, omega (arith, c.requires.1))
 
 pub returns-in-Accepted : goal.returns-in-Accepted
 returns-in-Accepted c =
     let deck = c.args.deck.now in
     let l = c.load in
     let s' = l.new.scratch in
-    let F = as-fine mostVisits (readDeck deck) (words s') l.result l.ensures c.in-Accepted.k c.in-Accepted.n c.in-Accepted.is in
+    let F = as_fine most_visits (read_deck deck) (words s') l.result l.ensures c.in-Accepted.k c.in-Accepted.n c.in-Accepted.is in
     let p = c.put_normalized in
     record {
-      put = subst (λ (t : List ℕ). Put c.args.out.now 0 t p.new.out p.result) (fine-text deck s' c.in-Accepted.k c.in-Accepted.n F) p.ensures.put;
+      put = subst (λ (t : List ℕ). Put c.args.out.now 0 t p.new.out p.result) (fine_text deck s' c.in-Accepted.k c.in-Accepted.n F) p.ensures.put;
       upper_bound = p.ensures.upper_bound;
     }
 
@@ -38,8 +38,8 @@ returns-in-Refused c =
     let deck = c.args.deck.now in
     let l = c.load in
     let p = c.put_refusal in
-    let e = as-refused mostVisits (readDeck deck) (words l.new.scratch) l.result l.ensures c.in-Refused.e c.in-Refused.line c.in-Refused.is in
+    let e = as_refused most_visits (read_deck deck) (words l.new.scratch) l.result l.ensures c.in-Refused.e c.in-Refused.line c.in-Refused.is in
     record {
-      put = subst (λ (t : List ℕ). Put c.args.out.now 0 t p.new.out p.result) (ap formsText (sym e)) p.ensures.put;
+      put = subst (λ (t : List ℕ). Put c.args.out.now 0 t p.new.out p.result) (ap forms_text (sym e)) p.ensures.put;
       upper_bound = p.ensures.upper_bound;
     }

@@ -3,11 +3,11 @@ use mathlib.Core.List.{List}
 use Prim.Native.Nat.{ℕ}
 use native.Mathlib.Omega.{arith}
 use Rattle.words.specs.Words.{words}
-use Rattle.rules.specs.Run.{nnfAxioms}
-use Rattle.ontology.specs.Layout.{axiomsOf}
-use Rattle.rebuilding.specs.States.{stateOf}
+use Rattle.rules.specs.Run.{nnf_axioms}
+use Rattle.ontology.specs.Layout.{axioms_of}
+use Rattle.rebuilding.specs.States.{state_of}
 use Rattle.rows.specs.Rows.{Put}
-use Rattle.normalforms.proofs.FormLaws.{finished-text, stopped-text, finished-held}
+use Rattle.normalforms.proofs.FormLaws.{finished_text, stopped_text, finished_held}
 use Rattle.normalforms.proofs.forms.put_normalized.Goals as goal
 
 pub nnf_axioms-requires : goal.nnf_axioms-requires
@@ -16,7 +16,7 @@ nnf_axioms-requires c = (c.requires.0, c.requires.1)
 pub put_normal-requires : goal.put_normal-requires
 put_normal-requires c =
     let m = c.nnf_axioms in
-    let h = finished-held m.result c.args.n (words m.new.scratch) c.in-Finished.v c.in-Finished.is m.ensures.held_lined in
+    let h = finished_held m.result c.args.n (words m.new.scratch) c.in-Finished.v c.in-Finished.is m.ensures.held_lined in
     (record { room = omega (arith, c.requires.0.space, m.auto.scratch); held = h.0 }, h.1, omega (arith, c.requires.0.space, m.auto.scratch), omega (arith, c.requires.2))
 
 pub returns-in-Finished : goal.returns-in-Finished
@@ -25,8 +25,8 @@ returns-in-Finished c =
     let p = c.put_normal in
     let w = words c.args.scratch.now in
     let w' = words m.new.scratch in
-    let x = nnfAxioms c.args.k.line (axiomsOf w c.args.n) (stateOf c.args.k w) in
-    let e = finished-text c.args.k x m.result (axiomsOf w' c.args.n) w' m.ensures.scratch_after c.in-Finished.v c.in-Finished.is in
+    let x = nnf_axioms c.args.k.line (axioms_of w c.args.n) (state_of c.args.k w) in
+    let e = finished_text c.args.k x m.result (axioms_of w' c.args.n) w' m.ensures.scratch_after c.in-Finished.v c.in-Finished.is in
     record {
       put = subst (λ (t : List ℕ). Put c.args.out.now 0 t p.new.out p.result) e p.ensures.put;
       upper_bound = p.ensures.upper_bound;
@@ -38,8 +38,8 @@ returns-in-Stopped c =
     let p = c.put_refusal in
     let w = words c.args.scratch.now in
     let w' = words m.new.scratch in
-    let x = nnfAxioms c.args.k.line (axiomsOf w c.args.n) (stateOf c.args.k w) in
-    let e = stopped-text c.args.k x m.result (axiomsOf w' c.args.n) w' m.ensures.scratch_after c.in-Stopped.e c.in-Stopped.line c.in-Stopped.is in
+    let x = nnf_axioms c.args.k.line (axioms_of w c.args.n) (state_of c.args.k w) in
+    let e = stopped_text c.args.k x m.result (axioms_of w' c.args.n) w' m.ensures.scratch_after c.in-Stopped.e c.in-Stopped.line c.in-Stopped.is in
     record {
       put = subst (λ (t : List ℕ). Put c.args.out.now 0 t p.new.out p.result) e p.ensures.put;
       upper_bound = p.ensures.upper_bound;

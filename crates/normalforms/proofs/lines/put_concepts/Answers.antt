@@ -1,20 +1,20 @@
 use native.Mathlib.Omega.{arith}
 use Rattle.words.specs.Words.{words}
-use Rattle.pool.specs.Layout.{poolOf}
-use Rattle.normalforms.specs.Forms.{conceptsText}
-use Rattle.normalforms.proofs.LineLaws.{concepts-all, concept-fits, concept-more, concepts-end}
+use Rattle.pool.specs.Layout.{pool_of}
+use Rattle.normalforms.specs.Forms.{concepts_text}
+use Rattle.normalforms.proofs.LineLaws.{concepts_all, concept_fits, concept_more, concepts_end}
 use Rattle.normalforms.proofs.lines.put_concepts.Goals as goal
 
 pub loop-c-init : goal.loop-c-init
 loop-c-init c =
     let a = c.args in
-    (omega arith, concepts-all (words a.scratch.now) a.k.concepts a.out.now a.at)
+    (omega arith, concepts_all (words a.scratch.now) a.k.concepts a.out.now a.at)
 
 pub put_concept-p-requires : goal.put_concept-p-requires
 put_concept-p-requires c =
     let l = c.loop-c in
     let t = c.loop-c-test.true in
-    (c.requires.0, t, concept-fits (words c.args.scratch.now) l.c c.args.k.concepts c.args.out.now c.args.at (conceptsText (poolOf (words c.args.scratch.now) c.args.k.concepts)) l.out l.p t l.invariant.1 c.requires.1)
+    (c.requires.0, t, concept_fits (words c.args.scratch.now) l.c c.args.k.concepts c.args.out.now c.args.at (concepts_text (pool_of (words c.args.scratch.now) c.args.k.concepts)) l.out l.p t l.invariant.1 c.requires.1)
 
 pub loop-c-smaller : goal.loop-c-smaller
 loop-c-smaller c = omega arith
@@ -24,7 +24,7 @@ loop-c-preserved c =
     let l = c.loop-c in
     let t = c.loop-c-test.true in
     let q = c.put_concept-p in
-    (omega arith, concept-more (words c.args.scratch.now) l.c c.args.k.concepts c.args.out.now c.args.at (conceptsText (poolOf (words c.args.scratch.now) c.args.k.concepts)) l.out l.p _ q.result t l.invariant.1 q.ensures)
+    (omega arith, concept_more (words c.args.scratch.now) l.c c.args.k.concepts c.args.out.now c.args.at (concepts_text (pool_of (words c.args.scratch.now) c.args.k.concepts)) l.out l.p _ q.result t l.invariant.1 q.ensures)
 
 pub shape_of-out : goal.shape_of-out
 shape_of-out c = c.loop-c.invariant.1.long
@@ -32,4 +32,4 @@ shape_of-out c = c.loop-c.invariant.1.long
 pub returns : goal.returns
 returns c =
     let l = c.loop-c in
-    concepts-end (words c.args.scratch.now) l.c c.args.k.concepts c.args.out.now c.args.at (conceptsText (poolOf (words c.args.scratch.now) c.args.k.concepts)) l.out l.p (omega arith) l.invariant.1
+    concepts_end (words c.args.scratch.now) l.c c.args.k.concepts c.args.out.now c.args.at (concepts_text (pool_of (words c.args.scratch.now) c.args.k.concepts)) l.out l.p (omega arith) l.invariant.1

@@ -1,13 +1,13 @@
 use Prim.Native.Nat.{◌-◌, ◌≤◌}
 use Rattle.words.specs.Words.{words}
-use Rattle.pool.specs.Layout.{poolOf}
+use Rattle.pool.specs.Layout.{pool_of}
 use Rattle.rows.specs.RowLaws.{Left}
-use Rattle.normalforms.specs.Forms.{conceptsText}
-use Rattle.normalforms.proofs.LineLaws.{conceptsLeft}
+use Rattle.normalforms.specs.Forms.{concepts_text}
+use Rattle.normalforms.proofs.LineLaws.{concepts_left}
 use Rattle.normalforms.proofs.lines.put_concepts.Given as goal
 
 abbrev pub invariant-loop-c : goal.invariant-loop-c
-invariant-loop-c l = (l.c ≤ l.k.concepts) × Left l.initial.out l.at (conceptsText (poolOf (words l.scratch) l.k.concepts)) l.out l.p (conceptsLeft (words l.scratch) l.c l.k.concepts)
+invariant-loop-c l = (l.c ≤ l.k.concepts) × Left l.initial.out l.at (concepts_text (pool_of (words l.scratch) l.k.concepts)) l.out l.p (concepts_left (words l.scratch) l.c l.k.concepts)
 
 abbrev pub decreases-loop-c : goal.decreases-loop-c
 decreases-loop-c l = l.k.concepts - l.c

@@ -1,6 +1,6 @@
 use native.Mathlib.Omega.{arith}
 use Rattle.words.specs.Words.{words}
-use Rattle.normalforms.proofs.RoomLaws.{concepts-room, axioms-room, normal-room, normal-put}
+use Rattle.normalforms.proofs.RoomLaws.{concepts_room, axioms_room, normal_room, normal_put}
 use Rattle.normalforms.proofs.lines.put_normal.Goals as goal
 
 pub put_concepts-p-requires : goal.put_concepts-p-requires
@@ -10,7 +10,7 @@ put_concepts-p-requires c =
     let n = c.args.n in
     let H = c.requires.0.held in
     let A = c.requires.1 in
-    (c.requires.0, omega (arith, concepts-room w k.members k.concepts H n A, c.requires.3))
+    (c.requires.0, omega (arith, concepts_room w k.members k.concepts H n A, c.requires.3))
 
 pub put_axioms-q-requires : goal.put_axioms-q-requires
 put_axioms-q-requires c =
@@ -20,7 +20,7 @@ put_axioms-q-requires c =
     let n = c.args.n in
     let H = c.requires.0.held in
     let A = c.requires.1 in
-    (c.requires.1, c.requires.2, omega (arith, concepts-room w k.members k.concepts H n A, axioms-room w k.members k.concepts H n A, c.requires.3, p.ensures.end, p.auto.out))
+    (c.requires.1, c.requires.2, omega (arith, concepts_room w k.members k.concepts H n A, axioms_room w k.members k.concepts H n A, c.requires.3, p.ensures.end, p.auto.out))
 
 pub put_four-requires : goal.put_four-requires
 put_four-requires c =
@@ -31,7 +31,7 @@ put_four-requires c =
     let n = c.args.n in
     let H = c.requires.0.held in
     let A = c.requires.1 in
-    omega (arith, concepts-room w k.members k.concepts H n A, axioms-room w k.members k.concepts H n A, c.requires.3, p.ensures.end, p.auto.out, q.ensures.end, q.auto.out)
+    omega (arith, concepts_room w k.members k.concepts H n A, axioms_room w k.members k.concepts H n A, c.requires.3, p.ensures.end, p.auto.out, q.ensures.end, q.auto.out)
 
 pub returns : goal.returns
 returns c =
@@ -43,5 +43,5 @@ returns c =
     let n = c.args.n in
     let H = c.requires.0.held in
     let A = c.requires.1 in
-    let t = normal-put w k.members k.concepts H n k.visits p.ensures q.ensures r.ensures in
-    record { put = t; upper_bound = omega (arith, t.end, normal-room w k.members k.concepts H n A k.visits) }
+    let t = normal_put w k.members k.concepts H n k.visits p.ensures q.ensures r.ensures in
+    record { put = t; upper_bound = omega (arith, t.end, normal_room w k.members k.concepts H n A k.visits) }

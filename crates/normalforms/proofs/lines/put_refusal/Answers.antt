@@ -1,6 +1,6 @@
 use mathlib.Core.List.{[], ◌∷◌}
 use native.Mathlib.Omega.{arith}
-use Rattle.rows.specs.RowLaws.{length-line}
+use Rattle.rows.specs.RowLaws.{length_line}
 use Rattle.normalforms.proofs.lines.put_refusal.Goals as goal
 
 pub returns : goal.returns
@@ -8,5 +8,5 @@ returns c =
     let p = c.put_three in
     record {
       put = p.ensures;
-      upper_bound = omega (arith, p.ensures.end, length-line (49 ∷ c.args.number ∷ c.args.line ∷ []));
+      upper_bound = omega (arith, p.ensures.end, length_line (49 ∷ c.args.number ∷ c.args.line ∷ []));
     }

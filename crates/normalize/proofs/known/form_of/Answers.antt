@@ -1,10 +1,10 @@
 use native.Mathlib.Omega.{arith}
-use Rattle.normalize.specs.KnownLaws.{form-in}
+use Rattle.normalize.specs.KnownLaws.{form_in}
 use Rattle.normalize.proofs.known.form_of.Goals as goal
 
 pub get_word-requires : goal.get_word-requires
 get_word-requires c =
-    let f = form-in c.args.negated c.args.c c.requires.0 in
+    let f = form_in c.args.negated c.args.c c.requires.0 in
     rw c.place.ensures (omega (arith, c.requires.1, f.1))
 
 pub returns : goal.returns

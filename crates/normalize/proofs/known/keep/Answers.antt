@@ -1,6 +1,6 @@
 use mathlib.Core.Path.{sym, ap, subst, ◌∙◌}
 use Rattle.words.specs.Words.{words}
-use Rattle.normalize.specs.Known.{MadeSince, formAt, keptAnswer}
+use Rattle.normalize.specs.Known.{MadeSince, form_at, kept_answer}
 use Rattle.normalize.proofs.known.keep.Goals as goal
 
 pub overflow_sub-k : goal.overflow_sub-k
@@ -13,7 +13,7 @@ put_form-requires c =
 
 pub returns-in-Done : goal.returns-in-Done
 returns-in-Done c =
-    c.put_form.ensures ∙ sym (ap (keptAnswer (words c.args.scratch.now) (formAt c.args.negated c.args.c) c.args.visits) c.in-Done.is)
+    c.put_form.ensures ∙ sym (ap (kept_answer (words c.args.scratch.now) (form_at c.args.negated c.args.c) c.args.visits) c.in-Done.is)
 
 pub returns-in-Refused : goal.returns-in-Refused
-returns-in-Refused c = sym (ap (keptAnswer (words c.args.scratch.now) (formAt c.args.negated c.args.c) c.args.visits) c.in-Refused.is)
+returns-in-Refused c = sym (ap (kept_answer (words c.args.scratch.now) (form_at c.args.negated c.args.c) c.args.visits) c.in-Refused.is)

@@ -2,11 +2,11 @@ use native.Mathlib.Omega.{arith}
 use mathlib.Core.Path.{◌≡◌, refl, subst, ◌∙◌}
 use Prim.Native.Nat.{ℕ, ◌-◌}
 use Rattle.words.specs.Words.{words}
-use Rattle.ir.specs.Scratch.{stackAt}
-use Rattle.pool.specs.Layout.{poolWords}
-use Rattle.ontology.specs.Lines.{tableOf, Pooled}
-use Rattle.ontology.proofs.TableLaws.{table-kept}
-use Rattle.ontology.proofs.PoolLaws.{pooled-here, pooled-next}
+use Rattle.ir.specs.Scratch.{stack_at}
+use Rattle.pool.specs.Layout.{pool_words}
+use Rattle.ontology.specs.Lines.{table_of, Pooled}
+use Rattle.ontology.proofs.TableLaws.{table_kept}
+use Rattle.ontology.proofs.PoolLaws.{pooled_here, pooled_next}
 use Rattle.ontology.proofs.concepts.load_concepts.Goals as goal
 
 pub loop-i-init : goal.loop-i-init
@@ -15,15 +15,15 @@ loop-i-init c = (omega arith, refl, c.requires.2)
 pub load_concept-l-requires : goal.load_concept-l-requires
 load_concept-l-requires c =
     let l = c.loop-i in
-    let q = table-kept poolWords stackAt (words c.args.scratch.now) (words l.scratch) (omega arith) (omega arith) l.invariant.2.kept in
-    (omega (arith, c.requires.0, l.invariant.1), rw q (c.requires.1 l.i c.loop-i-test.true), pooled-here c.args.deck.now (tableOf (words c.args.scratch.now)) c.args.k l.i (words c.args.scratch.now) (words l.scratch) l.l l.invariant.2 q)
+    let q = table_kept pool_words stack_at (words c.args.scratch.now) (words l.scratch) (omega arith) (omega arith) l.invariant.2.kept in
+    (omega (arith, c.requires.0, l.invariant.1), rw q (c.requires.1 l.i c.loop-i-test.true), pooled_here c.args.deck.now (table_of (words c.args.scratch.now)) c.args.k l.i (words c.args.scratch.now) (words l.scratch) l.l l.invariant.2 q)
 
 pub loop-i-preserved : goal.loop-i-preserved
 loop-i-preserved c =
     let l = c.loop-i in
     let n = c.load_concept-l in
-    let q = table-kept poolWords stackAt (words c.args.scratch.now) (words l.scratch) (omega arith) (omega arith) l.invariant.2.kept in
-    (omega (arith, c.loop-i-test.true), n.auto.scratch ∙ l.invariant.1, pooled-next c.args.deck.now (tableOf (words c.args.scratch.now)) c.args.k l.i (words c.args.scratch.now) (words l.scratch) l.l l.invariant.2 q (words n.new.scratch) n.result n.ensures)
+    let q = table_kept pool_words stack_at (words c.args.scratch.now) (words l.scratch) (omega arith) (omega arith) l.invariant.2.kept in
+    (omega (arith, c.loop-i-test.true), n.auto.scratch ∙ l.invariant.1, pooled_next c.args.deck.now (table_of (words c.args.scratch.now)) c.args.k l.i (words c.args.scratch.now) (words l.scratch) l.l l.invariant.2 q (words n.new.scratch) n.result n.ensures)
 
 pub shape_of-scratch : goal.shape_of-scratch
 shape_of-scratch c = c.loop-i.invariant.1
@@ -32,4 +32,4 @@ pub returns : goal.returns
 returns c =
     let l = c.loop-i in
     let e : l.i ≡ c.args.concepts = omega (arith, l.invariant.0, c.loop-i-test.false) in
-    subst (λ (j : ℕ). Pooled c.args.deck.now (tableOf (words c.args.scratch.now)) c.args.k j (words c.args.scratch.now) (words l.scratch) l.l) e l.invariant.2
+    subst (λ (j : ℕ). Pooled c.args.deck.now (table_of (words c.args.scratch.now)) c.args.k j (words c.args.scratch.now) (words l.scratch) l.l) e l.invariant.2

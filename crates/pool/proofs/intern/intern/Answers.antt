@@ -1,6 +1,6 @@
 use mathlib.Core.Path.{refl, sym}
 use Rattle.words.specs.Words.{words}
-use Rattle.pool.specs.Layout.{conceptOver}
+use Rattle.pool.specs.Layout.{concept_over}
 use Rattle.pool.proofs.Interning.{found}
 use Rattle.pool.proofs.intern.intern.Goals as goal
 
@@ -13,7 +13,7 @@ intern_new-requires c = record {
 
 pub returns-in-At : goal.returns-in-At
 returns-in-At c = record {
-  interned = found (words c.args.scratch.now) c.args.k (conceptOver (words c.args.scratch.now) c.args.at c.args.x) c.requires.ready.0.held c.in-At.c (rw c.in-At.is at c.find-found.ensures);
+  interned = found (words c.args.scratch.now) c.args.k (concept_over (words c.args.scratch.now) c.args.at c.args.x) c.requires.ready.0.held c.in-At.c (rw c.in-At.is at c.find-found.ensures);
   scratch_unchanged = refl;
 }
 

@@ -1,13 +1,13 @@
 use mathlib.Core.Path.{refl}
 use Prim.{tt}
-use Rattle.ir.specs.Roles.{code-role}
-use Rattle.pool.specs.Layout.{conceptFrom}
+use Rattle.ir.specs.Roles.{code_role}
+use Rattle.pool.specs.Layout.{concept_from}
 use Rattle.pool.proofs.make.mk_all.Goals as goal
 
 pub intern_raw-requires : goal.intern_raw-requires
-unfolding conceptFrom
-intern_raw-requires c = (c.requires.0, refl, rw (code-role c.args.role) refl, (c.requires.1, tt))
+unfolding concept_from
+intern_raw-requires c = (c.requires.0, refl, rw (code_role c.args.role) refl, (c.requires.1, tt))
 
 pub returns : goal.returns
-unfolding conceptFrom
+unfolding concept_from
 returns c = c.intern_raw.ensures

@@ -2,28 +2,28 @@ use mathlib.Core.Path.{◌≡◌, refl, sym, ap, subst}
 use Prim.Native.Nat.{ℕ}
 use Rattle.words.specs.Words.{words}
 use Prim.{tt}
-use Rattle.ir.specs.Roles.{roleOf, code-role}
-use Rattle.rules.specs.Pool.{Pool, mkMin}
+use Rattle.ir.specs.Roles.{role_of, code_role}
+use Rattle.rules.specs.Pool.{Pool, mk_min}
 use Rattle.rules.specs.Base.{M}
-use Rattle.pool.specs.Layout.{conceptFrom}
+use Rattle.pool.specs.Layout.{concept_from}
 use Rattle.pool.specs.Answers.{Interned}
-use Rattle.pool.proofs.Making.{min-is}
+use Rattle.pool.proofs.Making.{min_is}
 use Rattle.pool.proofs.make.mk_min.Goals as goal
 
 pub returns-then-n-eq0 : goal.returns-then-n-eq0
-unfolding mkMin
-returns-then-n-eq0 c = let q : mkMin c.args.n (roleOf c.args.role) c.args.c ≡ mkMin 0 (roleOf c.args.role) c.args.c = ap (λ (n : ℕ). mkMin n (roleOf c.args.role) c.args.c) c.if-n-eq0.true in record {
+unfolding mk_min
+returns-then-n-eq0 c = let q : mk_min c.args.n (role_of c.args.role) c.args.c ≡ mk_min 0 (role_of c.args.role) c.args.c = ap (λ (n : ℕ). mk_min n (role_of c.args.role) c.args.c) c.if-n-eq0.true in record {
   interned = subst (λ (f : M Pool ℕ). Interned c.args.k f (words c.args.scratch.now) (words c.mk_top.new.scratch) c.mk_top.result) (sym q) c.mk_top.ensures.interned;
   scratch_unchanged = c.mk_top.ensures.scratch_unchanged;
 }
 
 pub intern_raw-requires : goal.intern_raw-requires
-unfolding conceptFrom
-intern_raw-requires c = (c.requires.0, refl, rw (code-role c.args.role) refl, (c.requires.1, tt))
+unfolding concept_from
+intern_raw-requires c = (c.requires.0, refl, rw (code_role c.args.role) refl, (c.requires.1, tt))
 
 pub returns : goal.returns
-unfolding conceptFrom
+unfolding concept_from
 returns c = record {
-  interned = subst (λ (f : M Pool ℕ). Interned c.args.k f (words c.args.scratch.now) (words c.intern_raw.new.scratch) c.intern_raw.result) (sym (min-is c.args.n (roleOf c.args.role) c.args.c c.if-n-eq0.false)) c.intern_raw.ensures.interned;
+  interned = subst (λ (f : M Pool ℕ). Interned c.args.k f (words c.args.scratch.now) (words c.intern_raw.new.scratch) c.intern_raw.result) (sym (min_is c.args.n (role_of c.args.role) c.args.c c.if-n-eq0.false)) c.intern_raw.ensures.interned;
   scratch_unchanged = c.intern_raw.ensures.scratch_unchanged;
 }

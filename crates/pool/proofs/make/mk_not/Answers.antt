@@ -1,12 +1,12 @@
 use mathlib.Core.Path.{refl}
 use Prim.{tt}
-use Rattle.pool.specs.Layout.{conceptFrom}
+use Rattle.pool.specs.Layout.{concept_from}
 use Rattle.pool.proofs.make.mk_not.Goals as goal
 
 pub intern_raw-requires : goal.intern_raw-requires
-unfolding conceptFrom
+unfolding concept_from
 intern_raw-requires c = (c.requires.0, refl, refl, (c.requires.1, tt))
 
 pub returns : goal.returns
-unfolding conceptFrom
+unfolding concept_from
 returns c = c.intern_raw.ensures

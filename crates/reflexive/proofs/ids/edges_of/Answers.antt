@@ -2,43 +2,43 @@ use mathlib.Core.Path.{sym, ap, ◌∙◌}
 use Prim.Native.Nat.{ℕ, ◌+◌, ◌-◌}
 use native.Mathlib.Omega.{arith}
 use Rattle.words.specs.Words.{words}
-use Rattle.ir.specs.Scratch.{numbersAt}
-use Rattle.ontology.specs.KeptAxioms.{kind-inside}
-use Rattle.reflexive.specs.FlagLaws.{id-small}
-use Rattle.reflexive.specs.AxiomLaws.{sub-inside, sub-small, sup-small, some, equal-codes}
-use Rattle.reflexive.specs.WalkLaws.{edges-none, edges-sub, edges-equal}
+use Rattle.ir.specs.Scratch.{numbers_at}
+use Rattle.ontology.specs.KeptAxioms.{kind_inside}
+use Rattle.reflexive.specs.FlagLaws.{id_small}
+use Rattle.reflexive.specs.AxiomLaws.{sub_inside, sub_small, sup_small, some, equal_codes}
+use Rattle.reflexive.specs.WalkLaws.{edges_none, edges_sub, edges_equal}
 use Rattle.reflexive.proofs.ids.edges_of.Goals as goal
 
 pub number-requires : goal.number-requires
 number-requires c =
     let A = c.requires.1 in
-    (omega (arith, A.building.held.few, A.below), A.building.space, kind-inside (words c.args.scratch.now) A.count c.args.i A.building.held A.below)
+    (omega (arith, A.building.held.few, A.below), A.building.space, kind_inside (words c.args.scratch.now) A.count c.args.i A.building.held A.below)
 
 pub number-requires-in-33 : goal.number-requires-in-33
 number-requires-in-33 c =
     let A = c.requires.1 in
-    (omega (arith, A.building.held.few, A.below), A.building.space, sub-inside c.args.scratch.now A.count c.args.i A.building A.below (sym c.number.ensures ∙ c.in-33.is) 1 (omega arith))
+    (omega (arith, A.building.held.few, A.below), A.building.space, sub_inside c.args.scratch.now A.count c.args.i A.building A.below (sym c.number.ensures ∙ c.in-33.is) 1 (omega arith))
 
 pub canon_id-a-requires : goal.canon_id-a-requires
 canon_id-a-requires c =
     let A = c.requires.1 in
-    (sub-small c.args.scratch.now A.count c.args.i A.building A.below (sym c.number.ensures ∙ c.in-33.is) _ c.number-in-33.ensures, omega (arith, A.building.space))
+    (sub_small c.args.scratch.now A.count c.args.i A.building A.below (sym c.number.ensures ∙ c.in-33.is) _ c.number-in-33.ensures, omega (arith, A.building.space))
 
 pub number-requires-in-33-2 : goal.number-requires-in-33-2
 number-requires-in-33-2 c =
     let A = c.requires.1 in
-    (omega (arith, A.building.held.few, A.below), A.building.space, sub-inside c.args.scratch.now A.count c.args.i A.building A.below (sym c.number.ensures ∙ c.in-33.is) 2 (omega arith))
+    (omega (arith, A.building.held.few, A.below), A.building.space, sub_inside c.args.scratch.now A.count c.args.i A.building A.below (sym c.number.ensures ∙ c.in-33.is) 2 (omega arith))
 
 pub canon_id-b-requires : goal.canon_id-b-requires
 canon_id-b-requires c =
     let A = c.requires.1 in
-    (sup-small c.args.scratch.now A.count c.args.i A.building A.below (sym c.number.ensures ∙ c.in-33.is) _ c.number-in-33-2.ensures, omega (arith, A.building.space))
+    (sup_small c.args.scratch.now A.count c.args.i A.building A.below (sym c.number.ensures ∙ c.in-33.is) _ c.number-in-33-2.ensures, omega (arith, A.building.space))
 
 pub along-requires : goal.along-requires
 along-requires c =
     let A = c.requires.1 in
     let q = (sym c.number.ensures ∙ c.in-33.is) in
-    (c.requires.0, id-small (words c.args.scratch.now) _ _ c.requires.0.map (sub-small c.args.scratch.now A.count c.args.i A.building A.below q _ c.number-in-33.ensures) c.canon_id-a.ensures, id-small (words c.args.scratch.now) _ _ c.requires.0.map (sup-small c.args.scratch.now A.count c.args.i A.building A.below q _ c.number-in-33-2.ensures) c.canon_id-b.ensures)
+    (c.requires.0, id_small (words c.args.scratch.now) _ _ c.requires.0.map (sub_small c.args.scratch.now A.count c.args.i A.building A.below q _ c.number-in-33.ensures) c.canon_id-a.ensures, id_small (words c.args.scratch.now) _ _ c.requires.0.map (sup_small c.args.scratch.now A.count c.args.i A.building A.below q _ c.number-in-33-2.ensures) c.canon_id-b.ensures)
 
 pub overflow_sub-count : goal.overflow_sub-count
 overflow_sub-count c =
@@ -48,19 +48,19 @@ overflow_sub-count c =
 pub edges_among-requires : goal.edges_among-requires
 edges_among-requires c =
     let A = c.requires.1 in
-    (c.requires.0, equal-codes c.args.scratch.now A.count c.args.i A.building A.below (sym c.number.ensures ∙ c.in-34.is) _ _ (ap (λ (x : ℕ). numbersAt + x + 1) c.start.ensures) (ap (λ (x : ℕ). x - 1) c.count.ensures))
+    (c.requires.0, equal_codes c.args.scratch.now A.count c.args.i A.building A.below (sym c.number.ensures ∙ c.in-34.is) _ _ (ap (λ (x : ℕ). numbers_at + x + 1) c.start.ensures) (ap (λ (x : ℕ). x - 1) c.count.ensures))
 
 pub returns-in-33 : goal.returns-in-33
 returns-in-33 c =
     let A = c.requires.1 in
-    edges-sub c.args.scratch.now c.args.i c.args.size A (sym c.number.ensures ∙ c.in-33.is) _ _ _ _ c.number-in-33.ensures c.number-in-33-2.ensures c.canon_id-a.ensures c.canon_id-b.ensures _ _ c.along.ensures
+    edges_sub c.args.scratch.now c.args.i c.args.size A (sym c.number.ensures ∙ c.in-33.is) _ _ _ _ c.number-in-33.ensures c.number-in-33-2.ensures c.canon_id-a.ensures c.canon_id-b.ensures _ _ c.along.ensures
 
 pub returns-in-34 : goal.returns-in-34
 returns-in-34 c =
     let A = c.requires.1 in
-    edges-equal c.args.scratch.now c.args.i c.args.size A (sym c.number.ensures ∙ c.in-34.is) _ _ (ap (λ (x : ℕ). numbersAt + x + 1) c.start.ensures) (ap (λ (x : ℕ). x - 1) c.count.ensures) _ _ c.edges_among.ensures
+    edges_equal c.args.scratch.now c.args.i c.args.size A (sym c.number.ensures ∙ c.in-34.is) _ _ (ap (λ (x : ℕ). numbers_at + x + 1) c.start.ensures) (ap (λ (x : ℕ). x - 1) c.count.ensures) _ _ c.edges_among.ensures
 
 pub returns-in_default : goal.returns-in_default
 returns-in_default c =
     let A = c.requires.1 in
-    edges-none c.args.scratch.now c.args.i c.args.size A _ c.number.ensures c.in_default.in_default-own.rest.0.1 c.in_default.in_default-own.rest.1 c.requires.0.sized
+    edges_none c.args.scratch.now c.args.i c.args.size A _ c.number.ensures c.in_default.in_default-own.rest.0.1 c.in_default.in_default-own.rest.1 c.requires.0.sized

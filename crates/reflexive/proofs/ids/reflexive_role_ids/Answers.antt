@@ -1,11 +1,11 @@
 use Prim.Native.Nat.{◌-◌}
 use native.Mathlib.Omega.{arith}
 use Rattle.words.specs.Words.{words}
-use Rattle.rules.specs.Deck.{mostRoles}
-use Rattle.reflexive.specs.FlagLaws.{only-trans, map-kept, flagged-most}
-use Rattle.inverse.specs.AxiomLaws.{building-kept}
-use Rattle.reflexive.specs.AxiomLaws.{flags-axioms}
-use Rattle.reflexive.specs.RoundLaws.{closing-first, closing-back, closing-ready, closing-building, closing-next, closing-end}
+use Rattle.rules.specs.Deck.{most_roles}
+use Rattle.reflexive.specs.FlagLaws.{only_trans, map_kept, flagged_most}
+use Rattle.inverse.specs.AxiomLaws.{building_kept}
+use Rattle.reflexive.specs.AxiomLaws.{flags_axioms}
+use Rattle.reflexive.specs.RoundLaws.{closing_first, closing_back, closing_ready, closing_building, closing_next, closing_end}
 use Rattle.reflexive.proofs.ids.reflexive_role_ids.Goals as goal
 
 pub declared-size-requires : goal.declared-size-requires
@@ -13,29 +13,29 @@ declared-size-requires c = c.requires
 
 pub loop-size-init : goal.loop-size-init
 loop-size-init c = let d = c.declared-size in
-    (closing-first c.args.scratch.now d.new.scratch c.args.n _ c.requires.0 d.ensures d.auto.scratch, building-kept c.args.scratch.now d.new.scratch c.args.n c.requires.0 (flags-axioms (words c.args.scratch.now) (words d.new.scratch) d.ensures.only) d.auto.scratch, map-kept (words c.args.scratch.now) (words d.new.scratch) d.ensures.only c.requires.1)
+    (closing_first c.args.scratch.now d.new.scratch c.args.n _ c.requires.0 d.ensures d.auto.scratch, building_kept c.args.scratch.now d.new.scratch c.args.n c.requires.0 (flags_axioms (words c.args.scratch.now) (words d.new.scratch) d.ensures.only) d.auto.scratch, map_kept (words c.args.scratch.now) (words d.new.scratch) d.ensures.only c.requires.1)
 
 pub round-after-requires : goal.round-after-requires
 round-after-requires c =
     let d = c.declared-size in
     let L = c.loop-size in
-    (closing-ready d.new.scratch L.scratch c.args.n L.size L.invariant.0 L.invariant.1 L.invariant.2, closing-building d.new.scratch L.scratch c.args.n L.size L.invariant.0 L.invariant.1)
+    (closing_ready d.new.scratch L.scratch c.args.n L.size L.invariant.0 L.invariant.1 L.invariant.2, closing_building d.new.scratch L.scratch c.args.n L.size L.invariant.0 L.invariant.1)
 
 pub loop-size-smaller : goal.loop-size-smaller
-loop-size-smaller c = let x = c.round-after in omega (arith, c.if-after-size.false, x.ensures.grows, x.ensures.sized, flagged-most (words x.new.scratch) mostRoles)
+loop-size-smaller c = let x = c.round-after in omega (arith, c.if-after-size.false, x.ensures.grows, x.ensures.sized, flagged_most (words x.new.scratch) most_roles)
 
 pub loop-size-preserved : goal.loop-size-preserved
 loop-size-preserved c =
     let d = c.declared-size in
     let L = c.loop-size in
     let x = c.round-after in
-    (closing-next d.new.scratch L.scratch c.args.n L.size L.invariant.0 L.invariant.1 _ _ x.ensures x.auto.scratch c.if-after-size.false, L.invariant.1, L.invariant.2)
+    (closing_next d.new.scratch L.scratch c.args.n L.size L.invariant.0 L.invariant.1 _ _ x.ensures x.auto.scratch c.if-after-size.false, L.invariant.1, L.invariant.2)
 
 pub returns : goal.returns
 returns c =
     let d = c.declared-size in
     let L = c.loop-size in
     let x = c.round-after in record {
-      flags_held = closing-back c.args.scratch.now d.new.scratch c.args.n _ c.requires.0 d.ensures d.auto.scratch _ _ (closing-end d.new.scratch L.scratch c.args.n L.size L.invariant.0 L.invariant.1 _ _ x.ensures x.auto.scratch c.if-after-size.true);
-      only_flags = only-trans (words c.args.scratch.now) (words d.new.scratch) _ d.ensures.only (only-trans (words d.new.scratch) (words L.scratch) _ L.invariant.0.only x.ensures.only);
+      flags_held = closing_back c.args.scratch.now d.new.scratch c.args.n _ c.requires.0 d.ensures d.auto.scratch _ _ (closing_end d.new.scratch L.scratch c.args.n L.size L.invariant.0 L.invariant.1 _ _ x.ensures x.auto.scratch c.if-after-size.true);
+      only_flags = only_trans (words c.args.scratch.now) (words d.new.scratch) _ d.ensures.only (only_trans (words d.new.scratch) (words L.scratch) _ L.invariant.0.only x.ensures.only);
     }

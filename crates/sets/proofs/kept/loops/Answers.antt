@@ -1,11 +1,11 @@
 use mathlib.Core.Path.{◌≡◌, refl, ap, ◌∙◌}
 use Prim.Native.Nat.{ℕ, ◌-◌}
 use native.Mathlib.Omega.{arith}
-use Rattle.states.specs.Masks.{maskOf}
+use Rattle.states.specs.Masks.{mask_of}
 use Rattle.sets.proofs.kept.loops.Goals as goal
 
 pub loop-x-init : goal.loop-x-init
-unfolding maskOf
+unfolding mask_of
 loop-x-init c = (omega arith, λ f R. refl)
 
 pub loop-x-preserved : goal.loop-x-preserved
@@ -23,4 +23,4 @@ returns c =
     let L = c.loop-x in
     let a = c.args in
     let q : L.x ≡ a.n = omega (arith, c.loop-x-test.false, L.invariant.0) in
-    λ f R. L.invariant.1 f R ∙ ap (λ (k : ℕ). maskOf k (λ y. f y y)) q
+    λ f R. L.invariant.1 f R ∙ ap (λ (k : ℕ). mask_of k (λ y. f y y)) q

@@ -1,5 +1,5 @@
 use native.Mathlib.Omega.{arith}
-use Rattle.statistics.specs.AddLaws.{one-more}
+use Rattle.statistics.specs.AddLaws.{one_more_lem}
 use Rattle.statistics.proofs.ClauseStats.add.Goals as goal
 
 pub overflow_add-self-5 : goal.overflow_add-self-5
@@ -18,5 +18,5 @@ returns c =
     let o4 = c.one-4 in
     let o5 = c.one-5 in
     let m = c.atom_room-nh in
-    one-more c.args.body.now c.args.head.now m.result m.ensures e.result w.result e.ensures w.ensures c.args.self
+    one_more_lem c.args.body.now c.args.head.now m.result m.ensures e.result w.result e.ensures w.ensures c.args.self
     o1.result o2.result o3.result o4.result o5.result o1.ensures.0 o2.ensures.0 o3.ensures.0 o4.ensures.0 o5.ensures.0

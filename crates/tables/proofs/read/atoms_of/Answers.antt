@@ -1,21 +1,21 @@
 use native.Mathlib.Omega.{arith}
-use Rattle.words.specs.Laws.{length-words}
-use Rattle.tables.specs.ClauseLaws.{head-in, whole-run}
+use Rattle.words.specs.Laws.{length_words}
+use Rattle.tables.specs.ClauseLaws.{head_in_lem, whole_run}
 use Rattle.tables.proofs.read.atoms_of.Goals as goal
 
 pub first_atom-first-requires : goal.first_atom-first-requires
-first_atom-first-requires c = omega (arith, c.requires.is.row, length-words c.args.clauses.now)
+first_atom-first-requires c = omega (arith, c.requires.is.row, length_words c.args.clauses.now)
 
 pub body_count-n-requires : goal.body_count-n-requires
-body_count-n-requires c = omega (arith, c.requires.is.row, length-words c.args.clauses.now)
+body_count-n-requires c = omega (arith, c.requires.is.row, length_words c.args.clauses.now)
 
 pub head_count-m-requires : goal.head_count-m-requires
-head_count-m-requires c = omega (arith, c.requires.is.row, length-words c.args.clauses.now)
+head_count-m-requires c = omega (arith, c.requires.is.row, length_words c.args.clauses.now)
 
 pub slice_bounds-result-end : goal.slice_bounds-result-end
 slice_bounds-result-end c =
-    head-in c.args.clauses.now c.args.atoms.now c.args.i c.requires.clause c.requires.is _ _ c.first_atom-first.ensures c.body_count-n.ensures _ c.head_count-m.ensures
+    head_in_lem c.args.clauses.now c.args.atoms.now c.args.i c.requires.clause c.requires.is _ _ c.first_atom-first.ensures c.body_count-n.ensures _ c.head_count-m.ensures
 
 pub returns : goal.returns
 returns c =
-    λ x C. whole-run c.args.clauses.now c.args.atoms.now c.args.i x C _ _ c.first_atom-first.ensures c.body_count-n.ensures _ c.head_count-m.ensures
+    λ x C. whole_run c.args.clauses.now c.args.atoms.now c.args.i x C _ _ c.first_atom-first.ensures c.body_count-n.ensures _ c.head_count-m.ensures

@@ -1,18 +1,18 @@
 use native.Mathlib.Omega.{arith}
-use Rattle.words.specs.Laws.{length-words}
-use Rattle.tables.specs.ClauseLaws.{body-in, body-run}
+use Rattle.words.specs.Laws.{length_words}
+use Rattle.tables.specs.ClauseLaws.{body_in_lem, body_run}
 use Rattle.tables.proofs.read.body_of.Goals as goal
 
 pub first_atom-first-requires : goal.first_atom-first-requires
-first_atom-first-requires c = omega (arith, c.requires.is.row, length-words c.args.clauses.now)
+first_atom-first-requires c = omega (arith, c.requires.is.row, length_words c.args.clauses.now)
 
 pub body_count-n-requires : goal.body_count-n-requires
-body_count-n-requires c = omega (arith, c.requires.is.row, length-words c.args.clauses.now)
+body_count-n-requires c = omega (arith, c.requires.is.row, length_words c.args.clauses.now)
 
 pub slice_bounds-result-end : goal.slice_bounds-result-end
 slice_bounds-result-end c =
-    body-in c.args.clauses.now c.args.atoms.now c.args.i c.requires.clause c.requires.is _ _ c.first_atom-first.ensures c.body_count-n.ensures
+    body_in_lem c.args.clauses.now c.args.atoms.now c.args.i c.requires.clause c.requires.is _ _ c.first_atom-first.ensures c.body_count-n.ensures
 
 pub returns : goal.returns
 returns c =
-    λ x C. body-run c.args.clauses.now c.args.atoms.now c.args.i x C _ _ c.first_atom-first.ensures c.body_count-n.ensures
+    λ x C. body_run c.args.clauses.now c.args.atoms.now c.args.i x C _ _ c.first_atom-first.ensures c.body_count-n.ensures

@@ -2,12 +2,12 @@ use Prim.Native.Nat.{ℕ}
 use mathlib.Core.Path.{ap, subst, ◌∙◌}
 use native.Mathlib.Omega.{arith}
 use Rattle.words.specs.Words.{words}
-use Rattle.rules.specs.Deck.{readDeck}
+use Rattle.rules.specs.Deck.{read_deck}
 use Rattle.ontology.specs.Loads.{LoadedAs}
-use Rattle.states.specs.State.{readState}
+use Rattle.states.specs.State.{read_state}
 use Rattle.states.specs.Test.{axioms}
-use Rattle.trials.specs.Judged.{judgedOf}
-use Rattle.trials.specs.JudgingLaws.{loaded-in, not-stopped}
+use Rattle.trials.specs.Judged.{judged_of}
+use Rattle.trials.specs.JudgingLaws.{loaded_in, not_stopped}
 use Rattle.trials.proofs.by_axioms.judge.Goals as goal
 
 pub loaded-requires : goal.loaded-requires
@@ -18,7 +18,7 @@ loaded-requires c =
     let d = P.3.0 in
     record {
       known = d;
-      loaded = loaded-in c.args.deck.now (words q.new.scratch) c.in-Accepted.k c.in-Accepted.n d (subst (LoadedAs 0 (readDeck c.args.deck.now) (words q.new.scratch)) c.in-Accepted.is q.ensures) P.3.1;
+      loaded = loaded_in c.args.deck.now (words q.new.scratch) c.in-Accepted.k c.in-Accepted.n d (subst (LoadedAs 0 (read_deck c.args.deck.now) (words q.new.scratch)) c.in-Accepted.is q.ensures) P.3.1;
       declares = m.ensures.2 d P.3.1;
       limited = m.ensures.0;
       room = P.0;
@@ -29,10 +29,10 @@ pub returns-in-Accepted : goal.returns-in-Accepted
 returns-in-Accepted c = λ d l e.
     let m = c.limits-m in
     let q = c.load in
-    let S = loaded-in c.args.deck.now (words q.new.scratch) c.in-Accepted.k c.in-Accepted.n d (subst (LoadedAs 0 (readDeck c.args.deck.now) (words q.new.scratch)) c.in-Accepted.is q.ensures) e in
-    c.loaded.ensures d l S (m.ensures.2 d e) ∙ ap (λ (f : ℕ). judgedOf axioms d l (readState d f c.args.state.now)) m.ensures.1
+    let S = loaded_in c.args.deck.now (words q.new.scratch) c.in-Accepted.k c.in-Accepted.n d (subst (LoadedAs 0 (read_deck c.args.deck.now) (words q.new.scratch)) c.in-Accepted.is q.ensures) e in
+    c.loaded.ensures d l S (m.ensures.2 d e) ∙ ap (λ (f : ℕ). judged_of axioms d l (read_state d f c.args.state.now)) m.ensures.1
 
 pub returns-in-Refused : goal.returns-in-Refused
 returns-in-Refused c = λ d l e.
     let q = c.load in
-    not-stopped c.args.deck.now (words q.new.scratch) c.in-Refused.e c.in-Refused.line d (subst (LoadedAs 0 (readDeck c.args.deck.now) (words q.new.scratch)) c.in-Refused.is q.ensures) e
+    not_stopped c.args.deck.now (words q.new.scratch) c.in-Refused.e c.in-Refused.line d (subst (LoadedAs 0 (read_deck c.args.deck.now) (words q.new.scratch)) c.in-Refused.is q.ensures) e

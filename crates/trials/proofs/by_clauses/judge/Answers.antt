@@ -3,12 +3,12 @@ use Prim.Native.Nat.{ℕ, ◌≤◌}
 use native.Mathlib.Omega.{arith}
 use lib.ListN.{length}
 use Rattle.words.specs.Words.{words}
-use Rattle.words.specs.Laws.{length-words}
-use Rattle.rules.specs.DeckLaws.{read-in}
-use Rattle.states.specs.State.{readState, interpretationOf}
+use Rattle.words.specs.Laws.{length_words}
+use Rattle.rules.specs.DeckLaws.{read_in}
+use Rattle.states.specs.State.{read_state, interpretation_of}
 use Rattle.states.specs.Test.{clauses}
-use Rattle.trials.specs.Judged.{judgedOf}
-use Rattle.trials.specs.JudgingLaws.{stated-as, bad-as, clausal-beside}
+use Rattle.trials.specs.Judged.{judged_of}
+use Rattle.trials.specs.JudgingLaws.{stated_as, bad_as, clausal_beside}
 use Rattle.trials.proofs.by_clauses.judge.Goals as goal
 
 pub tested-requires : goal.tested-requires
@@ -19,15 +19,15 @@ tested-requires c =
     let w = words q.new.store in
     let v = words q.new.scratch in
     let P = c.requires in
-    let long : 16384 ≤ length w = omega (arith, length-words q.new.store, q.auto.store, P.room) in
+    let long : 16384 ≤ length w = omega (arith, length_words q.new.store, q.auto.store, P.room) in
     let d = P.known in
     let D = m.ensures.2 d P.read in
-    let T = stated-as d m.result a.state.now w v D q.result c.in-Stated.size c.in-Stated.is (q.ensures.stated_as d D) in
+    let T = stated_as d m.result a.state.now w v D q.result c.in-Stated.size c.in-Stated.is (q.ensures.stated_as d D) in
     record {
-      meant = interpretationOf d T.state;
+      meant = interpretation_of d T.state;
       roles = d.header.roles;
       list = P.list;
-      clausal = clausal-beside d m.result a.state.now w v (words a.clauses.now) (words a.atoms.now) c.in-Stated.size a.count P.list T (read-in a.deck.now d P.read) long P.clauses-there;
+      clausal = clausal_beside d m.result a.state.now w v (words a.clauses.now) (words a.atoms.now) c.in-Stated.size a.count P.list T (read_in a.deck.now d P.read) long P.clauses_there;
       sized = P.sized;
       space = omega (arith, q.auto.scratch, m.auto.scratch, P.space);
     }
@@ -40,12 +40,12 @@ returns-in-Stated c = λ d l e C.
     let w = words q.new.store in
     let v = words q.new.scratch in
     let P = c.requires in
-    let long : 16384 ≤ length w = omega (arith, length-words q.new.store, q.auto.store, P.room) in
+    let long : 16384 ≤ length w = omega (arith, length_words q.new.store, q.auto.store, P.room) in
     let D = m.ensures.2 d e in
-    let T = stated-as d m.result a.state.now w v D q.result c.in-Stated.size c.in-Stated.is (q.ensures.stated_as d D) in
-    let X = clausal-beside d m.result a.state.now w v (words a.clauses.now) (words a.atoms.now) c.in-Stated.size a.count l T (read-in a.deck.now d e) long C in
-    c.tested.ensures (interpretationOf d T.state) d.header.roles l X ∙ sym (ap (judgedOf clauses d l) T.read)
-    ∙ ap (λ (f : ℕ). judgedOf clauses d l (readState d f a.state.now)) m.ensures.1
+    let T = stated_as d m.result a.state.now w v D q.result c.in-Stated.size c.in-Stated.is (q.ensures.stated_as d D) in
+    let X = clausal_beside d m.result a.state.now w v (words a.clauses.now) (words a.atoms.now) c.in-Stated.size a.count l T (read_in a.deck.now d e) long C in
+    c.tested.ensures (interpretation_of d T.state) d.header.roles l X ∙ sym (ap (judged_of clauses d l) T.read)
+    ∙ ap (λ (f : ℕ). judged_of clauses d l (read_state d f a.state.now)) m.ensures.1
 
 pub returns-in-Bad : goal.returns-in-Bad
 returns-in-Bad c = λ d l e C.
@@ -53,5 +53,5 @@ returns-in-Bad c = λ d l e C.
     let m = c.limits-m in
     let q = c.read_state in
     let D = m.ensures.2 d e in
-    sym (ap (judgedOf clauses d l) (bad-as d m.result a.state.now (words q.new.store) (words q.new.scratch) D q.result c.in-Bad.line c.in-Bad.is (q.ensures.stated_as d D)))
-    ∙ ap (λ (f : ℕ). judgedOf clauses d l (readState d f a.state.now)) m.ensures.1
+    sym (ap (judged_of clauses d l) (bad_as d m.result a.state.now (words q.new.store) (words q.new.scratch) D q.result c.in-Bad.line c.in-Bad.is (q.ensures.stated_as d D)))
+    ∙ ap (λ (f : ℕ). judged_of clauses d l (read_state d f a.state.now)) m.ensures.1

@@ -1,6 +1,6 @@
 use mathlib.Core.Path.{refl}
 use native.Mathlib.Omega.{arith}
-use Rattle.trials.specs.JudgingLaws.{opened, answer-refused}
+use Rattle.trials.specs.JudgingLaws.{opened, answer_refused}
 use Rattle.trials.proofs.opened.limits.Goals as goal
 
 pub overflow_cast-result : goal.overflow_cast-result
@@ -24,4 +24,4 @@ returns-in-Accepted c =
 pub returns-in-Refused : goal.returns-in-Refused
 returns-in-Refused c =
     let q = c.read-answer in
-    answer-refused c.args.deck.now q.new.t q.result q.ensures.result_after c.in-Refused.field-0 c.in-Refused.field-1 c.requires.2.0 c.in-Refused.is c.requires.2.1
+    answer_refused c.args.deck.now q.new.t q.result q.ensures.result_after c.in-Refused.field-0 c.in-Refused.field-1 c.requires.2.0 c.in-Refused.is c.requires.2.1

@@ -1,7 +1,7 @@
 use mathlib.Core.Path.{refl, ◌∙◌}
 use native.Mathlib.Omega.{arith}
-use Rattle.clausify.specs.Answer.{tenOf}
-use Rattle.trials.specs.StoredLaws.{front-zeros}
+use Rattle.clausify.specs.Answer.{ten_of}
+use Rattle.trials.specs.StoredLaws.{front_zeros}
 use Rattle.trials.proofs.report.put_front.Goals as goal
 
 pub put_ten-requires : goal.put_ten-requires
@@ -14,5 +14,5 @@ put_verdict-requires c =
 pub returns : goal.returns
 returns c =
     let a = c.args in
-    let ten = tenOf a.s a.fresh_ids a.visits in
-    c.put_verdict.ensures ten refl (c.put_ten.ensures ∙ front-zeros a.front.now ten c.requires.0 c.requires.1 (omega arith))
+    let ten = ten_of a.s a.fresh_ids a.visits in
+    c.put_verdict.ensures ten refl (c.put_ten.ensures ∙ front_zeros a.front.now ten c.requires.0 c.requires.1 (omega arith))

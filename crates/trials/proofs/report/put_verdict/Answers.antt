@@ -2,12 +2,12 @@ use mathlib.Core.Path.{sym, ap, subst, ◌∙◌}
 use mathlib.Core.List.{◌++◌}
 use native.Mathlib.Omega.{arith}
 use Rattle.words.specs.Words.{words}
-use Rattle.words.specs.Laws.{length-words}
+use Rattle.words.specs.Laws.{length_words}
 use Rattle.tables.specs.Drawn.{padded}
-use Rattle.states.specs.Test.{verdictWords}
-use Rattle.sets.specs.Verdicts.{verdictIn}
-use Rattle.trials.specs.Stored.{frontWords, Shows}
-use Rattle.trials.specs.StoredLaws.{front-broken, front-holds}
+use Rattle.states.specs.Test.{verdict_words}
+use Rattle.sets.specs.Verdicts.{verdict_in}
+use Rattle.trials.specs.Stored.{front_words, Shows}
+use Rattle.trials.specs.StoredLaws.{front_broken, front_holds}
 use Rattle.trials.proofs.report.put_verdict.Goals as goal
 
 pub put_broken-requires : goal.put_broken-requires
@@ -17,12 +17,12 @@ put_broken-requires c =
 pub returns-in-Holds : goal.returns-in-Holds
 returns-in-Holds c = λ l h e.
     let a = c.args in
-    e ∙ front-holds l h ∙ ap (λ x. padded frontWords (l ++ verdictWords (verdictIn (words a.scratch.now) x))) (sym c.in-Holds.is)
+    e ∙ front_holds l h ∙ ap (λ x. padded front_words (l ++ verdict_words (verdict_in (words a.scratch.now) x))) (sym c.in-Holds.is)
 
 pub returns-in-Broken : goal.returns-in-Broken
 returns-in-Broken c = λ l h e.
     let a = c.args in
     let q = c.put_broken in
     let w = words a.scratch.now in
-    q.ensures ∙ front-broken w (words a.front.now) l c.in-Broken.n c.in-Broken.k e h (subst Shows c.in-Broken.is c.requires.1) (omega (arith, length-words a.scratch.now, c.requires.2))
-    ∙ ap (λ x. padded frontWords (l ++ verdictWords (verdictIn w x))) (sym c.in-Broken.is)
+    q.ensures ∙ front_broken w (words a.front.now) l c.in-Broken.n c.in-Broken.k e h (subst Shows c.in-Broken.is c.requires.1) (omega (arith, length_words a.scratch.now, c.requires.2))
+    ∙ ap (λ x. padded front_words (l ++ verdict_words (verdict_in w x))) (sym c.in-Broken.is)
