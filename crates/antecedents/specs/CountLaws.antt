@@ -24,8 +24,8 @@ use Rattle.rules.specs.Concept.{Top, Bot, Atomic, Nominal, SelfRestriction, Not,
 use Rattle.rules.specs.Pool.{Pool, at}
 use Rattle.rules.specs.State.{Env, Out, out, E, canon, begun, visit, fresh_var}
 use Rattle.rules.specs.Post.{Post, gives}
-use Rattle.rules.specs.EmitLaws.{visited, with_var}
-use Rattle.rules.specs.EncodeKeeps.{encode_keeps}
+use Rattle.rules.proofs.EmitLaws.{visited, with_var}
+use Rattle.rules.proofs.EncodeKeeps.{encode_keeps}
 use Rattle.rules.specs.Antecedents.{Alternatives, cross, in_hand, within, and_with, encode_and, or_with, encode_or, some_with, encode_step, encode_by}
 use Rattle.pool.specs.Shapes.{by_test}
 use Rattle.tables.specs.Good.{Good}

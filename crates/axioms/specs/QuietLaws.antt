@@ -5,7 +5,7 @@ use Rattle.ir.specs.declared.counters.Counters.{Counters}
 use Rattle.rules.specs.Pool.{Pool}
 use Rattle.rules.specs.State.{Env, Out, Rooms}
 use Rattle.rules.specs.Post.{Post}
-use Rattle.rules.specs.EncodeKeeps.{encode_keeps}
+use Rattle.rules.proofs.EncodeKeeps.{encode_keeps}
 use Rattle.rules.specs.Antecedents.{encode_by}
 use Rattle.tables.specs.Drawn.{Tables, tables, show, counters_in, clauses_in, atoms_in, deferrals_in}
 use Rattle.antecedents.specs.States.{varied}

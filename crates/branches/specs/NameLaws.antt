@@ -13,7 +13,7 @@ use Rattle.rules.specs.DecodeLaws.{flat_long}
 use Rattle.rules.specs.Invariants.{Each}
 use Rattle.rules.specs.Branches.{memo_of, name_of, name_or_new, met_with, renumber, renumber_from}
 use Rattle.rules.specs.Branches as Rules
-use Rattle.rules.specs.BranchLaws.{renumber_length}
+use Rattle.rules.proofs.BranchLaws.{renumber_length}
 use Rattle.branches.specs.Layout.{named_end, met_at, keep_at}
 use Rattle.tables.specs.TabledLaws.{At}
 use Rattle.branches.specs.Wide.{AtomsAre}

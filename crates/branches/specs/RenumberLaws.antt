@@ -12,7 +12,7 @@ use Rattle.ir.specs.declared.record.Read.TheVariants.{NoAtom, Atom as ReadAtom}
 use Rattle.rules.specs.Run.{flat}
 use Rattle.rules.specs.DecodeLaws.{flat_long}
 use Rattle.rules.specs.Branches.{place_of, met_with, renumber, renumber_from}
-use Rattle.rules.specs.BranchLaws.{renumber_length}
+use Rattle.rules.proofs.BranchLaws.{renumber_length}
 use Rattle.rules.specs.Invariants.{Each}
 use Rattle.rules.specs.EachLaws.{each_drop}
 use Rattle.tables.specs.TabledLaws.{At, at_back, at_get}

@@ -26,11 +26,23 @@ fn deck_space() -> [u8; 4096]
     [0; 4096]
 }
 
+fn scratch_space() -> [u8; 1572864]
+    ensures { 1572864 ≡ length result }
+{
+    [0; 1572864]
+}
+
 // 4,200 clauses, 80,000 atoms, 16 deferrals.
 fn clause_space() -> [u8; 50400]
     ensures { 50400 ≡ length result }
 {
     [0; 50400]
+}
+
+fn atom_space() -> [u8; 1920000]
+    ensures { 1920000 ≡ length result }
+{
+    [0; 1920000]
 }
 
 fn deferral_space() -> [u8; 128]
@@ -144,9 +156,9 @@ fn run_cases(
 fn main(rt: HostRuntime) -> io::Result<()> {
     let mut deck = deck_space();
     let mut clauses = clause_space();
-    let mut atoms = vec![in rt.alloc(); 0u8; 1920000]?;
+    let mut atoms = atom_space();
     let mut deferrals = deferral_space();
-    let mut scratch = vec![in rt.alloc(); 0u8; 1572864]?;
+    let mut scratch = scratch_space();
     let mut out = text_space();
     let n = run_cases(
         &mut deck,

@@ -14,9 +14,10 @@ use Rattle.rules.specs.State.{Env, Out, Rooms}
 use Rattle.rules.specs.Axioms.{Clausifier, clausify_whole}
 use Rattle.rules.specs.Invariants.{Each, Bounds, AxiomIn}
 use Rattle.rules.specs.Post.{Post, post_ok}
-use Rattle.rules.specs.NormalizeLaws.{axioms_more}
-use Rattle.rules.specs.SettleLaws as Rules
-use Rattle.rules.specs.SettleLaws.{Ready, ready_at, whole_ready}
+use Rattle.rules.proofs.NormalizeLaws.{axioms_more}
+use Rattle.rules.proofs.SettleLaws as Rules
+use Rattle.rules.proofs.SettleLaws.{ready_at, whole_ready}
+use Rattle.rules.specs.Handed.{Ready}
 use Rattle.rules.specs.Run.{Lined, done, lined, lined_then, at_line as line_at, clausifier_at, clausify_axioms}
 use Rattle.pool.specs.Layout.{tab, pool_of}
 use Rattle.pool.specs.Held.{Held}

@@ -16,7 +16,7 @@ use Rattle.rules.specs.Pool.{Pool}
 use Rattle.rules.specs.Deck.{most_roles, section_of, axiom_of, fields_ok}
 use Rattle.rules.specs.State.{Env, Out, E}
 use Rattle.rules.specs.Axioms.{Clausifier, C, in_out, ordered_pairs, later_pairs, clausify_gci, disjoint_pair, clausify_axiom}
-use Rattle.rules.specs.WholeLaws.{names_limits}
+use Rattle.rules.specs.Handed.{names_limits}
 use Rattle.rules.specs.Invariants.{Each, RoleIn, AxiomIn}
 use Rattle.pool.specs.Layout.{run, pool_of}
 use Rattle.deck.proofs.KindLaws.{axiom_kinds}

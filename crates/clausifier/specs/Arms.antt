@@ -4,7 +4,7 @@ use Rattle.ir.specs.declared.counters.Counters.{Counters}
 use Rattle.ir.specs.declared.answer.Answer.{Answer}
 use Rattle.rules.specs.Concept.{Axiom}
 use Rattle.rules.specs.Axioms.{clausify_axiom}
-use Rattle.rules.specs.WholeLaws.{names_limits}
+use Rattle.rules.specs.Handed.{names_limits}
 use Rattle.rules.specs.Deck.{most_classes, most_roles}
 use Rattle.rules.specs.Invariants.{Each, Bounds, AxiomIn}
 use Rattle.ontology.specs.Layout.{axioms_of, AxiomsHeld}

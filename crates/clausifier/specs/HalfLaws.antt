@@ -12,7 +12,7 @@ use Rattle.rules.specs.Axioms.{clausify_gci, other_half}
 use Rattle.rules.specs.Invariants.{up_to}
 use Rattle.rules.specs.PoolLaws.{intern_made}
 use Rattle.rules.specs.LimitLaws.{wf_up}
-use Rattle.rules.specs.AxiomLaws.{pool_made}
+use Rattle.rules.proofs.AxiomLaws.{pool_made}
 use Rattle.pool.specs.Layout.{pool_words, pool_of}
 use Rattle.pool.specs.HeldLaws.{word_above}
 use Rattle.pool.specs.Answers.{Interned}

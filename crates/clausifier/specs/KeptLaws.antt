@@ -1,7 +1,7 @@
 -- Axioms over a pool that has grown, after a call that left their words alone. Assumes nothing.
 use Rattle.std.specs.Prelude.{List, ℕ, ◌≤◌}
 use Rattle.ir.specs.declared.counters.Counters.{Counters}
-use Rattle.rules.specs.NormalizeLaws.{axioms_more}
+use Rattle.rules.proofs.NormalizeLaws.{axioms_more}
 use Rattle.ontology.specs.Layout.{axioms_of}
 use Rattle.axioms.specs.Wholes.{Untouched}
 use Rattle.clausifier.specs.Arms.{AxiomsOf}

@@ -6,8 +6,7 @@ use Rattle.rules.specs.Concept.{Axiom}
 use Rattle.rules.specs.State.{Env, Out}
 use Rattle.rules.specs.Axioms.{clausify_whole}
 use Rattle.rules.specs.Invariants.{Bounds, AxiomIn}
-use Rattle.rules.specs.EmitLaws.{RolesKept}
-use Rattle.rules.specs.SettleLaws.{Ready}
+use Rattle.rules.specs.Handed.{RolesKept, Ready}
 use Rattle.tables.specs.Drawn.{tables, show}
 use Rattle.hands.specs.Hands.{Four, EnvHeld}
 use Rattle.axioms.specs.Wholes.{shown_whole, after_whole, standing, Untouched, OnwardAnswer}

@@ -18,9 +18,10 @@ use Rattle.rules.specs.State.{Limit, Env, Out}
 use Rattle.rules.specs.Axioms.{Clausifier, C, clausify_axiom, settle, clausify_whole}
 use Rattle.rules.specs.Invariants.{Bounds, up_to, AxiomIn}
 use Rattle.rules.specs.Post.{Post, post_ok}
-use Rattle.rules.specs.AxiomLaws as Rules
-use Rattle.rules.specs.SettleLaws.{Settling, Ready, axiom_waits}
-use Rattle.rules.specs.WholeLaws.{names_limits, whole_alone}
+use Rattle.rules.proofs.AxiomLaws as Rules
+use Rattle.rules.proofs.SettleLaws.{axiom_waits}
+use Rattle.rules.specs.Handed.{Settling, Ready, names_limits}
+use Rattle.rules.proofs.WholeLaws.{whole_alone}
 use Rattle.pool.specs.Layout.{pool_of}
 use Rattle.pool.specs.HeldLaws.{pool_length}
 use Rattle.ontology.specs.Layout.{axiom_at, axiom_number, AxiomsHeld}

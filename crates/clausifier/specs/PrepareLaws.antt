@@ -15,7 +15,7 @@ use Rattle.rules.specs.Normalize.{St}
 use Rattle.rules.specs.State.{Rooms, total}
 use Rattle.rules.specs.Inverse.{build_inverse_canon}
 use Rattle.rules.specs.Invariants.{Each, Wf}
-use Rattle.rules.specs.NormalizeLaws.{AxiomsMade, nnf_axioms_made}
+use Rattle.rules.proofs.NormalizeLaws.{AxiomsMade, nnf_axioms_made}
 use Rattle.rules.specs.LinedPost.{LinedPost, done_post}
 use Rattle.rules.specs.Deck.{Known, axiom_line}
 use Rattle.rules.specs.DeckLaws.{bounds_of, DeckIn}

@@ -15,9 +15,10 @@ use Rattle.rules.specs.State.{Limit, Rooms, Env, Out, with_limits}
 use Rattle.rules.specs.Axioms.{Clausifier, C, other_half, settle}
 use Rattle.rules.specs.Invariants.{Each, Bounds, NamesFrom}
 use Rattle.rules.specs.Post.{Post, post_ok}
-use Rattle.rules.specs.SettleLaws.{Settling, Halved, waits_for, below_fresh, half_settles}
-use Rattle.rules.specs.WholeLaws.{settle_none}
-use Rattle.rules.specs.SettleSteps.{settle_next_lem}
+use Rattle.rules.proofs.SettleLaws.{Halved, waits_for, below_fresh, half_settles}
+use Rattle.rules.specs.Handed.{Settling}
+use Rattle.rules.proofs.WholeLaws.{settle_none}
+use Rattle.rules.proofs.SettleSteps.{settle_next_lem}
 use Rattle.pool.specs.Layout.{pool_of}
 use Rattle.pool.specs.Held.{Held}
 use Rattle.pool.specs.HeldLaws.{pool_length}

@@ -6,8 +6,7 @@ use Rattle.ir.specs.declared.answer.Answer.{Answer}
 use Rattle.rules.specs.State.{Limit, Env, Out}
 use Rattle.rules.specs.Axioms.{Clausifier, settle}
 use Rattle.rules.specs.Invariants.{Bounds}
-use Rattle.rules.specs.EmitLaws.{RolesKept}
-use Rattle.rules.specs.SettleLaws.{Settling}
+use Rattle.rules.specs.Handed.{RolesKept, Settling}
 use Rattle.tables.specs.Drawn.{tables, show}
 use Rattle.waiting.specs.Limits.{Waits}
 use Rattle.hands.specs.Hands.{Four, four, EnvHeld}

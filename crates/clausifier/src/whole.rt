@@ -2,7 +2,7 @@
 ghost use Rattle.std.specs.Prelude.{◌≡◌, true, ◌&&◌, length};
 ghost use Rattle.words.specs.Words.{words};
 ghost use Rattle.ir.specs.Options.{equal_names};
-ghost use Rattle.rules.specs.WholeLaws.{names_limits};
+ghost use Rattle.rules.specs.Handed.{names_limits};
 ghost use Rattle.tables.specs.Drawn.{Sized};
 ghost use Rattle.hands.specs.Hands.{four};
 ghost use Rattle.ontology.specs.Layout.{axiom_at};

@@ -9,8 +9,8 @@ use Rattle.rules.specs.Run.{Lengths, Outcome, Accepted, accepted, refused, visit
 use Rattle.rules.specs.Semantics.{Interpretation}
 use Rattle.rules.specs.Statements.{left_clauses, clauses_of, Proper, all_hold, is_inverse_axiom, satisfies_some, FirstHalf, SecondHalf}
 use Rattle.rules.specs.EqualNames.{Models}
-use Rattle.meaning.specs.Theorem.{demand_three_first, demand_three_second}
-use Rattle.meaning.specs.SettledNames.{settled_names, names_of_axiom}
+use Rattle.meaning.proofs.Theorem.{demand_three_first, demand_three_second}
+use Rattle.meaning.proofs.SettledNames.{settled_names, names_of_axiom}
 use Rattle.clausify.specs.declared.Reply.{Reply}
 use Rattle.clausify.specs.declared.Clausified.{Clausified}
 use Rattle.clausify.specs.Entry.{reply_of, count_of, Names, Meaning, Meant, MeantCount}

@@ -7,7 +7,7 @@ use Rattle.rules.specs.State.{total}
 use Rattle.rules.specs.Deck.{Known, fine, read_deck}
 use Rattle.rules.specs.DeckLaws.{bounds_of, read_in}
 use Rattle.rules.specs.Run.{Lengths, Accepted, accepted, refused, Run, visit_limit, first_fresh, rooms_of, clause_words, atom_words, clause_records, atom_records, clause_table, atom_table}
-use Rattle.rules.specs.RunLaws.{Sized, AcceptedIn, run_outcome, run_accepted}
+use Rattle.rules.proofs.RunLaws.{Sized, AcceptedIn, run_outcome, run_accepted}
 use Rattle.rules.specs.DecodeLaws.{clause_records_long, atom_records_long, words_table, fits_words}
 use Rattle.tables.specs.Tabled.{Tabled}
 

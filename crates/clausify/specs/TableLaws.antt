@@ -10,7 +10,7 @@ use Rattle.ir.specs.declared.counters.Counters.{Counters}
 use Rattle.rules.specs.State.{Rooms, total}
 use Rattle.rules.specs.Run.{Lengths, Accepted, table_ok, sizes_ok, rooms_of, clause_words, atom_words, deferral_words, most_clauses, most_atoms, most_deferrals, scratch_bytes, clause_records, atom_records, table_of}
 use Rattle.rules.specs.Added.{both_true}
-use Rattle.rules.specs.RunLaws.{sizes_ok_lem}
+use Rattle.rules.proofs.RunLaws.{sizes_ok_lem}
 use Rattle.rules.specs.DecodeLaws.{clause_records_long, atom_records_long}
 use Rattle.tables.specs.Drawn.{padded, Sized}
 use Rattle.tables.specs.Tabled.{Tabled}

@@ -14,7 +14,7 @@ use Rattle.rules.specs.State.{Clause, Env, Out, push}
 use Rattle.rules.specs.Added.{push_adds}
 use Rattle.rules.specs.Invariants.{ClauseIn}
 use Rattle.rules.specs.Reflexive.{contains_clause}
-use Rattle.rules.specs.ReflexiveLaws.{loop_clause}
+use Rattle.rules.proofs.ReflexiveLaws.{loop_clause}
 use Rattle.tables.specs.Drawn.{tables, show, shown, after, Lent}
 use Rattle.tables.specs.Good.{Good, GoodAnswer, KeptAnswer}
 use Rattle.hands.specs.Hands.{InHand, four}

@@ -21,7 +21,7 @@ use Rattle.rules.specs.Added.{push_adds}
 use Rattle.rules.specs.Ends.{Ends, end, stop, ends_then, ends_map}
 use Rattle.rules.specs.State.{Clause, clause, Env, Out, longer, with, most_in_hand}
 use Rattle.rules.specs.Reflexive.{contains_clause, next_var_of, add_counted_self_loops}
-use Rattle.rules.specs.ReflexiveLaws.{loop_clause}
+use Rattle.rules.proofs.ReflexiveLaws.{loop_clause}
 use Rattle.tables.specs.Drawn.{shown}
 use Rattle.tables.specs.DrawnLaws.{clauses_count}
 use Rattle.tables.specs.Good.{Good}

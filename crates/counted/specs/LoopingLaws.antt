@@ -11,7 +11,7 @@ use Rattle.rules.specs.State.{Clause, Env, Out, total}
 use Rattle.rules.specs.Run.{clause_words, clause_records}
 use Rattle.rules.specs.DecodeLaws.{clause_records_long}
 use Rattle.rules.specs.Added.{Added}
-use Rattle.rules.specs.BoundLaws.{clauses_grow}
+use Rattle.rules.proofs.BoundLaws.{clauses_grow}
 use Rattle.rules.specs.Ends.{Ends, ends, stops}
 use Rattle.rules.specs.EachLaws.{each_append}
 use Rattle.rules.specs.Invariants.{Each, ClauseIn}

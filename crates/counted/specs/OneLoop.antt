@@ -15,9 +15,9 @@ use Rattle.rules.specs.Base.{ok, refused, contains}
 use Rattle.rules.specs.State.{Clause, clause, Env, Out, with}
 use Rattle.rules.specs.Invariants.{Bounds, AtomIn, ClauseIn}
 use Rattle.rules.specs.Deck.{most_roles}
-use Rattle.rules.specs.BoundLaws.{clauses_grow}
+use Rattle.rules.proofs.BoundLaws.{clauses_grow}
 use Rattle.rules.specs.Reflexive.{contains_clause, next_var_of}
-use Rattle.rules.specs.ReflexiveLaws.{loop_clause, loop_in, next_var_below}
+use Rattle.rules.proofs.ReflexiveLaws.{loop_clause, loop_in, next_var_below}
 use Rattle.rules.specs.EachLaws.{each_nth}
 use Rattle.tables.specs.Tabled.{body_count, head_count, At, Run, no_clause, ClauseAt, Tabled, ClauseThere}
 use Rattle.tables.specs.ClauseLaws.{clause_at}

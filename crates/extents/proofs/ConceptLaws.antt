@@ -17,7 +17,7 @@ use Rattle.rules.specs.Invariants.{Each, Bounded}
 use Rattle.rules.specs.EachLaws.{each_map}
 use Rattle.rules.specs.JointLaws.{conj, disj}
 use Rattle.rules.specs.Semantics.{Interpretation, concept_means, means, related}
-use Rattle.meaning.specs.Finite.{means_at}
+use Rattle.meaning.proofs.Finite.{means_at}
 use Rattle.meaning.specs.Joints.{over, over_all, over_any}
 use Rattle.meaning.specs.Truth.{by_truth}
 use Rattle.pool.specs.Layout.{members_at, field, is_list, run, concept_from, concept_at}

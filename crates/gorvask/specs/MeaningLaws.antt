@@ -4,7 +4,7 @@ use Rattle.std.proofs.Common.{sym, ap, subst, ◌∙◌, arith, eqb-true}
 use Prim.{tt}
 use Rattle.words.specs.Words.{words}
 use Rattle.rules.specs.Run.{Lengths, Outcome, accepted, refused, Run}
-use Rattle.rules.specs.RunLaws.{run_never_zero}
+use Rattle.rules.proofs.RunLaws.{run_never_zero}
 use Rattle.clausify.specs.declared.Reply.{Reply}
 use Rattle.clausify.specs.Entry.{reply_of, Meaning}
 use Rattle.clausify.specs.Answer.{Answered, run_if, ten_of}

@@ -12,7 +12,7 @@ use Rattle.rules.specs.Deck as Deck
 use Rattle.rules.specs.DeckLaws.{read_enough}
 use Rattle.rules.specs.Run.{Accepted, Outcome, accepted, Run}
 use Rattle.rules.specs.Run as Run
-use Rattle.rules.specs.RunLaws.{run_never_zero}
+use Rattle.rules.proofs.RunLaws.{run_never_zero}
 use Rattle.states.specs.State.{State, StateTold, stated, bad, unread, read_state, interpretation_of}
 use Rattle.states.specs.LineLaws.{is_read, state_read}
 use Rattle.states.specs.Test.{Test, axioms, clauses, holds, broken, Tested, told, refused, clauses_verdict, wide_clause, unless_wide, on_state, on_run, Lent, lent_ok, test_sized, test_state, tested_code}

@@ -32,7 +32,7 @@ use Rattle.waiting.specs.Limits.{appended, Waits, Behind}
 use Rattle.waiting.specs.LimitLaws.{waits_kept, waits_appended}
 use Rattle.hands.specs.Hands.{InHand, Four, four, EnvIn, EnvHeld, Waiting, Queues}
 use Rattle.hands.specs.HandLaws.{put_frame, put_behind, hand_kept, hand_more}
-use Rattle.rules.specs.WholeLaws.{with_leaves, push_leaves, defer_leaves}
+use Rattle.rules.proofs.WholeLaws.{with_leaves, push_leaves, defer_leaves}
 use Rattle.hands.specs.QueueLaws.{Quiet, quiet_then, waiting_kept, waiting_then, queues_quiet}
 use Rattle.leaves.specs.declared.leaf.Leaf.{Leaf}
 use Rattle.leaves.specs.declared.leaf.Leaf.TheVariants as LeafIs

@@ -28,7 +28,7 @@ use Rattle.waiting.specs.Limits.{Waits, Behind}
 use Rattle.waiting.specs.LimitLaws.{behind_same, waits_kept}
 use Rattle.hands.specs.Hands.{InHand, Four, four, EnvHeld, Did, Waiting, Queues}
 use Rattle.hands.specs.HandLaws.{put_behind, hand_kept}
-use Rattle.rules.specs.WholeLaws.{push_leaves, defer_leaves}
+use Rattle.rules.proofs.WholeLaws.{push_leaves, defer_leaves}
 use Rattle.hands.specs.QueueLaws.{waiting_kept, waiting_done}
 use Rattle.leaves.specs.Made.{headed, shown_atom, DidAtom}
 use Rattle.leaves.specs.StepLaws.{drawn_alike, hand_zero}

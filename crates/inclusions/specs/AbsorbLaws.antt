@@ -29,7 +29,7 @@ use Rattle.tables.specs.Drawn.{tables, show, shown, after, Lent}
 use Rattle.tables.specs.Good.{Good, GoodAnswer, KeptAnswer}
 use Rattle.waiting.specs.LimitLaws.{behind_same}
 use Rattle.hands.specs.Hands.{Four, four, Did, Waiting, Queues}
-use Rattle.rules.specs.WholeLaws.{defer_leaves}
+use Rattle.rules.proofs.WholeLaws.{defer_leaves}
 use Rattle.hands.specs.QueueLaws.{waiting_kept}
 use Rattle.leaves.specs.StepLaws.{shown_alike, kept_then, env_alike, hand_zero}
 use Rattle.antecedents.specs.Table.{Outside}

@@ -17,7 +17,7 @@ use Rattle.rules.specs.Normalize.{St, N, in_pool, push_negation_in, nnf_compleme
 use Rattle.rules.specs.Invariants.{Each}
 use Rattle.rules.specs.EachLaws.{each_snoc}
 use Rattle.rules.specs.PoolLaws.{grown_length, below_more}
-use Rattle.rules.specs.NormalizeLaws.{Done as IdDone, AllDone, negation_done}
+use Rattle.rules.proofs.NormalizeLaws.{Done as IdDone, AllDone, negation_done}
 use Rattle.rules.specs.DepthLaws.{deepest_of, depth}
 use Rattle.pool.specs.Layout.{tab, run, pool_of}
 use Rattle.pool.specs.Tabs.{length_tab}

@@ -14,8 +14,8 @@ use Rattle.rules.specs.Post.{Post, gives, refuses, give, post_then}
 use Rattle.rules.specs.Invariants.{Each, Bounds, Wf, Made}
 use Rattle.rules.specs.EachLaws.{each_snoc}
 use Rattle.rules.specs.PoolLaws.{grown_refl, grown_trans, grown_length, and_made, or_made}
-use Rattle.rules.specs.NormalizeLaws.{Ran, ran_refl, negation_done}
-use Rattle.rules.specs.AxiomLaws.{PoolRan}
+use Rattle.rules.proofs.NormalizeLaws.{Ran, ran_refl, negation_done}
+use Rattle.rules.proofs.AxiomLaws.{PoolRan}
 use Rattle.pool.specs.Layout.{pool_of}
 use Rattle.pool.specs.HeldLaws.{word_above}
 use Rattle.pool.specs.Answers as Pools

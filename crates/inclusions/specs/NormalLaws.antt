@@ -22,7 +22,7 @@ use Rattle.axioms.specs.Wholes.{shown_whole, after_whole, standing, Untouched, C
 use Rattle.axioms.specs.WholeLaws.{nnf_whole, whole_then, whole_refused, drawn_same}
 use Rattle.inclusions.specs.Parted.{Normalised}
 use Rattle.axioms.specs.OnwardLaws.{untouched_then, untouched_kept, onward_answer, stands_on}
-use Rattle.rules.specs.WholeLaws.{leaves_nnf}
+use Rattle.rules.proofs.WholeLaws.{leaves_nnf}
 use Rattle.axioms.specs.QueuedLaws.{waits_still, waits_then, queued_on}
 use Rattle.inclusions.specs.GrowLaws.{grew_normal}
 

@@ -13,12 +13,12 @@ use Rattle.rules.specs.Base.{Res, ok, refused, then}
 use Rattle.rules.specs.Concept.{Axiom}
 use Rattle.rules.specs.State.{Out}
 use Rattle.rules.specs.Invariants.{Each, ClauseIn}
-use Rattle.rules.specs.BoundLaws.{clauses_grow}
+use Rattle.rules.proofs.BoundLaws.{clauses_grow}
 use Rattle.rules.specs.Added.{Added, added_all}
 use Rattle.rules.specs.Reflexive.{reflexive_role_ids}
 use Rattle.rules.specs.Branches.{decompose_wide_bodies}
 use Rattle.rules.specs.Run.{reflexive_passes, decomposition, late_passes}
-use Rattle.rules.specs.LateLaws.{passes_in}
+use Rattle.rules.proofs.LateLaws.{passes_in}
 use Rattle.ontology.specs.Layout.{axioms_of}
 use Rattle.tables.specs.Drawn.{tables, show, shown, after}
 use Rattle.leaves.specs.StepLaws.{class_is, lent_kept, drawn_alike, shown_alike}

@@ -10,7 +10,7 @@ use Rattle.rules.specs.Post.{Post}
 use Rattle.rules.specs.Semantics.{Interpretation}
 use Rattle.rules.specs.Reflexive.{next_var_of, add_counted_self_loops}
 use Rattle.rules.specs.Ends.{ends_post, ends_map}
-use Rattle.rules.specs.ReflexiveLaws.{loop_clause, Loops, loops_add}
+use Rattle.rules.proofs.ReflexiveLaws.{loop_clause, Loops, loops_add}
 use Rattle.rules.specs.EachLaws.{each_append}
 use Rattle.meaning.specs.Choices.{Follows}
 use Rattle.meaning.specs.Valuations.{AtomUnder}

@@ -11,7 +11,7 @@ use Rattle.rules.specs.State.{Limit, Env, Out}
 use Rattle.rules.specs.Invariants.{Each, Grown}
 use Rattle.rules.specs.PoolLaws.{grown_refl, grown_trans}
 use Rattle.rules.specs.EachLaws.{each_map, each_append}
-use Rattle.rules.specs.EmitLaws.{pushed, deferred}
+use Rattle.rules.proofs.EmitLaws.{pushed, deferred}
 use Rattle.rules.specs.EqualNames.{Later, NameBelow}
 
 -- an answer that is there, as the rule gave it

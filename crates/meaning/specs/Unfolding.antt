@@ -16,7 +16,7 @@ use Rattle.rules.specs.Invariants.{Each}
 use Rattle.rules.specs.Semantics.{Interpretation, related, atom_holds}
 use Rattle.rules.specs.Reflexive.{kept_var, dropped_var, contracted, apply_reflexive_roles}
 use Rattle.rules.specs.Ends.{ends_post, ends_map}
-use Rattle.rules.specs.ReflexiveLaws.{Keeps, reflexive_adds}
+use Rattle.rules.proofs.ReflexiveLaws.{Keeps, reflexive_adds}
 use Rattle.rules.specs.EachLaws.{each_left, each_right, each_append}
 use Rattle.meaning.specs.Truth.{and_left, and_right, and_both, all_append}
 use Rattle.meaning.specs.Choices.{Follows}

@@ -18,7 +18,7 @@ use Rattle.rules.specs.Normalize.{St, N}
 use Rattle.rules.specs.Invariants.{Each, Bounds, Wf, Grown}
 use Rattle.rules.specs.PoolLaws.{grown_refl, grown_trans}
 use Rattle.rules.specs.DepthLaws.{depth}
-use Rattle.rules.specs.NormalizeLaws.{Done as IdDone}
+use Rattle.rules.proofs.NormalizeLaws.{Done as IdDone}
 use Rattle.pool.specs.Layout.{tab, run, pool_of}
 use Rattle.pool.specs.Held.{Held}
 use Rattle.pool.specs.Answers.{after, HeldAfter}

@@ -26,7 +26,7 @@ use Rattle.rules.specs.Normalize.{St, visit, in_pool}
 use Rattle.rules.specs.Invariants.{Wf, Grown}
 use Rattle.rules.specs.PoolLaws.{grown_refl, below_more}
 use Rattle.rules.specs.DepthLaws.{deepest_of, depth}
-use Rattle.rules.specs.NormalizeLaws.{AllDone}
+use Rattle.rules.proofs.NormalizeLaws.{AllDone}
 use Rattle.pool.specs.Layout.{run, concept_at, pool_of}
 use Rattle.pool.specs.Held.{Ready}
 use Rattle.pool.specs.Answers.{after, shown, HeldAfter}

@@ -18,7 +18,7 @@ use Rattle.rules.specs.Normalize.{St, nnf_axiom}
 use Rattle.rules.specs.Run.{Lined, done, stopped, lined, lined_then, nnf_axioms}
 use Rattle.rules.specs.Post.{Post, gives}
 use Rattle.rules.specs.Invariants.{Each, Bounds, Wf, AxiomIn}
-use Rattle.rules.specs.NormalizeLaws.{AxiomMade, nnf_axiom_made, axiom_more}
+use Rattle.rules.proofs.NormalizeLaws.{AxiomMade, nnf_axiom_made, axiom_more}
 use Rattle.rules.specs.PoolLaws.{grown_length}
 use Rattle.pool.specs.Layout.{tab, pool_of}
 use Rattle.pool.specs.Held.{Held}

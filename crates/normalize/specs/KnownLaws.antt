@@ -12,7 +12,7 @@ use Rattle.rules.specs.Pool.{most_concepts}
 use Rattle.rules.specs.Invariants.{Bounds, Wf, Grown}
 use Rattle.rules.specs.PoolLaws.{grown_refl}
 use Rattle.rules.specs.DepthLaws.{depth}
-use Rattle.rules.specs.NormalizeLaws.{Done as IdDone}
+use Rattle.rules.proofs.NormalizeLaws.{Done as IdDone}
 use Rattle.rules.specs.Post.{Post, gives}
 use Rattle.pool.specs.Layout.{pool_words, pool_of}
 use Rattle.pool.specs.Held.{Held}

@@ -10,7 +10,7 @@ use Rattle.rules.specs.Post.{Post, gives, post_map}
 use Rattle.rules.specs.Invariants.{Each, Bounds, Wf, Grown}
 use Rattle.rules.specs.PoolLaws.{grown_length, grown_at}
 use Rattle.rules.specs.DepthLaws.{deepest_of, depth}
-use Rattle.rules.specs.NormalizeLaws.{Done as IdDone, AllDone, deeper, each_done, nnf_done, negation_done}
+use Rattle.rules.proofs.NormalizeLaws.{Done as IdDone, AllDone, deeper, each_done, nnf_done, negation_done}
 use Rattle.pool.specs.Layout.{concept_at, pool_of}
 use Rattle.pool.specs.Held.{Held}
 use Rattle.pool.specs.Answers.{drawn, shown}

@@ -9,7 +9,7 @@ use Rattle.words.specs.Words.{words}
 use Rattle.rules.specs.Concept.{Axiom}
 use Rattle.rules.specs.State.{Env}
 use Rattle.rules.specs.Reflexive.{all_edges, round, closed, reflexive_role_ids}
-use Rattle.rules.specs.ReflexiveLaws.{closed_enough}
+use Rattle.rules.proofs.ReflexiveLaws.{closed_enough}
 use Rattle.ontology.specs.Layout.{axioms_of}
 use Rattle.inverse.specs.Layout.{RolesHeld, Building}
 use Rattle.reflexive.specs.Flags.{FlagsHeld, MapWithin}

@@ -16,14 +16,26 @@ mod decks;
 ghost use Rattle.std.specs.Prelude.{◌≡◌, length};
 
 use clausify::Reply;
-use std::alloc::{AllocError, Global};
 use std::{io, num};
+
+// Standard input.
+fn data_space() -> [u8; 1600000]
+    ensures { 1600000 ≡ length result }
+{
+    [0; 1600000]
+}
 
 // More than a deck may have.
 fn deck_space() -> [u8; 70000]
     ensures { 70000 ≡ length result }
 {
     [0; 70000]
+}
+
+fn scratch_space() -> [u8; 1572864]
+    ensures { 1572864 ≡ length result }
+{
+    [0; 1572864]
 }
 
 // 1,024 clauses, 2,048 atoms, 256 deferrals, as the lister lends.
@@ -43,15 +55,6 @@ fn deferral_space() -> [u8; 2048]
     ensures { 2048 ≡ length result }
 {
     [0; 2048]
-}
-
-// Standard input: more than the stored decks and their answers take.
-fn input_space(alloc: Global) -> Result<Vec<u8>, AllocError> {
-    vec![in alloc; 0u8; 1600000]
-}
-
-fn scratch_space(alloc: Global) -> Result<Vec<u8>, AllocError> {
-    vec![in alloc; 0u8; 1572864]
 }
 
 #[derive(Clone, Copy)]
@@ -170,13 +173,13 @@ fn run_data(
 }
 
 fn main(rt: HostRuntime) -> io::Result<()> {
-    let mut input = input_space(rt.alloc())?;
+    let mut input = data_space();
     let (n, _) = streams::fill(&mut rt.stdin(), &mut input);
     let mut deck = deck_space();
     let mut clauses = clause_space();
     let mut atoms = atom_space();
     let mut deferrals = deferral_space();
-    let mut scratch = scratch_space(rt.alloc())?;
+    let mut scratch = scratch_space();
     let s = run_data(
         &input[..n],
         &mut deck,

@@ -6101,4 +6101,28 @@ decided =
           "         43          4          4          0          0          0          0          0          0          1         15" ∷ [];
       deferrals = [];
     } ∷
+    -- 185 header at its limits with options 3
+    record {
+      deck =
+          "          0       4096       4096       1024          3" ∷ [];
+      visits = 1000000;
+      clauses = 1024;
+      atoms = 2048;
+      deferred = 256;
+      listing =
+          "         43          0          0          0          0          0          0          0          0          0          0" ∷ [];
+      deferrals = [];
+    } ∷
+    -- 186 options 4 alone
+    record {
+      deck =
+          "          0          1          0          0          4" ∷ [];
+      visits = 1000000;
+      clauses = 1024;
+      atoms = 2048;
+      deferred = 256;
+      listing =
+          "         43          0          0          0          0          0          0          0          0          0          0" ∷ [];
+      deferrals = [];
+    } ∷
     []

@@ -14,7 +14,7 @@ use Rattle.std.proofs.Math.Seq.{get_or-append_seam}
 use Rattle.ir.specs.Pick.{pick}
 use Rattle.ir.specs.Records.{same_words}
 use Rattle.ir.specs.Roles.{role_id, role_of}
-use Rattle.rules.specs.Base.{all, any, then, ◌>>=◌, ◌>>◌}
+use Rattle.rules.specs.Base.{all, any}
 use Rattle.rules.specs.Text.{most_number, Row, row, broken_row, row_of}
 use Rattle.rules.specs.Concept.{Concept, Axiom, same_concept, concept_row}
 use Rattle.rules.specs.Concept.{Top, Bot, Atomic, Nominal, SelfRestriction, Not, And, Or, Some, All, Min, Max}

@@ -1,7 +1,7 @@
 -- normalize.rs: negation normal form. A visit is an entry, with a concept, to to_nnf or push_negation_in; refusal 10 where
 -- one would begin beyond the limit.
 use Rattle.std.specs.Prelude.{Bool, true, false, ℕ, zero, suc, ◌+◌, ltb}
-use Rattle.rules.specs.Base.{Res, ok, refused, then, M, ◌>>=◌, return, refuse, each, ◌>>◌}
+use Rattle.rules.specs.Base.{Res, ok, refused, then, M, ◌>>=◌, return, refuse, each}
 use Rattle.rules.specs.Concept.{Concept, Axiom}
 use Rattle.rules.specs.Concept.{Top, Bot, Atomic, Nominal, SelfRestriction, Not, And, Or, Some, All, Min, Max}
 use Rattle.rules.specs.Concept.{SubClassOf, EquivalentClasses, DisjointClasses, DisjointUnion, ObjectPropertyDomain, ObjectPropertyRange, SubChain, TransitiveRole, IrreflexiveRole, AsymmetricRole, DisjointObjectProperties, InverseObjectProperties, SubObjectPropertyOf, EquivalentObjectProperties, ReflexiveRole, ClassAssertion}

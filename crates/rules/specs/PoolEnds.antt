@@ -1,8 +1,8 @@
 -- The two ends of the pool (refusal 11), which no deck of the tables reaches: computed at the last concept and list member that
 -- are held, and at the first that are not.
-use Rattle.std.specs.Prelude.{◌≡◌, refl, Bool, true, false, List, [], ◌∷◌, ℕ, zero, suc}
+use Rattle.std.specs.Prelude.{◌≡◌, refl, List, [], ◌∷◌, ℕ, zero, suc}
 use Rattle.rules.specs.Base.{Res, ok, refused}
-use Rattle.rules.specs.Concept.{Concept, And, Atomic}
+use Rattle.rules.specs.Concept.{And, Atomic}
 use Rattle.rules.specs.Pool.{Pool, find, members, intern_raw}
 
 -- what interning answers

@@ -16,7 +16,7 @@ use Rattle.rules.specs.Deck.{Known, Told, refused as unread, axiom_line}
 use Rattle.rules.specs.DeckLaws.{DeckIn}
 use Rattle.rules.specs.LinedPost.{LinedPost, done_post}
 use Rattle.rules.specs.Run.{Lined, done, stopped, lined, lined_then, at_line as line_at, clausify_axioms, late_passes, Outcome, refused, first_fresh, env_of, accepted_of, outcome_of, start, clausify_normal, run_deck, run_read}
-use Rattle.rules.specs.RunLaws.{RunIn, deck_run, run_in}
+use Rattle.rules.proofs.RunLaws.{RunIn, deck_run, run_in}
 use Rattle.normalize.specs.Loaded.{normalized}
 use Rattle.tables.specs.Drawn.{Tables, tables, counters_in, clauses_in, atoms_in, deferrals_in, show, shown, after}
 use Rattle.staging.specs.Stage.{staged}

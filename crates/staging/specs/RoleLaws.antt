@@ -12,7 +12,7 @@ use Rattle.rules.specs.Inverse.{build_inverse_canon, canon_role}
 use Rattle.rules.specs.Deck.{most_roles}
 use Rattle.rules.specs.Invariants.{Each, Bounds, RoleIn, AxiomIn}
 use Rattle.rules.specs.EachLaws.{each_map}
-use Rattle.rules.specs.AntecedentLaws.{canon_in}
+use Rattle.rules.proofs.AntecedentLaws.{canon_in}
 use Rattle.ontology.specs.Layout.{axioms_of}
 use Rattle.inverse.specs.Layout.{RolesHeld, Building}
 

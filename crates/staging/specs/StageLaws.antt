@@ -17,9 +17,10 @@ use Rattle.rules.specs.DeckLaws.{bounds_of, DeckIn, read_in}
 use Rattle.rules.specs.Run.{Lined, done, stopped, clausifier_at, clausify_axioms, env_of, start}
 use Rattle.rules.specs.Invariants.{Each, AxiomIn, ClauseIn}
 use Rattle.rules.specs.LinedPost.{LinedPost, done_post}
-use Rattle.rules.specs.NormalizeLaws.{AxiomsMade, nnf_axioms_made}
-use Rattle.rules.specs.AntecedentLaws.{canon_in}
-use Rattle.rules.specs.SettleLaws.{Whole, Ready, start_ready, run_axioms_made}
+use Rattle.rules.proofs.NormalizeLaws.{AxiomsMade, nnf_axioms_made}
+use Rattle.rules.proofs.AntecedentLaws.{canon_in}
+use Rattle.rules.proofs.SettleLaws.{Whole, start_ready, run_axioms_made}
+use Rattle.rules.specs.Handed.{Ready}
 use Rattle.pool.specs.HeldLaws.{pool_length}
 use Rattle.ontology.specs.Layout.{axioms_of}
 use Rattle.normalize.specs.Loaded.{begun, normalized, Fine}

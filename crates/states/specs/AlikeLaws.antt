@@ -9,7 +9,7 @@ use Rattle.rules.specs.State.{Env}
 use Rattle.rules.specs.Deck.{Known}
 use Rattle.rules.specs.DeckLaws.{bounds_of, DeckIn, read_in}
 use Rattle.rules.specs.Run.{Accepted, env_of, first_fresh}
-use Rattle.rules.specs.RunLaws.{run_decoded}
+use Rattle.rules.proofs.RunLaws.{run_decoded}
 use Rattle.rules.specs.Invariants.{Each, AxiomIn}
 use Rattle.rules.specs.Semantics.{Interpretation, with_classes, satisfied}
 use Rattle.rules.specs.Statements.{Proper, is_inverse_axiom, is_clausified, satisfies_some, satisfies_all, clauses_of, all_hold, Provisos}
@@ -18,7 +18,7 @@ use Rattle.meaning.specs.Valuations.{Agree}
 use Rattle.meaning.specs.Adds.{Setting}
 use Rattle.meaning.specs.InverseMap.{env_keeps}
 use Rattle.meaning.specs.AxiomAgree.{satisfied_agree}
-use Rattle.meaning.specs.Theorem.{demand_three_second}
+use Rattle.meaning.proofs.Theorem.{demand_three_second}
 use Rattle.states.specs.Test.{clauses_verdict, Lent}
 use Rattle.states.specs.VerdictLaws.{is_holds, clauses_hold_lem}
 use Rattle.states.specs.ProperLaws.{read_sound, read_proper}

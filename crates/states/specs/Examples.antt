@@ -2,7 +2,7 @@
 use Rattle.std.specs.Prelude.{◌≡◌, refl, List, [], ◌∷◌, ℕ}
 use Prim.Native.String.{String}
 use Rattle.rules.specs.Ascii.{ascii}
-use Rattle.rules.specs.Cases.{lines_of}
+use Rattle.rules.proofs.Cases.{lines_of}
 use Rattle.rules.specs.Lister.{decimal_by, fields_text}
 use Rattle.states.specs.State.{state}
 use Rattle.states.specs.Print.{lines_text, numbered, printed}

@@ -4,7 +4,7 @@ use Rattle.std.proofs.Common.{sym, ap, ◌∙◌, arith}
 use Rattle.rules.specs.Deck.{Known, fine, read_deck}
 use Rattle.rules.specs.DeckLaws.{read_in}
 use Rattle.rules.specs.Run.{Accepted, accepted, Run, visit_limit}
-use Rattle.rules.specs.RunLaws.{run_accepted}
+use Rattle.rules.proofs.RunLaws.{run_accepted}
 use Rattle.rules.specs.Semantics.{with_classes}
 use Rattle.rules.specs.Statements.{is_fresh}
 use Rattle.meaning.specs.Truth.{by_truth}

@@ -10,11 +10,11 @@ use Rattle.rules.specs.Deck.{Known, Told, fine, read_deck, axiom_line}
 use Rattle.rules.specs.Deck as Deck
 use Rattle.rules.specs.Run.{Accepted, Outcome, accepted, Run, first_fresh}
 use Rattle.rules.specs.Run as Run
-use Rattle.rules.specs.RunLaws.{run_decoded}
+use Rattle.rules.proofs.RunLaws.{run_decoded}
 use Rattle.rules.specs.Semantics.{Interpretation, with_classes, satisfied}
 use Rattle.rules.specs.Statements.{is_fresh, is_inverse_axiom, is_clausified, satisfies_some, satisfies_all, clauses_of, all_hold, Provisos}
 use Rattle.meaning.specs.Truth.{and_left, and_right, by_truth}
-use Rattle.meaning.specs.Theorem.{demand_three_first, demand_three_second}
+use Rattle.meaning.proofs.Theorem.{demand_three_first, demand_three_second}
 use Rattle.states.specs.State.{State, StateTold, stated, bad, unread, read_state, interpretation_of}
 use Rattle.states.specs.Conditions.{axiom_broken}
 use Rattle.states.specs.Test.{Test, axioms, clauses, Verdict, holds, broken, Tested, told, refused, axioms_verdict, clauses_verdict, wide_clause, unless_wide, verdict_on, on_state, on_run, Lent, lent_ok, test_sized, test_state}

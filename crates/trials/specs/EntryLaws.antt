@@ -10,7 +10,7 @@ use Rattle.rules.specs.Deck.{Known, Told, fine, read_deck}
 use Rattle.rules.specs.Deck as Deck
 use Rattle.rules.specs.Run.{Lengths, Accepted, Outcome, accepted, Run, sizes_ok, clause_table, atom_table, deferral_table, scratch_bytes}
 use Rattle.rules.specs.Run as Run
-use Rattle.rules.specs.RunLaws.{Tables, run_tables}
+use Rattle.rules.proofs.RunLaws.{Tables, run_tables}
 use Rattle.meaning.specs.Truth.{by_truth}
 use Rattle.statistics.specs.declared.ClauseStats.{ClauseStats}
 use Rattle.clausify.specs.declared.Reply.{Reply}

@@ -16,7 +16,7 @@ use Rattle.rules.specs.DeckLaws.{DeckIn, axiom_width, bounds_of, read_in}
 use Rattle.rules.specs.Invariants.{Bounds, Each, AtomIn, ClauseIn}
 use Rattle.rules.specs.EachLaws.{each_map}
 use Rattle.rules.specs.Run.{Lengths, Accepted, accepted, refused, sizes_ok, Run, visit_limit, first_fresh, rooms_of, clause_table, atom_table}
-use Rattle.rules.specs.RunLaws.{Tables, run_accepted, run_tables}
+use Rattle.rules.proofs.RunLaws.{Tables, run_accepted, run_tables}
 use Rattle.rules.specs.Semantics.{Interpretation, clause_vars}
 use Rattle.meaning.specs.Truth.{by_truth}
 use Rattle.statistics.specs.declared.ClauseStats.{ClauseStats}

@@ -17,7 +17,7 @@ use Rattle.rules.specs.State.{Env, Out, Clause, clause}
 use Rattle.rules.specs.Invariants.{Bounds, ClauseIn}
 use Rattle.rules.specs.Reflexive.{reflexive_derived_cap, Derived, is_reflexive, contracted, is_trivial, contains_clause, derive, derive_new, contract}
 use Rattle.rules.specs.Reflexive.{Unfolded as Turned}
-use Rattle.rules.specs.ReflexiveLaws.{contracted_in}
+use Rattle.rules.proofs.ReflexiveLaws.{contracted_in}
 use Rattle.rules.specs.EachLaws.{each_nth}
 use Rattle.tables.specs.Good.{Good}
 use Rattle.tables.specs.Tabled.{body_count, head_count, Run, no_clause, Tabled}

@@ -8,18 +8,21 @@ use std::io::{self, Write};
 use std::path::Path;
 use std::process::{Command, ExitCode, Stdio};
 
-/// Runs each deck of a sample, given its place, and compares. The last line that is printed is 'N passed, M failed'.
+/// Runs each deck of the samples, given its place in its own, and compares. The last line that is printed is 'N passed, M failed'.
 ///
 /// # Errors
-/// If the file cannot be read or is no sample.
+/// If a file cannot be read or is no sample.
 pub fn check(
-    file: &Path,
+    files: &[String],
     mut run: impl FnMut(u64, &[u8]) -> io::Result<Vec<u8>>,
 ) -> Result<ExitCode, Box<dyn Error>> {
-    let cases = sample::read(&fs::read_to_string(file)?)?;
+    let mut cases = Vec::new();
+    for file in files {
+        cases.extend((0..).zip(sample::read(&fs::read_to_string(file)?)?));
+    }
     let mut failed = 0;
-    for (place, case) in (0..).zip(&cases) {
-        let fault = match run(place, &case.deck) {
+    for (place, case) in &cases {
+        let fault = match run(*place, &case.deck) {
             Ok(answer) if case.answer.is_of(&answer) => continue,
             Ok(_) => "another answer".into(),
             Err(error) => error.to_string(),

@@ -1,4 +1,4 @@
-//! Runs the program on each deck of a sample and compares. The last line is 'N passed, M failed'.
+//! Runs the program on each deck of the samples and compares. The last line is 'N passed, M failed'.
 
 use std::error::Error;
 use std::path::Path;
@@ -8,8 +8,8 @@ use samples::{check, run};
 
 fn main() -> Result<ExitCode, Box<dyn Error>> {
     let arguments: Vec<String> = std::env::args().skip(1).collect();
-    let [program, file] = arguments.as_slice() else {
-        return Err("samples PROGRAM SAMPLE".into());
+    let [program, files @ ..] = arguments.as_slice() else {
+        return Err("samples PROGRAM SAMPLE..".into());
     };
-    check(Path::new(file), |_, deck| run(Path::new(program), deck))
+    check(files, |_, deck| run(Path::new(program), deck))
 }

@@ -1,7 +1,6 @@
-//! The proved library on each pair of a sample. The last line is 'N passed, M failed'.
+//! The proved library on each pair of the samples. The last line is 'N passed, M failed'.
 
 use std::error::Error;
-use std::path::Path;
 use std::process::ExitCode;
 
 use lent::{gorvask_try_axioms, gorvask_try_clauses};
@@ -13,11 +12,8 @@ const LIBRARY: Library = Library {
 };
 
 fn main() -> Result<ExitCode, Box<dyn Error>> {
-    let arguments: Vec<String> = std::env::args().skip(1).collect();
-    let [file] = arguments.as_slice() else {
-        return Err("stored SAMPLE".into());
-    };
-    samples::check(Path::new(file), |place, input| {
+    let files: Vec<String> = std::env::args().skip(1).collect();
+    samples::check(&files, |place, input| {
         stored::answer(&LIBRARY, place, input)
     })
 }

@@ -23,7 +23,7 @@ overflow_add-left c =
     omega (arith, few, T.low, T.counted.cap, T.counted.within)
 
 pub overflow_sub-queued : goal.overflow_sub-queued
-overflow_sub-queued c = omega (arith, c.if-queued-gt0.true)
+overflow_sub-queued c = omega (arith, c.if-queued-gt0.true, c.unfolding-test.true)
 
 pub overflow_add-queued : goal.overflow_add-queued
 overflow_add-queued c =

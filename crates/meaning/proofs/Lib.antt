@@ -1,0 +1,17 @@
+pub mod Heads
+pub mod Finite
+pub mod Classical
+pub mod Antecedents
+pub mod Added
+pub mod Inclusions
+pub mod Absorb
+pub mod NormalQueue
+pub mod Settle
+pub mod RoleAxioms
+pub mod Disjoint
+pub mod Axioms
+pub mod Composition
+pub mod Theorem
+pub mod EqualNames
+pub mod AxiomNames
+pub mod SettledNames
