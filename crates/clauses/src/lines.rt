@@ -18,12 +18,10 @@ fn put_deferrals(deferrals: &[u8], n: u32, out: &mut [u8], at: usize) -> usize
     ensures { (l : List Deferred) → Deferring (words deferrals.now) n l → Put out.old at (deferrals_text l) out.new result }
 {
     let mut p = at;
-    let mut i: u32 = 0;
-    while i < n {
+    for i in 0..n {
         let line = read::deferral_line(deferrals, i);
         let kind = read::deferral_kind(deferrals, i);
-        p = rows::put_three(out, p, 45, line, kind);
-        i += 1;
+        p = rows::put_line(out, p, &[45, line, kind]);
     }
     p
 }
@@ -33,11 +31,17 @@ fn put_sums(out: &mut [u8], at: usize, k: Counters) -> usize
     requires { at + 89 ≤ length out.old }
     ensures { Put out.old at (fields_text (44 ∷ k.clauses ∷ k.atoms ∷ k.deferrals ∷ k.next_class ∷ k.visits ∷ k.concepts ∷ k.members ∷ [])) out.new result }
 {
-    let p = rows::put_field(out, at, 44);
-    let q = rows::put_field(out, p, k.clauses);
-    let r = rows::put_field(out, q, k.atoms);
-    let s = rows::put_field(out, r, k.deferrals);
-    rows::put_four(out, s, k.next_class, k.visits, k.concepts, k.members)
+    let numbers = [
+        44,
+        k.clauses,
+        k.atoms,
+        k.deferrals,
+        k.next_class,
+        k.visits,
+        k.concepts,
+        k.members,
+    ];
+    rows::put_line(out, at, &numbers)
 }
 
 // All of a state.
@@ -63,5 +67,5 @@ pub fn put_refusal(out: &mut [u8], number: u32, line: u32) -> usize
     ensures put { Put out.old 0 (refusal_text number line) out.new result }
     ensures upper_bound { result ≤ most_text }
 {
-    rows::put_three(out, 0, 49, number, line)
+    rows::put_line(out, 0, &[49, number, line])
 }

@@ -1,4 +1,3 @@
 pub mod Cut
-pub mod LineLaws
 pub mod ReplyLaws
 pub mod Text

@@ -1,10 +1,10 @@
 // The listing's bytes.
-ghost use Rattle.std.specs.Prelude.{◌≡◌, List, [], ◌∷◌, ◌++◌, ◌+◌, ◌≤◌, length};
+ghost use Rattle.std.specs.Prelude.{◌≡◌, List, ◌++◌, ◌+◌, ◌≤◌, length};
 ghost use Rattle.words.specs.Words.{words};
 ghost use Rattle.rules.specs.State.{Clause};
 ghost use Rattle.rules.specs.Lister.{fields_text, clauses_text, lister_lengths, listing};
 ghost use Rattle.tables.specs.Tabled.{Tabled};
-ghost use Rattle.rows.specs.Rows.{Put, columns_text};
+ghost use Rattle.rows.specs.Rows.{Put};
 ghost use Rattle.listing.specs.Listing.{Listable};
 ghost use Rattle.clausify.specs.Entry.{lent};
 ghost use Rattle.lister.specs.Text.{numbers_line, most_rows, most_text};
@@ -12,32 +12,25 @@ ghost use Rattle.lister.specs.Text.{numbers_line, most_rows, most_text};
 use clausify::Reply;
 use statistics::ClauseStats;
 
-// Four numbers of a line.
-fn put_fields(out: &mut [u8], at: usize, a: u32, b: u32, c: u32, d: u32) -> usize
-    requires { at + 44 ≤ length out.old }
-    ensures { Put out.old at (columns_text (a ∷ b ∷ c ∷ d ∷ [])) out.new result }
-{
-    let p = rows::put_field(out, at, a);
-    let q = rows::put_field(out, p, b);
-    let r = rows::put_field(out, q, c);
-    rows::put_field(out, r, d)
-}
-
 // The statistics in the Rust's order, the fresh ids and the visits.
 fn put_numbers(out: &mut [u8], at: usize, s: ClauseStats, fresh: u32, visits: u32) -> usize
     requires { at + 122 ≤ length out.old }
     ensures { Put out.old at (fields_text (numbers_line s fresh visits)) out.new result }
 {
-    let p = put_fields(out, at, 43, s.total, s.horn, s.disjunctive);
-    let q = put_fields(
-        out,
-        p,
+    let numbers = [
+        43,
+        s.total,
+        s.horn,
+        s.disjunctive,
         s.bottom_headed,
         s.with_exists_head,
         s.deferred,
         s.decomposed,
-    );
-    rows::put_three(out, q, s.refused, fresh, visits)
+        s.refused,
+        fresh,
+        visits,
+    ];
+    rows::put_line(out, at, &numbers)
 }
 
 // The clauses, then the numbers.
@@ -70,6 +63,6 @@ pub fn put_listing(
 {
     match clausify::clausify_with_stats(deck, clauses, atoms, deferrals, scratch) {
         Reply::Accepted(s, fresh, visits) => put_accepted(clauses, atoms, s, fresh, visits, out),
-        Reply::Refused(number, line) => rows::put_three(out, 0, 49, number, line),
+        Reply::Refused(number, line) => rows::put_line(out, 0, &[49, number, line]),
     }
 }

@@ -20,10 +20,8 @@ fn put_atoms(run: &[u8], out: &mut [u8], at: usize) -> usize
 {
     let n = read::atom_room(run);
     let mut p = at;
-    let mut j: usize = 0;
-    while j < n {
+    for j in 0..n {
         p = rows::put_row(42, run, 6 * j, 6, out, p);
-        j += 1;
     }
     p
 }
@@ -35,7 +33,7 @@ fn put_clause_rows(clauses: &[u8], atoms: &[u8], i: u32, out: &mut [u8], at: usi
 {
     let bodies = read::body_count(clauses, i);
     let heads = read::head_count(clauses, i);
-    let p = rows::put_four(out, at, 41, i, bodies, heads);
+    let p = rows::put_line(out, at, &[41, i, bodies, heads]);
     put_atoms(read::atoms_of(clauses, atoms, i), out, p)
 }
 
@@ -45,10 +43,8 @@ pub fn put_clauses(clauses: &[u8], atoms: &[u8], n: u32, out: &mut [u8], at: usi
     ensures { (l : List Clause) → Tabled (words clauses.now) (words atoms.now) n l → Put out.old at (clauses_text 0 l) out.new result }
 {
     let mut p = at;
-    let mut i: u32 = 0;
-    while i < n {
+    for i in 0..n {
         p = put_clause_rows(clauses, atoms, i, out, p);
-        i += 1;
     }
     p
 }

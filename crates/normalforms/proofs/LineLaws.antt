@@ -8,7 +8,7 @@ use lib.ListN.{length, get_or, take, drop}
 use Rattle.ir.specs.Pick.{pick}
 use Rattle.ir.specs.Scratch.{numbers_at}
 use Rattle.rules.specs.Deck.{parts_of}
-use Rattle.rules.specs.Lister.{field_text, fields_text}
+use Rattle.rules.specs.Lister.{fields_text}
 use Rattle.pool.specs.declared.record.Record.{Record}
 use Rattle.pool.specs.Layout.{tab, run, field, is_list, members_at, record_at, concept_at, pool_of, plain, starts_at}
 use Rattle.pool.specs.Tabs.{length_tab, get_d_tab, run_part}
@@ -17,7 +17,7 @@ use Rattle.pool.specs.HeldLaws.{record_kind, list_within, list_run}
 use Rattle.ontology.specs.Layout.{axiom_start, axiom_count, axiom_number, axiom_row, axiom_at, axioms_of, AxiomsHeld}
 use Rattle.ontology.specs.KeptAxioms.{fields_some}
 use Rattle.rows.specs.Rows.{columns_text, Put}
-use Rattle.rows.specs.RowLaws.{length_line, put_line, put_field_first, Left, left_all, left_fits, left_more, left_none}
+use Rattle.rows.specs.RowLaws.{length_line, put_line, Left, left_all, left_fits, left_more, left_none}
 use Rattle.normalforms.specs.Forms.{record_line, concept_line, axiom_line_of, concepts_text, axioms_text}
 use Rattle.normalforms.proofs.AxiomLaws.{axiom_line_lem}
 
@@ -52,17 +52,15 @@ module _ (w : List ℕ) (n m : ℕ) (H : Held w n m) (c : ℕ) (h : c < n) where
   pub plain_long : is_list (field w c 0) ≡ false → length (fields_text (concept_line (concept_at w c))) ≡ 45
   plain_long a = rw (plain_line a) (length_line (field w c 0 ∷ field w c 1 ∷ field w c 2 ∷ field w c 3 ∷ []))
 
-  -- the three pieces of a list's line
-  pub list_put : {s s' s'' s''' : List ℕ} {at p q r : ℕ} (kind start count : ℕ) → is_list (field w c 0) ≡ true → members_at + field w c 3 + field w c 2 ≤ length w
+  -- a list's line
+  pub list_put : {s s' : List ℕ} {at r : ℕ} (kind start count : ℕ) → is_list (field w c 0) ≡ true → members_at + field w c 3 + field w c 2 ≤ length w
       → kind ≡ field w c 0 → start ≡ members_at + field w c 3 → count ≡ field w c 2
-      → Put s at (field_text kind) s' p → Put s' p (columns_text (take count (drop start w))) s'' q → Put s'' q (10 ∷ []) s''' r
-      → Put s at (fields_text (concept_line (concept_at w c))) s''' r
-  list_put {s} {s'} {s''} {s'''} {at} {p} {q} {r} kind start count a i e f g x y z =
+      → Put s at (fields_text (kind ∷ take count (drop start w))) s' r → Put s at (fields_text (concept_line (concept_at w c))) s' r
+  list_put {s} {s'} {at} {r} kind start count a i e f g x =
       let l = run w (members_at + field w c 3) (field w c 2) in
       let t : take count (drop start w) ≡ l = rw (f, g) (sym (run_part w (members_at + field w c 3) (field w c 2) i)) in
-      let y' : Put s' p (columns_text l) s'' q = subst (λ (b : List ℕ). Put s' p (columns_text b) s'' q) t y in
-      let v : kind ∷ l ≡ concept_line (concept_at w c) = ap (λ (b : ℕ). b ∷ l) e ∙ sym (list_line a) in
-      subst (λ (b : List ℕ). Put s at (fields_text b) s''' r) v (put_field_first kind l x (put_line l y' z))
+      let v : kind ∷ take count (drop start w) ≡ concept_line (concept_at w c) = rw (t, e) (sym (list_line a)) in
+      subst (λ (b : List ℕ). Put s at (fields_text b) s' r) v x
 
   pub plain_put : {s s' : List ℕ} {at r : ℕ} (kind role number child : ℕ) → is_list (field w c 0) ≡ false
       → kind ≡ field w c 0 → role ≡ field w c 1 → number ≡ field w c 2 → child ≡ field w c 3

@@ -19,10 +19,7 @@ use pool::record;
 fn is_list(kind: u32) -> bool
     ensures { result ≡ is_list kind }
 {
-    if kind == AND {
-        return true;
-    }
-    kind == OR
+    kind == AND || kind == OR
 }
 
 // And or Or, at concept c.
@@ -32,9 +29,7 @@ fn put_list(scratch: &[u8], k: Counters, c: u32, out: &mut [u8], at: usize) -> u
 {
     let start = MEMBERS + record::child(scratch, c) as usize;
     let count = record::number(scratch, c) as usize;
-    let p = rows::put_field(out, at, record::kind(scratch, c));
-    let q = rows::put_words(scratch, start, count, out, p);
-    rows::end_line(out, q)
+    rows::put_row(record::kind(scratch, c), scratch, start, count, out, at)
 }
 
 // Any other concept.
@@ -46,7 +41,7 @@ fn put_record(scratch: &[u8], k: Counters, c: u32, out: &mut [u8], at: usize) ->
     let role = record::role(scratch, c);
     let number = record::number(scratch, c);
     let child = record::child(scratch, c);
-    rows::put_four(out, at, kind, role, number, child)
+    rows::put_line(out, at, &[kind, role, number, child])
 }
 
 // Concept c.
@@ -66,10 +61,8 @@ fn put_concepts(scratch: &[u8], k: Counters, out: &mut [u8], at: usize) -> usize
     ensures { Put out.old at (concepts_text (pool_of (words scratch.now) k.concepts)) out.new result }
 {
     let mut p = at;
-    let mut c: u32 = 0;
-    while c < k.concepts {
+    for c in 0..k.concepts {
         p = put_concept(scratch, k, c, out, p);
-        c += 1;
     }
     p
 }
@@ -91,10 +84,8 @@ fn put_axioms(scratch: &[u8], n: u32, out: &mut [u8], at: usize) -> usize
     ensures { Put out.old at (axioms_text (axioms_of (words scratch.now) n)) out.new result }
 {
     let mut p = at;
-    let mut i: u32 = 0;
-    while i < n {
+    for i in 0..n {
         p = put_axiom(scratch, n, i, out, p);
-        i += 1;
     }
     p
 }
@@ -107,7 +98,7 @@ pub fn put_normal(scratch: &[u8], k: Counters, n: u32, out: &mut [u8]) -> usize
 {
     let p = put_concepts(scratch, k, out, 0);
     let q = put_axioms(scratch, n, out, p);
-    rows::put_four(out, q, 44, k.visits, k.concepts, k.members)
+    rows::put_line(out, q, &[44, k.visits, k.concepts, k.members])
 }
 
 // A refusal.
@@ -116,5 +107,5 @@ pub fn put_refusal(out: &mut [u8], number: u32, line: u32) -> usize
     ensures put { Put out.old 0 (refusal_text number line) out.new result }
     ensures upper_bound { result ≤ most_text }
 {
-    rows::put_three(out, 0, 49, number, line)
+    rows::put_line(out, 0, &[49, number, line])
 }

@@ -189,6 +189,10 @@ fn main(rt: HostRuntime) -> io::Result<()> {
         &mut scratch,
     );
     let mut out = [0u8; 45];
-    rows::put_four(&mut out, 0, s.decks, s.accepted, s.refused, s.differences);
+    rows::put_line(
+        &mut out,
+        0,
+        &[s.decks, s.accepted, s.refused, s.differences],
+    );
     rt.write_all(&out)
 }

@@ -1,13 +1,13 @@
 -- Laws of a line's text, and of texts that are written one behind the other. Assumes nothing.
 use Rattle.std.specs.Prelude.{◌≡◌, List, [], ◌∷◌, ◌++◌, length, get_or, set, take, drop, replicate}
 use Rattle.std.proofs.Math.Path.{refl}
-use Rattle.std.proofs.Common.{sym, ap, ap₂, subst, ◌∙◌, append_assoc, append-nil, add-one, length-append, length-drop, take-suc, length-take-le, get_or-drop, lt-ltb, le-ltb}
+use Rattle.std.proofs.Common.{sym, ap, ap₂, subst, ◌∙◌, append_assoc, append-nil, add-one, length-append, length-drop, take-suc, length-take-le, lt-ltb, le-ltb}
 use Prim.Native.Nat.{ℕ, zero, suc, ◌+◌, ◌*◌, ◌-◌, ◌/◌, ◌%◌, ◌<◌, ◌≤◌, ◌^◌}
 use native.Mathlib.Omega.{arith}
 use Rattle.std.proofs.lemmas.List.{length-replicate}
 use Rattle.std.proofs.lemmas.List.Edits.{sets}
 use Rattle.std.proofs.Math.Seq.{length-sets}
-use Rattle.words.specs.Runs.{sets_append, sets_cons, sets_snoc}
+use Rattle.words.specs.Runs.{sets_append, sets_cons}
 use Rattle.rules.specs.Lister.{decimal_by, decimal, field_text, fields_text}
 use Rattle.rules.specs.PrintLaws.{length_decimal}
 use Rattle.rows.specs.Rows.{columns_text, Put, texts_of, texts_left}
@@ -57,11 +57,6 @@ spaces_more (suc j) = ap (λ (t : List ℕ). 32 ∷ t) (spaces_more j)
 
 length_spaces : (j : ℕ) → length (spaces j) ≡ j
 length_spaces j = length-replicate {0} {A = ℕ} j 32
-
-pub spaces_put : (s : List ℕ) (at i : ℕ) (out : List ℕ) → out ≡ sets s at (spaces i) → set out (at + i) 32 ≡ sets s at (spaces (i + 1))
-spaces_put s at i out e =
-    let k : at + i ≡ at + length (spaces i) = omega (arith, length_spaces i) in
-    rw (e, k, add-one, spaces_more i) (sets_snoc (spaces i) s at 32)
 
 -- the number n, whose rest before the digits ds is still to be written in j columns and the first
 pub record Digits (n rest j : ℕ) (ds : List ℕ) : Type 0 where
@@ -161,23 +156,8 @@ columns_one : (n : ℕ) → columns_text (n ∷ []) ≡ field_text n
 unfolding columns_text
 columns_one n = append-nil (field_text n)
 
-columns_more : (w : List ℕ) (from i : ℕ) → from + i < length w → columns_text (take (i + 1) (drop from w)) ≡ columns_text (take i (drop from w)) ++ field_text (get_or w (from + i) 0)
-columns_more w from i h =
-    let d : i < length (drop from w) = rw (length-drop from w) (omega arith) in
-    rw (add-one, take-suc (drop from w) i 0 d, get_or-drop from w i 0, columns_append (take i (drop from w)) (get_or w (from + i) 0 ∷ []), columns_one (get_or w (from + i) 0)) refl
-
-pub columns_none : (s : List ℕ) (at : ℕ) (l : List ℕ) → s ≡ sets s at (columns_text (take 0 l))
-unfolding columns_text
-columns_none s at l = refl
-
--- one word more behind the first i of a run
-pub field_put : (w s : List ℕ) (from at i p x : ℕ) (out : List ℕ) → from + i < length w → p ≡ at + 11 * i → x ≡ get_or w (from + i) 0
-    → out ≡ sets s at (columns_text (take i (drop from w))) → sets out p (field_text x) ≡ sets s at (columns_text (take (i + 1) (drop from w)))
-field_put w s from at i p x out h e f g =
-    let d : i ≤ length (drop from w) = rw (length-drop from w) (omega arith) in
-    let l : length (columns_text (take i (drop from w))) ≡ 11 * i = length_columns (take i (drop from w)) ∙ ap (λ (k : ℕ). 11 * k) (length-take-le i (drop from w) d) in
-    let q : p ≡ at + length (columns_text (take i (drop from w))) = omega arith in
-    rw (g, q, f, columns_more w from i h) (sets_append (columns_text (take i (drop from w))) (field_text (get_or w (from + i) 0)) s at)
+columns_next : (l : List ℕ) (i : ℕ) → i < length l → columns_text (take (i + 1) l) ≡ columns_text (take i l) ++ field_text (get_or l i 0)
+columns_next l i h = rw (add-one, take-suc l i 0 h, columns_append (take i l) (get_or l i 0 ∷ []), columns_one (get_or l i 0)) refl
 
 -- ---- texts that are put one behind the other
 pub put_then : {s s' s'' t u : List ℕ} {at p q : ℕ} → Put s at t s' p → Put s' p u s'' q → Put s at (t ++ u) s'' q
@@ -186,16 +166,23 @@ put_then {s} {s'} {s''} {t} {u} {at} {p} {q} h k = record {
   end = omega (arith, h.end, k.end, length-append t u);
 }
 
+-- the first i numbers of a list, and one more
+pub put_none : (s : List ℕ) (at : ℕ) (l : List ℕ) → Put s at (columns_text (take 0 l)) s at
+unfolding columns_text
+put_none s at l = record { bytes = refl; end = omega arith }
+
+pub put_next : {s s' s'' : List ℕ} {at p q : ℕ} (l : List ℕ) (i : ℕ) → i < length l → Put s at (columns_text (take i l)) s' p → Put s' p (field_text (get_or l i 0)) s'' q → Put s at (columns_text (take (i + 1) l)) s'' q
+put_next {s} {s'} {s''} {at} {p} {q} l i b h k = subst (λ (t : List ℕ). Put s at t s'' q) (sym (columns_next l i b)) (put_then h k)
+
+pub put_columns_end : {s s' : List ℕ} {at p : ℕ} (l : List ℕ) (i : ℕ) → i ≤ length l → Put s at (columns_text (take i l)) s' p → p ≡ at + 11 * i
+put_columns_end l i b h = omega (arith, h.end, length_columns (take i l), length-take-le i l b)
+
 pub put_line : {s s' s'' : List ℕ} {at p q : ℕ} (l : List ℕ) → Put s at (columns_text l) s' p → Put s' p (10 ∷ []) s'' q → Put s at (fields_text l) s'' q
 put_line {s} {s'} {s''} {at} {p} {q} l h k = subst (λ (t : List ℕ). Put s at t s'' q) (sym (line_text l)) (put_then h k)
 
 pub put_field_first : {s s' s'' : List ℕ} {at p q : ℕ} (n : ℕ) (l : List ℕ) → Put s at (field_text n) s' p → Put s' p (fields_text l) s'' q → Put s at (fields_text (n ∷ l)) s'' q
 unfolding fields_text
 put_field_first n l h k = put_then h k
-
-pub put_end : {s s' : List ℕ} {at q : ℕ} → Put s at (10 ∷ []) s' q → Put s at (fields_text []) s' q
-unfolding fields_text
-put_end h = h
 
 pub length_line : (l : List ℕ) → length (fields_text l) ≡ 11 * length l + 1
 length_line l = ap length (line_text l) ∙ length-append (columns_text l) (10 ∷ []) ∙ rw (length_columns l) refl

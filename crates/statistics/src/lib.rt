@@ -7,7 +7,7 @@ ghost use Rattle.ir.specs.declared.atom.Atom.{Atom};
 ghost use Rattle.rules.specs.Base.{any};
 ghost use Rattle.rules.specs.State.{Clause};
 ghost use Rattle.rules.specs.Run.{most_clauses};
-ghost use Rattle.rules.specs.Stats.{clause_stats, is_exists, one as one_if};
+ghost use Rattle.rules.specs.Stats.{clause_stats, is_exists};
 ghost use Rattle.tables.specs.Drawn.{Sized};
 ghost use Rattle.tables.specs.Tabled.{Tabled, TableThere, Run};
 ghost use Rattle.statistics.specs.Counted.{stats_of};
@@ -34,20 +34,12 @@ fn has_exists(head: &[u8]) -> bool
     ensures { (l : List Atom) → Run head.now l → result ≡ any is_exists l }
 {
     let n = read::atom_room(head);
-    let mut i: usize = 0;
-    while i < n {
+    for i in 0..n {
         if words::get_word(head, 6 * i) == 3 {
             return true;
         }
-        i += 1;
     }
     false
-}
-
-fn one(b: bool) -> u32
-    ensures { (result ≡ one_if b) × (result ≤ 1) }
-{
-    if b { 1 } else { 0 }
 }
 
 impl ClauseStats {
@@ -60,11 +52,11 @@ impl ClauseStats {
         let exists = has_exists(head);
         let wide = vars::is_wide(body, 0);
         self.total += 1;
-        self.horn += one(nh <= 1);
-        self.disjunctive += one(1 < nh);
-        self.bottom_headed += one(nh == 0);
-        self.with_exists_head += one(exists);
-        self.refused += one(wide);
+        self.horn += u32::from(nh <= 1);
+        self.disjunctive += u32::from(1 < nh);
+        self.bottom_headed += u32::from(nh == 0);
+        self.with_exists_head += u32::from(exists);
+        self.refused += u32::from(wide);
         self
     }
 }
@@ -90,12 +82,10 @@ pub fn clause_stats(
         decomposed,
         refused: 0,
     };
-    let mut i: u32 = 0;
-    while i < n {
+    for i in 0..n {
         let body = read::body_of(clauses, atoms, i);
         let head = read::head_of(clauses, atoms, i);
         s = s.add(body, head);
-        i += 1;
     }
     s
 }

@@ -21,8 +21,8 @@ put_atoms-requires c =
     let C = c.requires.0 in
     let x = C.clause in
     let e = length_line (41 ∷ c.args.i ∷ c.body_count-bodies.result ∷ c.head_count-heads.result ∷ []) in
-    omega (arith, c.requires.1, e, c.put_four-p.ensures.end, c.put_four-p.auto.out, (c.atoms_of.ensures x C.is).long, length-append x.body x.head, C.is.body, C.is.head)
+    omega (arith, c.requires.1, e, c.put_line-p.ensures.end, c.put_line-p.auto.out, (c.atoms_of.ensures x C.is).long, length-append x.body x.head, C.is.body, C.is.head)
 
 pub returns : goal.returns
 returns c = λ x C.
-    clause_put_lem _ x c.body_count-bodies.result c.head_count-heads.result (c.body_count-bodies.ensures ∙ C.body) (c.head_count-heads.ensures ∙ C.head) c.put_four-p.ensures (c.put_atoms.ensures (x.body ++ x.head) (c.atoms_of.ensures x C))
+    clause_put_lem _ x c.body_count-bodies.result c.head_count-heads.result (c.body_count-bodies.ensures ∙ C.body) (c.head_count-heads.ensures ∙ C.head) c.put_line-p.ensures (c.put_atoms.ensures (x.body ++ x.head) (c.atoms_of.ensures x C))

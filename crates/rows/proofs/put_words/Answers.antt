@@ -1,39 +1,25 @@
-use mathlib.Core.Path.{◌≡◌, refl, ◌∙◌}
-use Prim.Native.Nat.{◌+◌, ◌-◌, ◌≤◌, ◌<◌}
+use mathlib.Core.Path.{◌≡◌}
 use native.Mathlib.Omega.{arith}
-use lib.ListN.{length, take, drop, length-drop}
-use lib.Seq.{length-take-le}
+use lib.ListN.{get_or, drop, length-drop}
+use lib.Seq.{get_or-drop}
 use Rattle.words.specs.Words.{words}
 use Rattle.words.specs.Laws.{length_words}
-use Rattle.rows.specs.RowLaws.{length_field, length_columns, columns_none, field_put}
+use Rattle.rows.specs.RowLaws.{put_none, put_next, put_columns_end}
 use Rattle.rows.proofs.put_words.Goals as goal
 
 pub loop-i-init : goal.loop-i-init
-loop-i-init c =
+loop-i-init c = put_none c.args.out.now c.args.at (drop c.args.from (words c.args.t.now))
+
+pub put_field-p-requires : goal.put_field-p-requires
+put_field-p-requires c =
     let a = c.args in
-    (omega arith, omega arith, columns_none a.out.now a.at (drop a.from (words a.t.now)), refl)
+    let w = words a.t.now in
+    omega (arith, put_columns_end (drop a.from w) c.loop-i.i (omega (arith, length-drop a.from w, length_words a.t.now)) c.loop-i.invariant)
 
 pub loop-i-preserved : goal.loop-i-preserved
 loop-i-preserved c =
-    let f = c.put_field-p in
-    let v = c.get_word in
-    let l = c.loop-i in
     let a = c.args in
+    let i = c.loop-i.i in
     let w = words a.t.now in
-    let h : a.from + l.i < length w = rw (length_words a.t.now) (omega arith) in
-    (omega arith, omega (arith, f.ensures.end, length_field v.result), f.ensures.bytes ∙ field_put w a.out.now a.from a.at l.i l.p v.result l.out h l.invariant.1 v.ensures l.invariant.2, f.auto.out ∙ l.invariant.3)
-
-pub shape_of-out : goal.shape_of-out
-shape_of-out c = c.loop-i.invariant.3
-
-pub returns : goal.returns
-returns c =
-    let l = c.loop-i in
-    let a = c.args in
-    let e : l.i ≡ a.n = omega arith in
-    let t = take a.n (drop a.from (words a.t.now)) in
-    let r : a.n ≤ length (drop a.from (words a.t.now)) = rw (length-drop a.from (words a.t.now), length_words a.t.now) (omega arith) in
-    record {
-      bytes = l.invariant.2 ∙ rw e refl;
-      end = omega (arith, length_columns t, length-take-le a.n (drop a.from (words a.t.now)) r);
-    }
+    let e : c.get_word.result ≡ get_or (drop a.from w) i 0 = rw get_or-drop c.get_word.ensures in
+    put_next (drop a.from w) i (omega (arith, length-drop a.from w, length_words a.t.now)) c.loop-i.invariant (rw e at c.put_field-p.ensures)

@@ -1,4 +1,3 @@
-use Prim.Native.Nat.{◌-◌}
 use mathlib.Core.Path.{refl}
 use native.Mathlib.Omega.{arith}
 use Rattle.words.specs.Words.{words}
@@ -22,12 +21,6 @@ add-s-requires c =
     let L = c.loop-i in
     let T = c.requires.0 in
     within_more a.n 65536 L.s (omega (arith, (tabled_long (words a.clauses.now) (words a.atoms.now) a.n T.list T.tabled).0, length_words a.clauses.now, c.requires.1.clauses)) (counted_within (words a.clauses.now) (words a.atoms.now) a.n a.deferred a.decomposed L.s L.i L.invariant T)
-
-pub overflow_add-i : goal.overflow_add-i
-overflow_add-i c = omega (arith, c.loop-i-test.true, c.ranges.n.fits)
-
-pub loop-i-smaller : goal.loop-i-smaller
-loop-i-smaller c = omega (arith, c.loop-i-test.true)
 
 pub loop-i-preserved : goal.loop-i-preserved
 loop-i-preserved c =

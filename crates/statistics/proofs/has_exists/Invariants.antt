@@ -1,4 +1,4 @@
-use Prim.Native.Nat.{◌-◌, ◌/◌, ◌≤◌}
+use Prim.Native.Nat.{◌/◌}
 use mathlib.Core.Path.{◌≡◌}
 use mathlib.Core.List.{List}
 use lib.ListN.{length, drop}
@@ -9,7 +9,4 @@ use Rattle.tables.specs.Tabled.{Run}
 use Rattle.statistics.proofs.has_exists.Given as goal
 
 abbrev pub invariant-loop-i : goal.invariant-loop-i
-invariant-loop-i now = (now.n ≡ length now.head / 24) × (now.i ≤ now.n) × ((l : List Atom) → Run now.head l → any is_exists l ≡ any is_exists (drop now.i l))
-
-abbrev pub decreases-loop-i : goal.decreases-loop-i
-decreases-loop-i l = l.n - l.i
+invariant-loop-i now = (now.n ≡ length now.head / 24) × ((l : List Atom) → Run now.head l → any is_exists l ≡ any is_exists (drop now.i l))

@@ -3,4 +3,4 @@ use Rattle.text.specs.RowLaws.{row_number_lem}
 use Rattle.text.proofs.field.Goals as goal
 
 pub returns : goal.returns
-returns c = c.number_at.ensures ∙ sym (row_number_lem c.args.deck.now c.args.p c.args.n c.args.k c.requires.1)
+returns c = c.unwrap_or.ensures ∙ c.number_at.ensures.result_value ∙ sym (row_number_lem c.args.deck.now c.args.p c.args.n c.args.k c.requires.1)

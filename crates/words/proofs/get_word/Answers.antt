@@ -1,7 +1,6 @@
-use mathlib.Core.Path.{sym, ◌∙◌}
+use native.Mathlib.Omega.{arith}
 use Rattle.words.specs.Laws.{get_words}
 use Rattle.words.proofs.get_word.Goals as goal
 
 pub returns : goal.returns
-returns c =
-    c.word_of.ensures ∙ sym (get_words c.args.s.now c.args.i c.requires)
+returns c = omega (arith, c.from_le_bytes.ensures, get_words c.args.s.now c.args.i c.requires)

@@ -11,7 +11,7 @@ use Rattle.clauses.proofs.lines.put_deferrals.Goals as goal
 pub loop-i-init : goal.loop-i-init
 loop-i-init c =
     let a = c.args in
-    (omega arith, texts_all (deferral_text (words a.deferrals.now)) 0 a.n a.n a.out.now a.at (omega arith))
+    texts_all (deferral_text (words a.deferrals.now)) 0 a.n a.n a.out.now a.at (omega arith)
 
 pub deferral_line-line-requires : goal.deferral_line-line-requires
 deferral_line-line-requires c = omega (arith, c.requires.0, c.loop-i-test.true)
@@ -19,16 +19,13 @@ deferral_line-line-requires c = omega (arith, c.requires.0, c.loop-i-test.true)
 pub deferral_kind-kind-requires : goal.deferral_kind-kind-requires
 deferral_kind-kind-requires c = omega (arith, c.requires.0, c.loop-i-test.true)
 
-pub put_three-p-requires : goal.put_three-p-requires
-put_three-p-requires c =
+pub put_line-p-requires : goal.put_line-p-requires
+put_line-p-requires c =
     let a = c.args in
     let l = c.loop-i in
     let w = words a.deferrals.now in
-    let f = text_fits (deferral_text w) l.i a.n a.out.now a.at (texts_of (deferral_text w) 0 a.n) l.out l.p c.loop-i-test.true l.invariant.1 (omega (arith, deferral_texts_long w a.n 0, c.requires.1)) in
+    let f = text_fits (deferral_text w) l.i a.n a.out.now a.at (texts_of (deferral_text w) 0 a.n) l.out l.p c.loop-i-test.true l.invariant (omega (arith, deferral_texts_long w a.n 0, c.requires.1)) in
     omega (arith, f, deferral_long w l.i)
-
-pub loop-i-smaller : goal.loop-i-smaller
-loop-i-smaller c = omega arith
 
 pub loop-i-preserved : goal.loop-i-preserved
 loop-i-preserved c =
@@ -36,11 +33,8 @@ loop-i-preserved c =
     let l = c.loop-i in
     let t = c.loop-i-test.true in
     let f = deferral_text (words a.deferrals.now) in
-    let P = deferral_put_lem (words a.deferrals.now) l.i c.deferral_line-line.result c.deferral_kind-kind.result c.deferral_line-line.ensures c.deferral_kind-kind.ensures c.put_three-p.ensures in
-    (omega (arith, t), text_more f l.i a.n a.out.now a.at (texts_of f 0 a.n) l.out l.p _ c.put_three-p.result t l.invariant.1 P)
-
-pub shape_of-out : goal.shape_of-out
-shape_of-out c = c.loop-i.invariant.1.long
+    let P = deferral_put_lem (words a.deferrals.now) l.i c.deferral_line-line.result c.deferral_kind-kind.result c.deferral_line-line.ensures c.deferral_kind-kind.ensures c.put_line-p.ensures in
+    text_more f l.i a.n a.out.now a.at (texts_of f 0 a.n) l.out l.p _ c.put_line-p.result t l.invariant P
 
 pub returns : goal.returns
 returns c = λ list D.
@@ -48,4 +42,4 @@ returns c = λ list D.
     let l = c.loop-i in
     let f = deferral_text (words a.deferrals.now) in
     subst (λ (t : List ℕ). Put a.out.now a.at t l.out l.p) (deferring_text (words a.deferrals.now) a.n list D)
-    (texts_end f l.i a.n a.out.now a.at (texts_of f 0 a.n) l.out l.p (omega arith) l.invariant.1)
+    (texts_end f l.i a.n a.out.now a.at (texts_of f 0 a.n) l.out l.p (omega arith) l.invariant)

@@ -5,7 +5,7 @@ use Rattle.clauses.proofs.lines.put_refusal.Goals as goal
 
 pub returns : goal.returns
 returns c =
-    let p = c.put_three in
+    let p = c.put_line in
     let a = c.args in
     record {
       put = p.ensures;

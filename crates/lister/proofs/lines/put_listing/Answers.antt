@@ -29,5 +29,5 @@ returns-in-Refused c =
     let m = c.clausify_with_stats in
     let a = c.args in
     let t = lent a.clauses.now a.atoms.now a.deferrals.now a.scratch.now in
-    let p = c.put_three in
+    let p = c.put_line in
     subst (λ (x : List ℕ). Put a.out.now 0 x p.new.out p.result) (refused_text a.deck.now t c.requires.0 m.result m.ensures.reply c.in-Refused.number c.in-Refused.line c.in-Refused.is) p.ensures

@@ -7,7 +7,4 @@ use Rattle.normalforms.proofs.LineLaws.{axioms_left}
 use Rattle.normalforms.proofs.lines.put_axioms.Given as goal
 
 abbrev pub invariant-loop-i : goal.invariant-loop-i
-invariant-loop-i l = (l.i ≤ l.n) × Left l.initial.out l.at (axioms_text (axioms_of (words l.scratch) l.n)) l.out l.p (axioms_left (words l.scratch) l.i l.n)
-
-abbrev pub decreases-loop-i : goal.decreases-loop-i
-decreases-loop-i l = l.n - l.i
+invariant-loop-i l = Left l.initial.out l.at (axioms_text (axioms_of (words l.scratch) l.n)) l.out l.p (axioms_left (words l.scratch) l.i l.n)

@@ -7,7 +7,4 @@ use Rattle.normalforms.proofs.LineLaws.{concepts_left}
 use Rattle.normalforms.proofs.lines.put_concepts.Given as goal
 
 abbrev pub invariant-loop-c : goal.invariant-loop-c
-invariant-loop-c l = (l.c ≤ l.k.concepts) × Left l.initial.out l.at (concepts_text (pool_of (words l.scratch) l.k.concepts)) l.out l.p (concepts_left (words l.scratch) l.c l.k.concepts)
-
-abbrev pub decreases-loop-c : goal.decreases-loop-c
-decreases-loop-c l = l.k.concepts - l.c
+invariant-loop-c l = Left l.initial.out l.at (concepts_text (pool_of (words l.scratch) l.k.concepts)) l.out l.p (concepts_left (words l.scratch) l.c l.k.concepts)

@@ -22,8 +22,8 @@ put_axioms-q-requires c =
     let A = c.requires.1 in
     (c.requires.1, c.requires.2, omega (arith, concepts_room w k.members k.concepts H n A, axioms_room w k.members k.concepts H n A, c.requires.3, p.ensures.end, p.auto.out))
 
-pub put_four-requires : goal.put_four-requires
-put_four-requires c =
+pub put_line-requires : goal.put_line-requires
+put_line-requires c =
     let p = c.put_concepts-p in
     let q = c.put_axioms-q in
     let w = words c.args.scratch.now in
@@ -37,7 +37,7 @@ pub returns : goal.returns
 returns c =
     let p = c.put_concepts-p in
     let q = c.put_axioms-q in
-    let r = c.put_four in
+    let r = c.put_line in
     let w = words c.args.scratch.now in
     let k = c.args.k in
     let n = c.args.n in

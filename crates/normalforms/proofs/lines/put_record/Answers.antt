@@ -11,4 +11,4 @@ returns c =
     let number = c.number-number in
     let child = c.child-child in
     plain_put (words s) k.concepts k.members c.requires.0.held c.args.c c.requires.1 kind.result role.result number.result child.result c.requires.2
-    kind.ensures role.ensures number.ensures child.ensures c.put_four.ensures
+    kind.ensures role.ensures number.ensures child.ensures c.put_line.ensures

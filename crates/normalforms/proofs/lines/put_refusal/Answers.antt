@@ -5,7 +5,7 @@ use Rattle.normalforms.proofs.lines.put_refusal.Goals as goal
 
 pub returns : goal.returns
 returns c =
-    let p = c.put_three in
+    let p = c.put_line in
     record {
       put = p.ensures;
       upper_bound = omega (arith, p.ensures.end, length_line (49 ∷ c.args.number ∷ c.args.line ∷ []));
