@@ -1,8 +1,8 @@
 -- What a good line leaves: the header, a key mark, a concept, an axiom. Assumes nothing.
-use mathlib.Core.Path.{◌≡◌, refl, sym, ap, ap₂, subst, ◌∙◌}
-use mathlib.Core.Bool.{Bool, true, false, ◌&&◌, false≢true}
-use mathlib.Core.List.{List, [], ◌∷◌, ◌++◌}
-use Prim.Native.Nat.{ℕ, suc, ◌+◌, ◌*◌, ◌<◌, ◌≤◌}
+use mathlib.Core.Path.{◌≡◌, refl, sym, ap, subst, ◌∙◌}
+use mathlib.Core.Bool.{true, false≢true}
+use mathlib.Core.List.{List}
+use Prim.Native.Nat.{ℕ, ◌+◌, ◌*◌, ◌<◌, ◌≤◌}
 use native.Mathlib.Omega.{arith}
 use borrow.Author.Tests.{eqb-true, leb-true, ltb-true, ltb-false}
 use lib.Dec.{eqb, ltb, leb}
@@ -10,19 +10,18 @@ use lib.ListN.{length, get_or, drop}
 use Rattle.words.specs.Words.{words}
 use Rattle.words.specs.Laws.{length_words}
 use Rattle.ir.specs.Pick.{pick}
-use Rattle.rules.specs.Concept.{Concept, Axiom}
-use Rattle.rules.specs.Deck.{most_concept_lines, most_axioms, most_depth, most_listed, section_of, list_of, concept_of, axiom_of, header_of, Known, known, in_order, fields_ok, header_ok, room_ok, depth_of, deepest, parts_of, verdict, entered}
+use Rattle.rules.specs.Deck.{most_concept_lines, most_axioms, most_listed, section_of, list_of, header_of, in_order, fields_ok, header_ok, room_ok, depth_of, entered}
 use Rattle.rules.specs.DeckLaws.{Passed, verdict_zero, ConceptPassed, concept_zero}
 use Rattle.rules.specs.Invariants.{Each}
 use Rattle.rules.specs.TextLaws.{and_true, by_test}
 use Rattle.text.specs.Rows.{row_at}
 use Rattle.text.specs.RowLaws.{length_row}
-use Rattle.deck.specs.Index.{hash_of, Indexed}
+use Rattle.deck.specs.Index.{hash_of}
 use Rattle.deck.specs.IndexLaws.{indexed_same, indexed_more}
-use Rattle.deck.specs.Records.{first_part, tab, concept_at, axiom_at, row_in, depth_in, axiom_row_in, key_in, keys_in, concepts_in, depths_in, axioms_in, known_in, hash_in, with_header, with_key, with_concept, with_axiom, sum, axiom_fields, ConceptsHeld, AxiomLine, Held, ConceptLine, Entering, Entered}
+use Rattle.deck.specs.Records.{section_number, first_part, tab, concept_at, axiom_at, row_in, depth_in, axiom_row_in, key_in, concepts_in, depths_in, axioms_in, known_in, hash_in, with_header, with_key, with_concept, with_axiom, axiom_fields, ConceptsHeld, AxiomLine, ConceptLine, Entering, Entered}
 use Rattle.deck.specs.TabLaws.{tab_more, sum_more}
 use Rattle.deck.specs.declared.state.State.{State}
-use Rattle.deck.proofs.KindLaws.{section_most, key_kind}
+use Rattle.deck.proofs.KindLaws.{key_kind}
 use Rattle.deck.proofs.ConceptLaws.{line_row, line_parts, counted_known}
 use Rattle.deck.proofs.TableLaws.{Agree, axiom_put, concept_put, index_put, row_agree, concepts_agree, depths_agree, axiom_row_agree, axioms_agree, fields_agree, axiom_before, axiom_after, axiom_begin, axiom_fields_lem, concept_before, concept_after, concept_word, concept_begin, head_new, head_old, link_new, link_old}
 
@@ -47,11 +46,11 @@ module _ (s t : List ℕ) (p n : ℕ) (k : State) (E : Entering s t p n k) where
   passed : Passed (known_in s t k) (get_or (row_at s p n) 0 0) (row_at s p n)
   passed = verdict_zero (known_in s t k) (get_or (row_at s p n) 0 0) (row_at s p n) E.good
 
-  shaped : (in_order k.section (section_of (get_or (row_at s p n) 0 0)) ≡ true) × (fields_ok (get_or (row_at s p n) 0 0) (length (row_at s p n)) ≡ true)
-  shaped = and_true (in_order k.section (section_of (get_or (row_at s p n) 0 0))) (fields_ok (get_or (row_at s p n) 0 0) (length (row_at s p n))) passed.shape
+  shaped : (in_order (section_number k.section) (section_of (get_or (row_at s p n) 0 0)) ≡ true) × (fields_ok (get_or (row_at s p n) 0 0) (length (row_at s p n)) ≡ true)
+  shaped = and_true (in_order (section_number k.section) (section_of (get_or (row_at s p n) 0 0))) (fields_ok (get_or (row_at s p n) 0 0) (length (row_at s p n))) passed.shape
 
-  order_is : (i : ℕ) → section_of (get_or (row_at s p n) 0 0) ≡ i → in_order k.section i ≡ true
-  order_is i e = subst (λ (j : ℕ). in_order k.section j ≡ true) e shaped.0
+  order_is : (i : ℕ) → section_of (get_or (row_at s p n) 0 0) ≡ i → in_order (section_number k.section) i ≡ true
+  order_is i e = subst (λ (j : ℕ). in_order (section_number k.section) j ≡ true) e shaped.0
 
   fields_are : fields_ok (get_or (row_at s p n) 0 0) n ≡ true
   fields_are = rw (length_row s p n) at shaped.1
@@ -62,16 +61,16 @@ module _ (s t : List ℕ) (p n : ℕ) (k : State) (E : Entering s t p n k) where
       subst (λ (j : ℕ). pick (eqb j 1) (header_ok (header_of (row_at s p n))) (pick (eqb j 3) (ltb (length (concepts_in s (words t) k.concepts)) most_concept_lines) (pick (eqb j 4) (ltb (length (axioms_in s (words t) k.axioms)) most_axioms) true)) ≡ true) e
       (and_true (leb (length (list_of (get_or (row_at s p n) 0 0) (row_at s p n))) most_listed) (room_ok (known_in s t k) (get_or (row_at s p n) 0 0) (row_at s p n)) passed.limits).1
 
-  -- a line that is none of the first three sections' is an axiom
-  pub section_four : (section_of (get_or (row_at s p n) 0 0) ≡ 1 → ⊥) → (section_of (get_or (row_at s p n) 0 0) ≡ 2 → ⊥) → (section_of (get_or (row_at s p n) 0 0) ≡ 3 → ⊥) → section_of (get_or (row_at s p n) 0 0) ≡ 4
-  section_four a b c = let m = section_most (get_or (row_at s p n) 0 0) in let z : section_of (get_or (row_at s p n) 0 0) ≡ 0 → ⊥ = λ e. absurd (false≢true (order_is 0 e)) in omega arith
+  -- a good line is of a section
+  pub section_some : section_of (get_or (row_at s p n) 0 0) ≡ 0 → ⊥
+  section_some e = false≢true (order_is 0 e)
 
   -- ---- the header
   pub enter_header_law : section_of (get_or (row_at s p n) 0 0) ≡ 1 → Entered s t t p n k (with_header k (row_at s p n) (p + 11 * n + 1))
   unfolding entered tab
   enter_header_law e =
       let H = E.held in
-      let o = eqb-true k.section 0 (order_is 1 e) in
+      let o = eqb-true (section_number k.section) 0 (order_is 1 e) in
       let z : k.keys ≡ 0 = H.no_key (omega arith) in
       record {
         after = rw (e, z) refl;
@@ -93,7 +92,7 @@ module _ (s t : List ℕ) (p n : ℕ) (k : State) (E : Entering s t p n k) where
   unfolding entered
   enter_key_law e =
       let H = E.held in
-      let o = leb-true k.section 2 (and_true (leb 1 k.section) (leb k.section 2) (order_is 2 e)).1 in
+      let o = leb-true (section_number k.section) 2 (and_true (leb 1 (section_number k.section)) (leb (section_number k.section) 2) (order_is 2 e)).1 in
       let z : k.marks + 23 * k.keys ≡ p = H.last_key o in
       let q : n ≡ 2 = eqb-true n 2 (subst (λ (j : ℕ). fields_ok j n ≡ true) (key_kind (get_or (row_at s p n) 0 0) e) fields_are) in
       let r : key_in s k.marks k.keys ≡ get_or (row_at s p n) 1 0 = rw (z, q) refl in

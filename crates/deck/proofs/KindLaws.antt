@@ -1,27 +1,78 @@
 -- What the kinds say: a concept line of the right length is its concept's row, and so what a concept is can be read off its line.
 -- Assumes nothing.
 use mathlib.Core.Path.{◌≡◌, refl, sym, ap, subst, ◌∙◌}
-use mathlib.Core.Bool.{Bool, true, false, ◌&&◌}
-use mathlib.Core.List.{List, [], ◌∷◌, map}
-use mathlib.Core.Logic.{◌⊎◌, ⊎_elim}
-use Prim.Native.Nat.{ℕ, zero, suc, ◌+◌, ◌*◌, ◌-◌, ◌<◌, ◌≤◌}
+use mathlib.Core.Bool.{Bool, true, false}
+use mathlib.Core.List.{List, [], ◌∷◌, ◌++◌, map}
+use mathlib.Core.Logic.{⊎_elim}
+use Prim.Native.Nat.{ℕ, zero, suc, ◌+◌, ◌-◌, ◌<◌, ◌≤◌}
 use native.Mathlib.Omega.{arith}
 use borrow.Author.Tests.{eqb-true, eqb-false, leb-true, le-leb, lt-leb, ltb-true, ltb-false, not-true}
 use lib.Dec.{eqb, ltb, leb}
-use lib.ListN.{length, get_or, take, drop, length-drop}
+use lib.ListN.{length, get_or, take, drop, replicate, length-drop, get_or-map, get_or-eq_default}
 use lib.Seq.{get_or-take, get_or-drop}
 use mathlib.Core.Bool.{not}
 use Rattle.ir.specs.Pick.{pick}
-use Rattle.ir.specs.Roles.{role_of, role_code, code_role}
-use Rattle.ir.specs.declared.role.Role.{Role}
+use Rattle.ir.specs.Roles.{code_role}
 use Rattle.rules.specs.Base.{all}
 use Rattle.rules.specs.Concept.{Concept, concept_row}
 use Rattle.rules.specs.Concept.{Top, Bot, Atomic, Nominal, SelfRestriction, Not, And, Or, Some, All, Min, Max}
-use Rattle.rules.specs.Deck.{most_listed, sections, fixed_fields, section_of, fixed_of, list_of, concept_of, fields_ok, parts_of, member_of, under_and, under_or, list_ok, members_ok, bound_ok}
+use Rattle.rules.specs.Deck.{most_listed, sections, fixed_fields, list_kinds, section_of, fixed_of, list_of, concept_of, fields_ok, parts_of, member_of, under_and, under_or, list_ok, members_ok, bound_ok}
 use Rattle.rules.specs.DeckLaws.{all_each}
 use Rattle.rules.specs.Text.{most_number}
 use Rattle.rules.specs.TextLaws.{each_get_d, by_test, and_true}
-use Rattle.deck.specs.Records.{firsts, first_part, kind_member, under, IsList}
+use Rattle.deck.specs.Kinds.{Says}
+use Rattle.deck.specs.Records.{section_number, firsts, first_part, kind_member, under, IsList}
+use Rattle.deck.specs.declared.kinds.Kind.{Kind}
+use Rattle.deck.specs.declared.state.Section.{Section}
+use Rattle.deck.specs.declared.state.Section.TheVariants.{Header, Keys, Concepts, Axioms}
+use Rattle.std.specs.Prelude.{Option}
+use Rattle.std.specs.declared.option.Option.TheVariants as option
+
+-- ---- the code's table of kinds
+zeros : (m n : ℕ) → get_or (replicate {0} {A = ℕ} m 0) n 0 ≡ 0
+zeros zero n = refl
+zeros (suc m) zero = refl
+zeros (suc m) (suc n) = zeros m n
+
+padded : (l : List ℕ) (m n : ℕ) → get_or (l ++ replicate {0} {A = ℕ} m 0) n 0 ≡ get_or l n 0
+padded [] m n = zeros m n
+padded (x ∷ l) m zero = refl
+padded (x ∷ l) m (suc n) = padded l m n
+
+-- a kind that is none
+pub record SaysNothing (d : Kind) : Type 0 where
+  pub section : section_number d.section ≡ 0
+  pub fixed : d.fixed ≡ 0
+  pub listed : d.listed ≡ false
+  pub first : d.first ≡ 0
+
+-- the table's columns are those of the rules
+pub says : (l : List Kind) (d : Kind) (n : ℕ) → map (λ k. section_number k.section) l ≡ sections → map (λ k. k.fixed) l ≡ fixed_fields
+    → map (λ k. k.listed) l ≡ map (λ i. eqb i 1) list_kinds → map (λ k. k.first) l ≡ firsts ++ replicate 24 0 → SaysNothing d → Says (get_or l n d) n
+says l d n a b c e z = record {
+  section = sym (get_or-map (λ k. section_number k.section) l n d) ∙ rw (a, z.section) refl;
+  fixed = sym (get_or-map (λ k. k.fixed) l n d) ∙ rw (b, z.fixed) refl;
+  listed = sym (get_or-map (λ k. k.listed) l n d) ∙ rw (c, z.listed) (get_or-map (λ i. eqb i 1) list_kinds n 0);
+  first = sym (get_or-map (λ k. k.first) l n d) ∙ rw (e, z.first) (padded firsts 24 n);
+}
+
+pub says_none : (d : Kind) (n : ℕ) → SaysNothing d → 37 ≤ n → Says d n
+says_none d n z h =
+    let i : 13 ≤ n = omega arith in
+    record {
+      section = z.section ∙ sym (get_or-eq_default sections 0 h);
+      fixed = z.fixed ∙ sym (get_or-eq_default fixed_fields 0 h);
+      listed = z.listed ∙ sym (ap (λ i. eqb i 1) (get_or-eq_default list_kinds 0 h));
+      first = z.first ∙ sym (get_or-eq_default firsts 0 i);
+    }
+
+-- a section that is not that of the concepts
+pub no_concepts : (s : Option Section) → (s ≡ option.Some Concepts → ⊥) → eqb (section_number s) 3 ≡ false
+no_concepts option.None h = refl
+no_concepts (option.Some Header) h = refl
+no_concepts (option.Some Keys) h = refl
+no_concepts (option.Some Concepts) h = absurd (h refl)
+no_concepts (option.Some Axioms) h = refl
 
 pub fixed_most : (k : ℕ) → fixed_of k ≤ 4
 fixed_most k = each_get_d (λ n. n ≤ 4) fixed_fields k 0 (all_each (λ n. leb n 4) (λ n. n ≤ 4) (λ n. leb-true n 4) fixed_fields refl) (omega arith)

@@ -1,6 +1,6 @@
 -- The loop over the lines. Assumes nothing.
 use mathlib.Core.Path.{◌≡◌, refl, sym, ap, subst, ◌∙◌}
-use mathlib.Core.Bool.{true, false}
+use mathlib.Core.Bool.{true, true≢false}
 use mathlib.Core.List.{List, [], ◌∷◌}
 use Prim.Native.Nat.{ℕ, zero, suc, ◌+◌, ◌*◌, ◌-◌, ◌<◌, ◌≤◌}
 use native.Mathlib.Omega.{arith}
@@ -10,13 +10,47 @@ use lib.Seq.{sets, drop-cons}
 use Rattle.words.specs.Words.{words}
 use Rattle.words.specs.Laws.{length_words}
 use Rattle.words.specs.Runs.{get_d_sets_in}
-use Rattle.rules.specs.Text.{Row, row, broken_row, row_of}
+use Rattle.rules.specs.Text.{row, broken_row, row_of}
 use Rattle.rules.specs.TextLaws.{row_numbers}
-use Rattle.rules.specs.Deck.{Known, verdict, entered, Told, fine, refused, read_by, nothing, read_lines, most_bytes}
+use Rattle.rules.specs.Deck.{Known, verdict, fine, refused, read_by, nothing, read_lines, most_bytes}
 use Rattle.text.specs.Rows.{row_at, line_of}
 use Rattle.deck.specs.Index.{last}
-use Rattle.deck.specs.Records.{tab, sum, known_in, table_bytes, Numbers, Held, Entered, Fresh}
+use Rattle.deck.specs.Records.{tab, sum, known_in, verdict_number, table_bytes, Numbers, Held, Entered, Fresh}
+use Rattle.deck.specs.declared.state.Section.{Section}
 use Rattle.deck.specs.declared.state.State.{State}
+use Rattle.deck.specs.declared.Refused.{Refused}
+use Rattle.ir.specs.Refusals.{refusal_number}
+use Rattle.ir.specs.declared.refusal.Refusal.{Refusal}
+use Rattle.ir.specs.declared.refusal.Refusal.TheVariants.{WrongSize, BadColumns, BadLine, PastLimit, Undeclared, BadNesting, BadList, Repeated, LargestBound, VisitsSpent, PoolFull, NoRoom, BadState, WideClause}
+use Rattle.std.specs.Prelude.{Option, None, Result, Ok, Err, is_ok, MatchResult, IsErrAnd}
+use Prim.{Unit}
+
+-- ---- verdicts as they are answered
+pub refusal_some : (r : Refusal) → refusal_number r ≡ 0 → ⊥
+refusal_some WrongSize e = absurd (omega arith)
+refusal_some BadColumns e = absurd (omega arith)
+refusal_some BadLine e = absurd (omega arith)
+refusal_some PastLimit e = absurd (omega arith)
+refusal_some Undeclared e = absurd (omega arith)
+refusal_some BadNesting e = absurd (omega arith)
+refusal_some BadList e = absurd (omega arith)
+refusal_some Repeated e = absurd (omega arith)
+refusal_some LargestBound e = absurd (omega arith)
+refusal_some VisitsSpent e = absurd (omega arith)
+refusal_some PoolFull e = absurd (omega arith)
+refusal_some NoRoom e = absurd (omega arith)
+refusal_some BadState e = absurd (omega arith)
+refusal_some WideClause e = absurd (omega arith)
+
+pub good_number : (v : Result (Unit {0}) Refusal) → is_ok v ≡ true → verdict_number v ≡ 0
+good_number (Ok _) e = refl
+good_number (Err r) e = absurd (true≢false (sym e))
+
+-- m is v, with the line of a refusal
+pub bad_number : (v : Result (Unit {0}) Refusal) (m : Result (Unit {0}) Refused) (line : ℕ) (Q : Refusal → Refused → Type 0) → ((r : Refusal) (d : Refused) → Q r d → d ≡ record { refusal = r; line = line })
+    → is_ok m ≡ is_ok v → MatchResult v (λ x. m ≡ Ok x) (λ r. IsErrAnd m (Q r)) → (d : Refused) → m ≡ Err d → (refusal_number d.refusal ≡ verdict_number v) × (d.line ≡ line)
+bad_number (Ok x) m line Q g q h d e = absurd (true≢false (sym q ∙ ap is_ok e))
+bad_number (Err r) m line Q g q h d e = let k = g r d (rw e at h) in (rw k refl, rw k refl)
 
 -- a table whose index was cleared
 pub fresh_table : (t u : List ℕ) → table_bytes ≤ length t → length u ≡ length t → words u ≡ sets (words t) 5120 (replicate 1024 0) → Fresh u
@@ -35,7 +69,16 @@ pub record Going (s t₀ t : List ℕ) (k : State) (p line : ℕ) : Type 0 where
   pub rest : read_lines s ≡ read_by (length s + 2 - line) (known_in s t k) line (drop p s)
 
 abbrev pub started : State
-started = record { section = 0; classes = 0; individuals = 0; roles = 0; options = 0; marks = 0; keys = 0; concepts = 0; axioms = 0 }
+started = record { section = None; classes = 0; individuals = 0; roles = 0; options = 0; marks = 0; keys = 0; concepts = 0; axioms = 0 }
+
+abbrev state : Option Section → ℕ → ℕ → ℕ → ℕ → ℕ → ℕ → ℕ → ℕ → State
+state s a b c d e f g h = record { section = s; classes = a; individuals = b; roles = c; options = d; marks = e; keys = f; concepts = g; axioms = h }
+
+-- the default
+pub default_state : (k : State) → k.section ≡ None → k.classes ≡ 0 → k.individuals ≡ 0 → k.roles ≡ 0 → k.options ≡ 0 → k.marks ≡ 0 → k.keys ≡ 0 → k.concepts ≡ 0 → k.axioms ≡ 0 → k ≡ started
+default_state k a b c d e f g h i =
+    let q : state k.section k.classes k.individuals k.roles k.options k.marks k.keys k.concepts k.axioms ≡ started = rw (a, b, c, d, e, f, g, h, i) refl in
+    q
 
 none : (f : ℕ) (d : Known) (line : ℕ) → 0 < f → read_by f d line [] ≡ fine d
 unfolding read_by

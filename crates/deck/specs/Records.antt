@@ -1,18 +1,39 @@
 -- What the reader keeps of a deck, and what is known by it. A line is where it begins and its number of fields; its numbers stay in
 -- the deck.
-use Rattle.std.specs.Prelude.{◌≡◌, Bool, true, List, [], ◌∷◌, ◌++◌, ◌⊎◌, ℕ, zero, suc, ◌+◌, ◌*◌, ◌<◌, ◌≤◌, length, get_or, eqb}
+use Rattle.std.specs.Prelude.{◌≡◌, Bool, true, List, [], ◌∷◌, ◌++◌, ◌⊎◌, ℕ, zero, suc, ◌+◌, ◌*◌, ◌<◌, ◌≤◌, length, get_or, eqb, Option, Some, None, Result, Ok, Err}
 use Prim.{Unit}
 use Rattle.words.specs.Words.{words}
 use Rattle.ir.specs.Pick.{pick}
+use Rattle.ir.specs.Refusals.{refusal_number}
+use Rattle.ir.specs.declared.refusal.Refusal.{Refusal}
 use Rattle.rules.specs.Text.{most_number}
 use Rattle.rules.specs.Concept.{Concept, Axiom, concept_row}
 use Rattle.rules.specs.Deck.{most_bytes, most_concept_lines, most_axioms, most_depth, section_of, concept_of, axiom_of, Header, Known, known, fields_ok, Member, trivial, and_list, or_list, plain, under_and, under_or, verdict, entered, Told, fine, refused}
 use Rattle.rules.specs.Invariants.{Each}
 use Rattle.text.specs.Rows.{row_at}
 use Rattle.deck.specs.Index.{hash_of, Indexed}
+use Rattle.deck.specs.declared.row.Row.{Row}
+use Rattle.deck.specs.declared.state.Section.{Section}
+use Rattle.deck.specs.declared.state.Section.TheVariants.{Header as HeaderSection, Keys, Concepts, Axioms}
 use Rattle.deck.specs.declared.state.State.{State}
-use Rattle.deck.specs.declared.Answer.{Answer}
-use Rattle.deck.specs.declared.Answer.TheVariants.{Accepted, Refused}
+use Rattle.deck.specs.declared.Refused.{Refused}
+
+-- ---- sections
+abbrev pub section_code : Section → ℕ
+section_code HeaderSection = 1
+section_code Keys = 2
+section_code Concepts = 3
+section_code Axioms = 4
+
+-- of a line that may be of none, or stand first
+abbrev pub section_number : Option Section → ℕ
+section_number None = 0
+section_number (Some s) = section_code s
+
+-- a verdict's number
+abbrev pub verdict_number : Result (Unit {0}) Refusal → ℕ
+verdict_number (Ok _) = 0
+verdict_number (Err r) = refusal_number r
 
 -- ---- kinds
 -- where the concepts that a concept line names begin, which are the rest of the line
@@ -38,16 +59,16 @@ abbrev pub header_in : State → Header
 header_in k = record { classes = k.classes; individuals = k.individuals; roles = k.roles; options = k.options }
 
 abbrev pub with_header : State → List ℕ → ℕ → State
-with_header k r q = record { section = 1; classes = get_or r 1 0; individuals = get_or r 2 0; roles = get_or r 3 0; options = get_or r 4 0; marks = q; keys = k.keys; concepts = k.concepts; axioms = k.axioms }
+with_header k r q = record { section = Some HeaderSection; classes = get_or r 1 0; individuals = get_or r 2 0; roles = get_or r 3 0; options = get_or r 4 0; marks = q; keys = k.keys; concepts = k.concepts; axioms = k.axioms }
 
 abbrev pub with_key : State → State
-with_key k = record { section = 2; classes = k.classes; individuals = k.individuals; roles = k.roles; options = k.options; marks = k.marks; keys = k.keys + 1; concepts = k.concepts; axioms = k.axioms }
+with_key k = record { section = Some Keys; classes = k.classes; individuals = k.individuals; roles = k.roles; options = k.options; marks = k.marks; keys = k.keys + 1; concepts = k.concepts; axioms = k.axioms }
 
 abbrev pub with_concept : State → State
-with_concept k = record { section = 3; classes = k.classes; individuals = k.individuals; roles = k.roles; options = k.options; marks = k.marks; keys = k.keys; concepts = k.concepts + 1; axioms = k.axioms }
+with_concept k = record { section = Some Concepts; classes = k.classes; individuals = k.individuals; roles = k.roles; options = k.options; marks = k.marks; keys = k.keys; concepts = k.concepts + 1; axioms = k.axioms }
 
 abbrev pub with_axiom : State → State
-with_axiom k = record { section = 4; classes = k.classes; individuals = k.individuals; roles = k.roles; options = k.options; marks = k.marks; keys = k.keys; concepts = k.concepts; axioms = k.axioms + 1 }
+with_axiom k = record { section = Some Axioms; classes = k.classes; individuals = k.individuals; roles = k.roles; options = k.options; marks = k.marks; keys = k.keys; concepts = k.concepts; axioms = k.axioms + 1 }
 
 -- what the state says of all that is known
 pub record Counted (k : State) (d : Known) : Type 0 where
@@ -115,7 +136,7 @@ keys_in s marks n = tab (key_in s marks) n
 
 -- all that is known, by the deck, the table and the state
 abbrev pub known_in : List ℕ → List ℕ → State → Known
-known_in s t k = known k.section (header_in k) (keys_in s k.marks k.keys) (concepts_in s (words t) k.concepts) (depths_in (words t) k.concepts) (axioms_in s (words t) k.axioms)
+known_in s t k = known (section_number k.section) (header_in k) (keys_in s k.marks k.keys) (concepts_in s (words t) k.concepts) (depths_in (words t) k.concepts) (axioms_in s (words t) k.axioms)
 
 -- ---- what holds of them
 abbrev pub hash_in : List ℕ → List ℕ → ℕ → ℕ
@@ -151,8 +172,8 @@ pub record Held (s t : List ℕ) (k : State) (p : ℕ) : Type 0 where
   pub rows : (i : ℕ) → i < k.axioms → AxiomLine (axiom_row_in s (words t) i)
   pub used : 11 * sum (axiom_fields (words t)) k.axioms ≤ p
   pub keys : k.marks + 23 * k.keys ≤ length s
-  pub last_key : k.section ≤ 2 → k.marks + 23 * k.keys ≡ p
-  pub no_key : k.section ≤ 1 → k.keys ≡ 0
+  pub last_key : section_number k.section ≤ 2 → k.marks + 23 * k.keys ≡ p
+  pub no_key : section_number k.section ≤ 1 → k.keys ≡ 0
 
 -- a concept line of kind j with n fields at p, of the right number
 pub record ConceptLine (s : List ℕ) (p n j : ℕ) : Type 0 where
@@ -160,6 +181,9 @@ pub record ConceptLine (s : List ℕ) (p n j : ℕ) : Type 0 where
   pub kind : j ≡ get_or (row_at s p n) 0 0
   pub section : section_of j ≡ 3
   pub fields : fields_ok j n ≡ true
+
+abbrev pub IsConceptLine : Row → ℕ → Type 0
+IsConceptLine r j = ConceptLine r.deck.now r.line.begin r.line.fields j
 
 -- a good line of n fields at p, and what it leaves
 pub record Entering (s t : List ℕ) (p n : ℕ) (k : State) : Type 0 where
@@ -172,17 +196,23 @@ pub record Entered (s t t₁ : List ℕ) (p n : ℕ) (k k₁ : State) : Type 0 w
   pub after : known_in s t₁ k₁ ≡ entered (known_in s t k) (get_or (row_at s p n) 0 0) (row_at s p n)
   pub held : Held s t₁ k₁ (p + 11 * n + 1)
 
+abbrev pub RowEntering : Row → List ℕ → State → Type 0
+RowEntering r t k = Entering r.deck.now t r.line.begin r.line.fields k
+
+abbrev pub RowEntered : Row → List ℕ → List ℕ → State → State → Type 0
+RowEntered r t t₁ k k₁ = Entered r.deck.now t t₁ r.line.begin r.line.fields k k₁
+
 -- ---- the whole deck
 -- a table with an empty index
 pub record Fresh (t : List ℕ) : Type 0 where
   pub room : table_bytes ≤ length t
   pub heads : (h : ℕ) → h < 1024 → get_or (words t) (heads_at + h) 0 ≡ 0
 
-abbrev pub told_of : List ℕ → List ℕ → Answer → Told
-told_of s t (Accepted k) = fine (known_in s t k)
-told_of s t (Refused n line) = refused n line
+abbrev pub told_of : List ℕ → List ℕ → Result State Refused → Told
+told_of s t (Ok k) = fine (known_in s t k)
+told_of s t (Err r) = refused (refusal_number r.refusal) r.line
 
 -- the records of a deck that was accepted
-abbrev pub Kept : List ℕ → List ℕ → Answer → Type 0
-Kept s t (Accepted k) = Held s t k (length s)
-Kept s t (Refused n line) = Unit
+abbrev pub Kept : List ℕ → List ℕ → Result State Refused → Type 0
+Kept s t (Ok k) = Held s t k (length s)
+Kept s t (Err r) = Unit {0}

@@ -1,7 +1,7 @@
 -- Laws of tabulated lists. Assumes nothing.
-use Rattle.std.specs.Prelude.{◌≡◌, Bool, true, false, ◌||◌, ltb, length}
+use Rattle.std.specs.Prelude.{◌≡◌, Bool, ◌||◌, ltb, length}
 use Rattle.std.proofs.Math.Path.{refl}
-use Rattle.std.proofs.Common.{sym, ap, ap₂, subst, ◌∙◌, add-one}
+use Rattle.std.proofs.Common.{sym, ap, ◌∙◌, add-one}
 use mathlib.Core.List.{List, [], ◌∷◌, ◌++◌}
 use Prim.Native.Nat.{ℕ, zero, suc, ◌+◌, ◌<◌, ◌≤◌}
 use native.Mathlib.Omega.{arith}

@@ -1,73 +1,77 @@
 // What a good line leaves: the header's numbers, a count, and a concept's or an axiom's record.
 ghost use Rattle.std.specs.Prelude.{◌≡◌, ◌+◌, ◌*◌, ◌≤◌, ◌<◌, length, get_or};
 ghost use Rattle.rules.specs.Deck.{section_of};
-ghost use Rattle.text.specs.Rows.{row_at};
-ghost use Rattle.deck.specs.Records.{Entering, Entered, with_header, with_key};
+ghost use Rattle.deck.specs.Records.{with_header, with_key, RowEntering, RowEntered};
+ghost use Rattle.deck.specs.Rows.{numbers};
 
-use crate::state::State;
-use crate::{concepts, kinds, row, table};
+use crate::row::Row;
+use crate::state::{Section, State};
+use crate::{concepts, kinds, table};
 
-fn enter_header(deck: &[u8], p: usize, n: usize, mut st: State) -> State
-    requires { p + 11 * n < length deck.now }
-    ensures { result ≡ with_header st (row_at deck.now p n) (p + 11 * n + 1) }
+fn enter_header(row: &Row, st: State) -> State
+    requires { row.now.line.begin + 11 * row.now.line.fields < length row.now.deck.now }
+    ensures { result ≡ with_header st (numbers row.now) (row.now.line.begin + 11 * row.now.line.fields + 1) }
 {
-    st.section = 1;
-    st.classes = text::entry(deck, p, n, 1);
-    st.individuals = text::entry(deck, p, n, 2);
-    st.roles = text::entry(deck, p, n, 3);
-    st.options = text::entry(deck, p, n, 4);
-    st.marks = p + 11 * n + 1;
-    st
+    State {
+        section: Some(Section::Header),
+        classes: row.entry(1),
+        individuals: row.entry(2),
+        roles: row.entry(3),
+        options: row.entry(4),
+        marks: row.behind(),
+        ..st
+    }
 }
 
-fn enter_key(mut st: State) -> State
+fn enter_key(st: State) -> State
     requires { st.keys ≤ 65536 }
     ensures { result ≡ with_key st }
 {
-    st.section = 2;
-    st.keys += 1;
-    st
+    State {
+        section: Some(Section::Keys),
+        keys: st.keys + 1,
+        ..st
+    }
 }
 
-fn enter_concept(deck: &[u8], t: &mut [u8], p: usize, n: usize, kind: usize, mut st: State) -> State
-    requires { Entering deck.now t.old p n st × (kind ≡ get_or (row_at deck.now p n) 0 0) × (section_of kind ≡ 3) }
-    ensures { Entered deck.now t.old t.new p n st result }
+fn enter_concept(row: &Row, t: &mut [u8], kind: usize, st: State) -> State
+    requires { RowEntering row.now t.old st × (kind ≡ get_or (numbers row.now) 0 0) × (section_of kind ≡ 3) }
+    ensures { RowEntered row.now t.old t.new st result }
 {
     let i = st.concepts;
-    let depth = concepts::deepest_of(deck, t, p, n, kinds::first_part(kind), i) + 1;
-    let hash = row::hash_row(deck, p, n);
-    table::put_concept(t, i, p, n, depth);
-    table::remember(t, i, hash);
-    st.section = 3;
-    st.concepts = i + 1;
-    st
+    let depth = concepts::deepest_of(row, t, kinds::first_part(kind), i) + 1;
+    table::put_concept(t, i, row.line, depth);
+    table::remember(t, i, row.hash());
+    State {
+        section: Some(Section::Concepts),
+        concepts: i + 1,
+        ..st
+    }
 }
 
-fn enter_axiom(deck: &[u8], t: &mut [u8], p: usize, n: usize, mut st: State) -> State
-    requires { Entering deck.now t.old p n st × (section_of (get_or (row_at deck.now p n) 0 0) ≡ 4) }
-    ensures { Entered deck.now t.old t.new p n st result }
+fn enter_axiom(row: &Row, t: &mut [u8], st: State) -> State
+    requires { RowEntering row.now t.old st × (section_of (get_or (numbers row.now) 0 0) ≡ 4) }
+    ensures { RowEntered row.now t.old t.new st result }
 {
     let i = st.axioms;
-    table::put_axiom(t, i, p, n);
-    st.section = 4;
-    st.axioms = i + 1;
-    st
+    table::put_axiom(t, i, row.line);
+    State {
+        section: Some(Section::Axioms),
+        axioms: i + 1,
+        ..st
+    }
 }
 
-pub fn enter(deck: &[u8], t: &mut [u8], p: usize, n: usize, st: State) -> State
-    requires { Entering deck.now t.old p n st }
-    ensures { Entered deck.now t.old t.new p n st result }
+pub fn enter(row: &Row, t: &mut [u8], st: State) -> State
+    requires { RowEntering row.now t.old st }
+    ensures { RowEntered row.now t.old t.new st result }
 {
-    let kind = text::entry(deck, p, n, 0);
-    let s = kinds::section_of(kind);
-    if s == 1 {
-        return enter_header(deck, p, n, st);
+    let kind = row.entry(0);
+    match kinds::section_of(kind) {
+        Some(Section::Header) => enter_header(row, st),
+        Some(Section::Keys) => enter_key(st),
+        Some(Section::Concepts) => enter_concept(row, t, kind, st),
+        Some(Section::Axioms) => enter_axiom(row, t, st),
+        None => unreachable!(),
     }
-    if s == 2 {
-        return enter_key(st);
-    }
-    if s == 3 {
-        return enter_concept(deck, t, p, n, kind, st);
-    }
-    enter_axiom(deck, t, p, n, st)
 }

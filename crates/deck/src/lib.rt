@@ -14,85 +14,87 @@ pub mod table;
 ghost use Rattle.std.specs.Prelude.{◌≡◌, ◌+◌, ◌*◌, ◌≤◌, ◌<◌, length, get_or};
 ghost use Rattle.words.specs.Words.{words};
 ghost use Rattle.rules.specs.Deck.{verdict as verdict_of, read_lines, read_deck};
-ghost use Rattle.text.specs.Rows.{row_at};
-ghost use Rattle.deck.specs.Records.{table_bytes, keys_in, known_in, told_of, Held, Kept, Fresh};
+ghost use Rattle.deck.specs.Records.{table_bytes, keys_in, known_in, told_of, verdict_number, Held, Kept, Fresh};
+ghost use Rattle.deck.specs.Rows.{numbers};
 
-use crate::state::State;
+use crate::row::{Line, Row};
+use crate::state::{Section, State};
+use ir::refusal::Refusal;
 
-// The reader's answer: what is known, or a refusal's number and its line.
-#[derive(Clone, Copy)]
-pub enum Answer {
-    Accepted(State),
-    Refused(usize, usize),
+// Why a deck is refused, and its line, from 1, or 0 where none is named.
+#[derive(Clone, Copy, PartialEq, Eq, Debug)]
+pub struct Refused {
+    pub refusal: Refusal,
+    pub line: usize,
 }
 
-// The number of the first check from 3 on that the line of n fields at p fails; 0 where there is none.
-fn verdict(deck: &[u8], t: &[u8], p: usize, n: usize, st: State) -> usize
-    requires { (p + 11 * n ≤ length deck.now) × Held deck.now t.now st p }
-    ensures { result ≡ verdict_of (known_in deck.now t.now st) (get_or (row_at deck.now p n) 0 0) (row_at deck.now p n) }
+// The checks from 3 on; the first that the line fails.
+fn verdict(row: &Row, t: &[u8], st: State) -> Result<(), Refusal>
+    requires { Held row.now.deck.now t.now st row.now.line.begin }
+    ensures { verdict_number result ≡ verdict_of (known_in row.now.deck.now t.now st) (get_or (numbers row.now) 0 0) (numbers row.now) }
 {
-    let kind = text::entry(deck, p, n, 0);
-    if !kinds::shape(st.section, kind, n) {
-        return 3;
+    let kind = row.entry(0);
+    if !kinds::shape(st.section, kind, row.line.fields) {
+        return Err(Refusal::BadLine);
     }
-    if !limits::limits(deck, p, n, kind, st) {
-        return 4;
+    if !limits::limits(row, kind, st) {
+        return Err(Refusal::PastLimit);
     }
-    if !names::names(deck, p, n, kind, st) {
-        return 5;
+    if !names::names(row, kind, st) {
+        return Err(Refusal::Undeclared);
     }
-    if kinds::section_of(kind) == 3 {
-        return concepts::concept(deck, t, p, n, kind, st);
+    if kinds::section_of(kind) == Some(Section::Concepts) {
+        concepts::concept(row, t, kind, st)
+    } else {
+        Ok(())
     }
-    0
 }
 
-fn read_lines(deck: &[u8], t: &mut [u8]) -> Answer
+fn read_lines(deck: &[u8], t: &mut [u8]) -> Result<State, Refused>
     requires { (length deck.now ≤ 65536) × Fresh t.old }
     ensures result_after { told_of deck.now t.new result ≡ read_lines deck.now }
     ensures kept { Kept deck.now t.new result }
 {
-    let len = deck.len();
-    if len == 0 {
-        return Answer::Refused(3, 1);
+    if deck.is_empty() {
+        return Err(Refused {
+            refusal: Refusal::BadLine,
+            line: 1,
+        });
     }
-    let mut st = State {
-        section: 0,
-        classes: 0,
-        individuals: 0,
-        roles: 0,
-        options: 0,
-        marks: 0,
-        keys: 0,
-        concepts: 0,
-        axioms: 0,
-    };
-    let mut p: usize = 0;
+    let mut st = State::default();
+    let mut begin: usize = 0;
     let mut line: usize = 1;
-    while p < len {
-        let n = text::fields(deck, p);
-        if n == 0 {
-            return Answer::Refused(2, line);
+    while begin < deck.len() {
+        let fields = text::fields(deck, begin);
+        if fields == 0 {
+            return Err(Refused {
+                refusal: Refusal::BadColumns,
+                line,
+            });
         }
-        let v = verdict(deck, t, p, n, st);
-        if v != 0 {
-            return Answer::Refused(v, line);
-        }
-        st = enter::enter(deck, t, p, n, st);
-        p = p + 11 * n + 1;
+        let row = Row {
+            deck,
+            line: Line { begin, fields },
+        };
+        verdict(&row, t, st).map_err(|refusal| Refused { refusal, line })?;
+        st = enter::enter(&row, t, st);
+        begin = row.behind();
         line += 1;
     }
-    Answer::Accepted(st)
+    Ok(st)
 }
 
 // The deck, checked line by line. The table takes the records; where the deck is refused, it holds those of the lines before.
-pub fn read(deck: &[u8], t: &mut [u8]) -> Answer
+pub fn read(deck: &[u8], t: &mut [u8]) -> Result<State, Refused>
     requires { table_bytes ≤ length t.old }
     ensures result_after { told_of deck.now t.new result ≡ read_deck deck.now }
     ensures kept { Kept deck.now t.new result }
 {
     if 65536 < deck.len() {
-        return Answer::Refused(2, 0);
+        return Err(Refused {
+            refusal: Refusal::BadColumns,
+            line: 0,
+        });
     }
     words::clear_words(t, 5120, 1024);
     read_lines(deck, t)

@@ -1,52 +1,33 @@
 // 4: the header's numbers, the list's length, and room for one more concept or axiom.
-ghost use Rattle.std.specs.Prelude.{◌≡◌, ◌+◌, ◌*◌, ◌≤◌, length};
+ghost use Rattle.std.specs.Prelude.{◌≡◌};
 ghost use Rattle.rules.specs.Deck.{Known, header_of, header_ok, room_ok, limits_ok};
-ghost use Rattle.text.specs.Rows.{row_at};
 ghost use Rattle.deck.specs.Records.{Counted};
+ghost use Rattle.deck.specs.Rows.{numbers};
 
 use crate::kinds;
-use crate::state::State;
+use crate::row::Row;
+use crate::state::{Section, State};
 
-fn header_fine(deck: &[u8], p: usize, n: usize) -> bool
-    requires { p + 11 * n ≤ length deck.now }
-    ensures { result ≡ header_ok (header_of (row_at deck.now p n)) }
+fn header_fine(row: &Row) -> bool
+    ensures { result ≡ header_ok (header_of (numbers row.now)) }
 {
-    if 4096 < text::entry(deck, p, n, 1) {
-        return false;
-    }
-    if 4096 < text::entry(deck, p, n, 2) {
-        return false;
-    }
-    if 1024 < text::entry(deck, p, n, 3) {
-        return false;
-    }
-    text::entry(deck, p, n, 4) <= 7
+    row.entry(1) <= 4096 && row.entry(2) <= 4096 && row.entry(3) <= 1024 && row.entry(4) <= 7
 }
 
-fn room(deck: &[u8], p: usize, n: usize, kind: usize, st: State) -> bool
-    requires { p + 11 * n ≤ length deck.now }
-    ensures { (d : Known) → Counted st d → result ≡ room_ok d kind (row_at deck.now p n) }
+fn room(row: &Row, kind: usize, st: State) -> bool
+    ensures { (d : Known) → Counted st d → result ≡ room_ok d kind (numbers row.now) }
 {
-    let s = kinds::section_of(kind);
-    if s == 1 {
-        return header_fine(deck, p, n);
+    match kinds::section_of(kind) {
+        Some(Section::Header) => header_fine(row),
+        Some(Section::Concepts) => st.concepts < 1024,
+        Some(Section::Axioms) => st.axioms < 1024,
+        _ => true,
     }
-    if s == 3 {
-        return st.concepts < 1024;
-    }
-    if s == 4 {
-        return st.axioms < 1024;
-    }
-    true
 }
 
 // The answer for all that is known beside the state's numbers.
-pub fn limits(deck: &[u8], p: usize, n: usize, kind: usize, st: State) -> bool
-    requires { p + 11 * n ≤ length deck.now }
-    ensures { (d : Known) → Counted st d → result ≡ limits_ok d kind (row_at deck.now p n) }
+pub fn limits(row: &Row, kind: usize, st: State) -> bool
+    ensures { (d : Known) → Counted st d → result ≡ limits_ok d kind (numbers row.now) }
 {
-    if n <= 129 + kinds::fixed_of(kind) {
-        return room(deck, p, n, kind, st);
-    }
-    false
+    row.line.fields <= 129 + kinds::fixed_of(kind) && room(row, kind, st)
 }

@@ -1,72 +1,66 @@
 // 5: the classes, individuals and roles of a line, and an axiom's concepts, are declared.
-ghost use Rattle.std.specs.Prelude.{◌≡◌, ◌+◌, ◌*◌, ◌≤◌, length};
+ghost use Rattle.std.specs.Prelude.{◌≡◌};
 ghost use Rattle.rules.specs.Deck.{concept_of, axiom_of, Known, concept_names_ok, axiom_names_ok, names_ok};
-ghost use Rattle.text.specs.Rows.{row_at};
 ghost use Rattle.deck.specs.Records.{header_in, Counted};
+ghost use Rattle.deck.specs.Rows.{numbers};
 
-use crate::state::State;
-use crate::{kinds, row};
+use crate::kinds;
+use crate::row::Row;
+use crate::state::{Section, State};
 
-fn concept_names(deck: &[u8], p: usize, n: usize, kind: usize, st: State) -> bool
-    requires { p + 11 * n ≤ length deck.now }
-    ensures { result ≡ concept_names_ok (header_in st) (concept_of kind (row_at deck.now p n)) }
+// Each kind has an arm of its own: an arm of several numbers leaves the proof no equation of the kind.
+fn concept_names(row: &Row, kind: usize, st: State) -> bool
+    ensures { result ≡ concept_names_ok (header_in st) (concept_of kind (numbers row.now)) }
 {
     match kind {
         1 => true,
         2 => true,
-        3 => row::below(deck, p, n, 1, st.classes),
-        4 => row::below(deck, p, n, 1, st.individuals),
-        5 => row::role_below(deck, p, n, 1, st.roles),
+        3 => row.below(1, st.classes),
+        4 => row.below(1, st.individuals),
+        5 => row.role_below(1, st.roles),
         6 => true,
         7 => true,
         8 => true,
-        9 => row::role_below(deck, p, n, 1, st.roles),
-        10 => row::role_below(deck, p, n, 1, st.roles),
-        11 => row::role_below(deck, p, n, 2, st.roles),
-        _ => row::role_below(deck, p, n, 2, st.roles),
+        9 => row.role_below(1, st.roles),
+        10 => row.role_below(1, st.roles),
+        11 => row.role_below(2, st.roles),
+        _ => row.role_below(2, st.roles),
     }
 }
 
-fn axiom_names(deck: &[u8], p: usize, n: usize, kind: usize, st: State) -> bool
-    requires { p + 11 * n ≤ length deck.now }
-    ensures { result ≡ axiom_names_ok (header_in st) st.concepts (axiom_of kind (row_at deck.now p n)) }
+fn axiom_names(row: &Row, kind: usize, st: State) -> bool
+    ensures { result ≡ axiom_names_ok (header_in st) st.concepts (axiom_of kind (numbers row.now)) }
 {
     let concepts = st.concepts;
     let roles = st.roles;
     match kind {
-        21 => row::below(deck, p, n, 1, concepts) && row::below(deck, p, n, 2, concepts),
-        22 => row::all_below(deck, p, n, 1, concepts),
-        23 => row::all_below(deck, p, n, 1, concepts),
-        24 => row::below(deck, p, n, 1, st.classes) && row::all_below(deck, p, n, 2, concepts),
-        25 => row::role_below(deck, p, n, 1, roles) && row::below(deck, p, n, 2, concepts),
-        26 => row::role_below(deck, p, n, 1, roles) && row::below(deck, p, n, 2, concepts),
-        27 => row::role_below(deck, p, n, 1, roles) && row::all_roles_below(deck, p, n, 2, roles),
-        28 => row::role_below(deck, p, n, 1, roles),
-        29 => row::role_below(deck, p, n, 1, roles),
-        30 => row::role_below(deck, p, n, 1, roles),
-        31 => row::all_roles_below(deck, p, n, 1, roles),
-        32 => row::role_below(deck, p, n, 1, roles) && row::role_below(deck, p, n, 2, roles),
-        33 => row::role_below(deck, p, n, 1, roles) && row::role_below(deck, p, n, 2, roles),
-        34 => row::all_roles_below(deck, p, n, 1, roles),
-        35 => row::role_below(deck, p, n, 1, roles),
-        _ => row::below(deck, p, n, 1, concepts) && row::below(deck, p, n, 2, st.individuals),
+        21 => row.below(1, concepts) && row.below(2, concepts),
+        22 => row.all_below(1, concepts),
+        23 => row.all_below(1, concepts),
+        24 => row.below(1, st.classes) && row.all_below(2, concepts),
+        25 => row.role_below(1, roles) && row.below(2, concepts),
+        26 => row.role_below(1, roles) && row.below(2, concepts),
+        27 => row.role_below(1, roles) && row.all_roles_below(2, roles),
+        28 => row.role_below(1, roles),
+        29 => row.role_below(1, roles),
+        30 => row.role_below(1, roles),
+        31 => row.all_roles_below(1, roles),
+        32 => row.role_below(1, roles) && row.role_below(2, roles),
+        33 => row.role_below(1, roles) && row.role_below(2, roles),
+        34 => row.all_roles_below(1, roles),
+        35 => row.role_below(1, roles),
+        _ => row.below(1, concepts) && row.below(2, st.individuals),
     }
 }
 
 // The answer for all that is known beside the state's numbers.
-pub fn names(deck: &[u8], p: usize, n: usize, kind: usize, st: State) -> bool
-    requires { p + 11 * n ≤ length deck.now }
-    ensures { (d : Known) → Counted st d → result ≡ names_ok d kind (row_at deck.now p n) }
+pub fn names(row: &Row, kind: usize, st: State) -> bool
+    ensures { (d : Known) → Counted st d → result ≡ names_ok d kind (numbers row.now) }
 {
-    let s = kinds::section_of(kind);
-    if s == 2 {
-        return row::below(deck, p, n, 1, st.classes);
+    match kinds::section_of(kind) {
+        Some(Section::Keys) => row.below(1, st.classes),
+        Some(Section::Concepts) => concept_names(row, kind, st),
+        Some(Section::Axioms) => axiom_names(row, kind, st),
+        _ => true,
     }
-    if s == 3 {
-        return concept_names(deck, p, n, kind, st);
-    }
-    if s == 4 {
-        return axiom_names(deck, p, n, kind, st);
-    }
-    true
 }

@@ -1,100 +1,128 @@
-// Tests over the numbers of a line, read where they stand.
-ghost use Rattle.std.specs.Prelude.{◌≡◌, ◌&&◌, ◌+◌, ◌*◌, ◌≤◌, ◌<◌, ltb, length, get_or, drop};
-ghost use Rattle.ir.specs.Records.{same_words};
-ghost use Rattle.ir.specs.Roles.{role_id, role_of};
-ghost use Rattle.rules.specs.Base.{all};
-ghost use Rattle.rules.specs.Deck.{role_at, rising};
-ghost use Rattle.text.specs.Rows.{row_at};
-ghost use Rattle.deck.specs.Index.{hash_of};
+// A line of a deck, its numbers read where they stand.
+ghost use Rattle.std.specs.Prelude.{◌+◌, ◌*◌, ◌≤◌, length};
 
-pub fn below(deck: &[u8], p: usize, n: usize, k: usize, bound: usize) -> bool
-    requires { p + 11 * n ≤ length deck.now }
-    ensures { result ≡ ltb (get_or (row_at deck.now p n) k 0) bound }
-{
-    text::entry(deck, p, n, k) < bound
+// Where a line begins and its number of fields.
+#[derive(Clone, Copy)]
+pub struct Line {
+    pub begin: usize,
+    pub fields: usize,
 }
 
-pub fn role_below(deck: &[u8], p: usize, n: usize, k: usize, roles: usize) -> bool
-    requires { p + 11 * n ≤ length deck.now }
-    ensures { result ≡ ltb (role_id (role_at (row_at deck.now p n) k)) roles }
-{
-    text::entry(deck, p, n, k) / 2 < roles
+#[derive(Clone, Copy)]
+pub struct Row<'a> {
+    pub deck: &'a [u8],
+    pub line: Line,
+    pub ghost within: { line.begin + 11 * line.fields ≤ length deck.now },
 }
 
-pub fn all_below(deck: &[u8], p: usize, n: usize, from: usize, bound: usize) -> bool
-    requires { p + 11 * n ≤ length deck.now }
-    ensures { result ≡ all (λ c. ltb c bound) (drop from (row_at deck.now p n)) }
-{
-    let mut k = from;
-    while k < n {
-        if bound <= text::field(deck, p, n, k) {
+impl<'a> Row<'a> {
+    ghost use Rattle.std.specs.Prelude.{◌≡◌, ◌<◌, ◌^◌, ℕ, Bool, ltb, get_or, drop};
+    ghost use Rattle.ir.specs.Records.{same_words};
+    ghost use Rattle.ir.specs.Roles.{role_id, role_of};
+    ghost use Rattle.rules.specs.Base.{all};
+    ghost use Rattle.rules.specs.Deck.{role_at, rising};
+    ghost use Rattle.rules.specs.Invariants.{Each};
+    ghost use Rattle.deck.specs.Index.{hash_of};
+    ghost use Rattle.deck.specs.Rows.{numbers};
+
+    // The place behind the line feed.
+    pub fn behind(&self) -> usize
+        requires { self.now.line.begin + 11 * self.now.line.fields < length self.now.deck.now }
+        ensures { result ≡ self.now.line.begin + 11 * self.now.line.fields + 1 }
+    {
+        self.line.begin + 11 * self.line.fields + 1
+    }
+
+    // Number k.
+    pub fn field(&self, k: usize) -> usize
+        requires { k < self.now.line.fields }
+        ensures { result ≡ get_or (numbers self.now) k 0 }
+    {
+        text::field(self.deck, self.line.begin, self.line.fields, k)
+    }
+
+    // The same, and 0 where the line has no number k.
+    pub fn entry(&self, k: usize) -> usize
+        ensures { result ≡ get_or (numbers self.now) k 0 }
+    {
+        text::entry(self.deck, self.line.begin, self.line.fields, k)
+    }
+
+    pub fn below(&self, k: usize, bound: usize) -> bool
+        ensures { result ≡ ltb (get_or (numbers self.now) k 0) bound }
+    {
+        self.entry(k) < bound
+    }
+
+    pub fn role_below(&self, k: usize, roles: usize) -> bool
+        ensures { result ≡ ltb (role_id (role_at (numbers self.now) k)) roles }
+    {
+        self.entry(k) / 2 < roles
+    }
+
+    // The numbers from `from` on pass the test.
+    pub fn all<F: Fn(usize) -> bool>(&self, from: usize, test: F) -> bool
+        requires { Each (F.pre test) (drop from (numbers self.now)) }
+        ensures { (q : ℕ → Bool) → ((x : ℕ) (b : Bool) → x < 2 ^ 64 → F.pre test x → F.post test x b → b ≡ q x) → result ≡ all q (drop from (numbers self.now)) }
+    {
+        for k in from..self.line.fields {
+            if !test(self.field(k)) {
+                return false;
+            }
+        }
+        true
+    }
+
+    pub fn all_below(&self, from: usize, bound: usize) -> bool
+        ensures { result ≡ all (λ c. ltb c bound) (drop from (numbers self.now)) }
+    {
+        self.all(from, |c| c < bound)
+    }
+
+    pub fn all_roles_below(&self, from: usize, roles: usize) -> bool
+        ensures { result ≡ all (λ c. ltb (role_id (role_of c)) roles) (drop from (numbers self.now)) }
+    {
+        self.all(from, |code| code / 2 < roles)
+    }
+
+    // The numbers from 1 on rise strictly.
+    pub fn rises(&self) -> bool
+        ensures { result ≡ rising (drop 1 (numbers self.now)) }
+    {
+        let mut last = self.entry(1);
+        for k in 2..self.line.fields {
+            let x = self.field(k);
+            if x <= last {
+                return false;
+            }
+            last = x;
+        }
+        true
+    }
+
+    // The two lines have the same numbers.
+    pub fn same_numbers(&self, other: &Row) -> bool
+        ensures { result ≡ same_words (numbers self.now) (numbers other.now) }
+    {
+        if self.line.fields != other.line.fields {
             return false;
         }
-        k += 1;
-    }
-    true
-}
-
-pub fn all_roles_below(deck: &[u8], p: usize, n: usize, from: usize, roles: usize) -> bool
-    requires { p + 11 * n ≤ length deck.now }
-    ensures { result ≡ all (λ c. ltb (role_id (role_of c)) roles) (drop from (row_at deck.now p n)) }
-{
-    let mut k = from;
-    while k < n {
-        if roles <= text::field(deck, p, n, k) / 2 {
-            return false;
+        for k in 0..self.line.fields {
+            if self.field(k) != other.field(k) {
+                return false;
+            }
         }
-        k += 1;
+        true
     }
-    true
-}
 
-// The numbers from 1 on rise strictly.
-pub fn rises(deck: &[u8], p: usize, n: usize) -> bool
-    requires { (p + 11 * n ≤ length deck.now) × (1 < n) }
-    ensures { result ≡ rising (drop 1 (row_at deck.now p n)) }
-{
-    let mut x = text::field(deck, p, n, 1);
-    let mut k: usize = 2;
-    while k < n {
-        let y = text::field(deck, p, n, k);
-        if y <= x {
-            return false;
+    pub fn hash(&self) -> usize
+        ensures value { result ≡ hash_of (numbers self.now) }
+        ensures upper_bound { result < 1024 }
+    {
+        let mut h: usize = 0;
+        for k in 0..self.line.fields {
+            h = 1640531527 * (h + self.field(k)) % 4294967296;
         }
-        x = y;
-        k += 1;
+        h / 4194304
     }
-    true
-}
-
-// The line of n fields at p and the line of m fields at q have the same numbers.
-pub fn same_row(deck: &[u8], p: usize, n: usize, q: usize, m: usize) -> bool
-    requires { (p + 11 * n ≤ length deck.now) × (q + 11 * m ≤ length deck.now) }
-    ensures { result ≡ same_words (row_at deck.now p n) (row_at deck.now q m) }
-{
-    let mut k: usize = 0;
-    while k < n {
-        if m <= k {
-            return false;
-        }
-        if text::field(deck, p, n, k) != text::field(deck, q, m, k) {
-            return false;
-        }
-        k += 1;
-    }
-    m <= n
-}
-
-pub fn hash_row(deck: &[u8], p: usize, n: usize) -> usize
-    requires { p + 11 * n ≤ length deck.now }
-    ensures value { result ≡ hash_of (row_at deck.now p n) }
-    ensures upper_bound { result < 1024 }
-{
-    let mut h: usize = 0;
-    let mut k: usize = 0;
-    while k < n {
-        h = 1640531527 * (h + text::field(deck, p, n, k)) % 4294967296;
-        k += 1;
-    }
-    h / 4194304
 }

@@ -1,8 +1,19 @@
-// What is known before a line of a deck, beside the table: the section of the line before it, the header's numbers, where the key
-// marks begin, and how many key marks, concept lines and axiom lines there are.
-#[derive(Clone, Copy)]
+// What is known before a line of a deck, beside the table.
+
+// A deck's sections, in their order.
+#[derive(Clone, Copy, PartialEq, Eq, PartialOrd, Ord, Debug)]
+pub enum Section {
+    Header = 1,
+    Keys = 2,
+    Concepts = 3,
+    Axioms = 4,
+}
+
+// The section of the line before it, the header's numbers, where the key marks begin, and how many key marks, concept lines and axiom
+// lines there are.
+#[derive(Clone, Copy, Default)]
 pub struct State {
-    pub section: usize,
+    pub section: Option<Section>,
     pub classes: usize,
     pub individuals: usize,
     pub roles: usize,

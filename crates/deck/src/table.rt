@@ -5,7 +5,11 @@ ghost use Rattle.std.specs.Prelude.{◌≡◌, [], ◌∷◌, ◌+◌, ◌*◌, 
 ghost use Rattle.std.proofs.lemmas.List.Edits.{sets};
 ghost use Rattle.words.specs.Words.{words};
 ghost use Rattle.deck.specs.Records.{axioms_at, heads_at, links_at, table_bytes};
+ghost use Rattle.deck.specs.Rows.{line_in, link_word};
 
+use crate::row::Line;
+
+// The table is of lent bytes, so that its parts are known by their first words.
 const AXIOMS: usize = 3072;
 
 const HEADS: usize = 5120;
@@ -19,18 +23,22 @@ fn word(t: &[u8], i: usize) -> usize
     words::get_word(t, i) as usize
 }
 
-pub fn concept_begin(t: &[u8], i: usize) -> usize
-    requires { 12 * i + 12 ≤ length t.now }
-    ensures { result ≡ get_or (words t.now) (3 * i) 0 }
+// The line whose two words begin at word i.
+fn line(t: &[u8], i: usize) -> Line
+    requires { 4 * i + 8 ≤ length t.now }
+    ensures { result ≡ line_in (words t.now) i }
 {
-    word(t, 3 * i)
+    Line {
+        begin: word(t, i),
+        fields: word(t, i + 1),
+    }
 }
 
-pub fn concept_fields(t: &[u8], i: usize) -> usize
+pub fn concept_line(t: &[u8], i: usize) -> Line
     requires { 12 * i + 12 ≤ length t.now }
-    ensures { result ≡ get_or (words t.now) (3 * i + 1) 0 }
+    ensures { result ≡ line_in (words t.now) (3 * i) }
 {
-    word(t, 3 * i + 1)
+    line(t, 3 * i)
 }
 
 pub fn concept_depth(t: &[u8], i: usize) -> usize
@@ -40,51 +48,44 @@ pub fn concept_depth(t: &[u8], i: usize) -> usize
     word(t, 3 * i + 2)
 }
 
-pub fn axiom_begin(t: &[u8], i: usize) -> usize
+pub fn axiom_line(t: &[u8], i: usize) -> Line
     requires { (i < 1024) × (table_bytes ≤ length t.now) }
-    ensures { result ≡ get_or (words t.now) (axioms_at + 2 * i) 0 }
+    ensures { result ≡ line_in (words t.now) (axioms_at + 2 * i) }
 {
-    word(t, AXIOMS + 2 * i)
-}
-
-pub fn axiom_fields(t: &[u8], i: usize) -> usize
-    requires { (i < 1024) × (table_bytes ≤ length t.now) }
-    ensures { result ≡ get_or (words t.now) (axioms_at + 2 * i + 1) 0 }
-{
-    word(t, AXIOMS + 2 * i + 1)
+    line(t, AXIOMS + 2 * i)
 }
 
 // The last concept line with this hash.
-pub fn head(t: &[u8], hash: usize) -> usize
+pub fn head(t: &[u8], hash: usize) -> Option<usize>
     requires { (hash < 1024) × (table_bytes ≤ length t.now) }
-    ensures { result ≡ get_or (words t.now) (heads_at + hash) 0 }
+    ensures { link_word result ≡ get_or (words t.now) (heads_at + hash) 0 }
 {
-    word(t, HEADS + hash)
+    word(t, HEADS + hash).checked_sub(1)
 }
 
 // The one before concept line i with its hash.
-pub fn link(t: &[u8], i: usize) -> usize
+pub fn link(t: &[u8], i: usize) -> Option<usize>
     requires { (i < 1024) × (table_bytes ≤ length t.now) }
-    ensures { result ≡ get_or (words t.now) (links_at + i) 0 }
+    ensures { link_word result ≡ get_or (words t.now) (links_at + i) 0 }
 {
-    word(t, LINKS + i)
+    word(t, LINKS + i).checked_sub(1)
 }
 
-pub fn put_concept(t: &mut [u8], i: usize, p: usize, n: usize, depth: usize)
-    requires { (12 * i + 12 ≤ length t.old) × (p ≤ 65536) × (n ≤ 65536) × (depth ≤ 65536) }
-    ensures { words t.new ≡ sets (words t.old) (3 * i) (p ∷ n ∷ depth ∷ []) }
+pub fn put_concept(t: &mut [u8], i: usize, line: Line, depth: usize)
+    requires { (12 * i + 12 ≤ length t.old) × (line.begin ≤ 65536) × (line.fields ≤ 65536) × (depth ≤ 65536) }
+    ensures { words t.new ≡ sets (words t.old) (3 * i) (line.begin ∷ line.fields ∷ depth ∷ []) }
 {
-    words::put_word(t, 3 * i, p as u32);
-    words::put_word(t, 3 * i + 1, n as u32);
+    words::put_word(t, 3 * i, line.begin as u32);
+    words::put_word(t, 3 * i + 1, line.fields as u32);
     words::put_word(t, 3 * i + 2, depth as u32);
 }
 
-pub fn put_axiom(t: &mut [u8], i: usize, p: usize, n: usize)
-    requires { (i < 1024) × (table_bytes ≤ length t.old) × (p ≤ 65536) × (n ≤ 65536) }
-    ensures { words t.new ≡ sets (words t.old) (axioms_at + 2 * i) (p ∷ n ∷ []) }
+pub fn put_axiom(t: &mut [u8], i: usize, line: Line)
+    requires { (i < 1024) × (table_bytes ≤ length t.old) × (line.begin ≤ 65536) × (line.fields ≤ 65536) }
+    ensures { words t.new ≡ sets (words t.old) (axioms_at + 2 * i) (line.begin ∷ line.fields ∷ []) }
 {
-    words::put_word(t, AXIOMS + 2 * i, p as u32);
-    words::put_word(t, AXIOMS + 2 * i + 1, n as u32);
+    words::put_word(t, AXIOMS + 2 * i, line.begin as u32);
+    words::put_word(t, AXIOMS + 2 * i + 1, line.fields as u32);
 }
 
 // Concept line i joins the index.

@@ -3,6 +3,7 @@ pub mod Roles
 pub mod Scratch
 pub mod Atoms
 pub mod Records
+pub mod Refusals
 pub mod Deferrals
 pub mod Options
 pub mod Counts

@@ -1,4 +1,4 @@
-// The data that every pass shares: roles, atoms, an atom's record in a table, deferral kinds, options, the counters and the passes' answers.
+// The data that every pass shares: roles, atoms, an atom's record in a table, deferral kinds, refusals, options, the counters and the passes' answers.
 #![tactic(auto)]
 
 pub mod answer;
@@ -7,5 +7,6 @@ pub mod counters;
 pub mod deferral;
 pub mod options;
 pub mod record;
+pub mod refusal;
 pub mod role;
 pub mod scratch;

@@ -19,8 +19,8 @@ use Rattle.sets.specs.Kept.{set_at}
 use Rattle.sets.specs.Places.{rows_at}
 use Rattle.sets.specs.Laid.{Laid, row_of as row_in, KeptTo}
 use Rattle.layouts.specs.declared.Limits.{Limits}
-use Rattle.layouts.specs.declared.Stated.{Stated}
-use Rattle.layouts.specs.declared.Stated.TheVariants.{Stated as StatedIn, Bad}
+use Rattle.layouts.specs.declared.BadLine.{BadLine}
+use Rattle.std.specs.Prelude.{Result, Ok, Err}
 use Rattle.layouts.specs.Read.{Declares, known_of, StatedAs}
 use Rattle.layouts.specs.Lines.{rows_word}
 
@@ -83,9 +83,9 @@ module _ (d : Known) (m : Limits) (D : Declares d m) where
     individual = λ i. get_or s.individuals i 0;
   }
 
-  pub same_stated : (x : StateTold) (w v : List ℕ) (r : Stated) → StatedAs (known_of m) m x w v r → StatedAs d m x w v r
-  same_stated (stated s) w v (StatedIn n) h = (h.0, subst (λ (I : Interpretation). Laid I m.roles w v) (ap₂ (meant s) (sym D.classes) (sym D.individuals)) h.1)
-  same_stated (stated s) w v (Bad l) h = h
-  same_stated (bad l) w v (StatedIn n) h = h
-  same_stated (bad l) w v (Bad k) h = h
+  pub same_stated : (x : StateTold) (w v : List ℕ) (r : Result ℕ BadLine) → StatedAs (known_of m) m x w v r → StatedAs d m x w v r
+  same_stated (stated s) w v (Ok n) h = (h.0, subst (λ (I : Interpretation). Laid I m.roles w v) (ap₂ (meant s) (sym D.classes) (sym D.individuals)) h.1)
+  same_stated (stated s) w v (Err l) h = h
+  same_stated (bad l) w v (Ok n) h = h
+  same_stated (bad l) w v (Err k) h = h
   same_stated unread w v r h = h

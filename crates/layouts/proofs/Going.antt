@@ -25,7 +25,7 @@ use Rattle.sets.specs.KeptLaws.{set_same}
 use Rattle.sets.specs.Places.{line_at, rows_at}
 use Rattle.sets.specs.Laid.{Laid, KeptTo}
 use Rattle.layouts.specs.declared.Limits.{Limits}
-use Rattle.layouts.specs.declared.Stated.TheVariants.{Bad}
+use Rattle.std.specs.Prelude.{Err}
 use Rattle.layouts.specs.declared.enter.At.{At}
 use Rattle.layouts.specs.Read.{Limited, known_of, StatedAs, ended_as}
 use Rattle.layouts.specs.Lines.{line_in, before, rows_word, KeptFrom, GoodLine}
@@ -131,8 +131,8 @@ module _ (text store₀ scratch₀ : List ℕ) (m : Limits) (size from : ℕ) wh
         let q = start_few (known_of m) m.fresh (suc (length (drop from text))) (state size [] [] []) (drop from text) line (going_bad h b) in
         omega (arith, q, L.classes, L.individuals, L.roles, L.fresh)
 
-    pub going_told : (w v : List ℕ) (n : ℕ) → n ≡ line → p < length text → BadLine m a.kind a.id size text p → StatedAs (known_of m) m whole w v (Bad n)
-    going_told w v n e h b = subst (λ (x : StateTold). StatedAs (known_of m) m x w v (Bad n)) (sym (going_bad h b)) e
+    pub going_told : (w v : List ℕ) (n : ℕ) → n ≡ line → p < length text → BadLine m a.kind a.id size text p → StatedAs (known_of m) m whole w v (Err record { line = n })
+    going_told w v n e h b = subst (λ (x : StateTold). StatedAs (known_of m) m x w v (Err record { line = n })) (sym (going_bad h b)) e
 
     module _ (w₁ : List ℕ) (n q : ℕ) (L : GoodLine m a.kind a.id size text p (words scratch) w₁ n q) where
       pub going_drawn : Drawn (known_of m) G.so_far a size (words store) w₁

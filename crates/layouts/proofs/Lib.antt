@@ -1,4 +1,4 @@
-mod Numbers
+mod NumberLaws
 mod Links
 mod Pairs
 mod Facts

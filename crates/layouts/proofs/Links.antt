@@ -23,7 +23,7 @@ use Rattle.sets.specs.KeptLaws.{set_put_lem, word_before, set_before, set_behind
 use Rattle.sets.specs.Places.{rows_at}
 use Rattle.sets.specs.Laid.{row_of}
 use Rattle.layouts.specs.Drawn.{room_put, Linked, RowsAs, with_pair, with_pairs}
-use Rattle.layouts.proofs.Numbers.{past}
+use Rattle.layouts.proofs.NumberLaws.{past}
 
 or_turned : (a b : Bool) → a || b ≡ b || a
 or_turned true true = refl

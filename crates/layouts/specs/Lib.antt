@@ -1,3 +1,4 @@
 pub mod Read
 pub mod Lines
+pub mod Numbers
 pub mod Drawn

@@ -1,5 +1,5 @@
 -- One line in the words v of scratch, and what the line reader says of the text.
-use Rattle.std.specs.Prelude.{◌≡◌, true, List, [], ℕ, suc, ◌+◌, ◌≤◌, ◌<◌, length, get_or, take, drop}
+use Rattle.std.specs.Prelude.{◌≡◌, true, List, [], ℕ, suc, ◌+◌, ◌≤◌, ◌<◌, length, get_or, take, drop, Option, Some, None}
 use Rattle.rules.specs.Text.{row, row_of}
 use Rattle.rules.specs.Deck.{Known}
 use Rattle.rules.specs.Run.{scratch_bytes}
@@ -7,9 +7,7 @@ use Rattle.states.specs.State.{State, state, Seen, seen, StateTold, bad, most_el
 use Rattle.sets.specs.Places.{line_at, line_words}
 use Rattle.layouts.specs.declared.Limits.{Limits}
 use Rattle.layouts.specs.declared.line.First.{First}
-use Rattle.layouts.specs.declared.line.First.TheVariants.{Size, None as NoFirst}
 use Rattle.layouts.specs.declared.line.Next.{Next}
-use Rattle.layouts.specs.declared.line.Next.TheVariants.{Good, None as NoNext}
 use Rattle.layouts.specs.Read.{known_of}
 
 -- the line of n numbers
@@ -38,9 +36,9 @@ pub record FirstLine (text : List ℕ) (n q : ℕ) : Type 0 where
   pub within : q ≤ length text
   pub read : (d : Known) (fresh : ℕ) → read_state d fresh text ≡ state_by (suc (length (drop q text))) d fresh 2 (before 50 0 n) (drop q text)
 
-abbrev pub FirstAs : List ℕ → First → Type 0
-FirstAs text (Size n q) = FirstLine text n q
-FirstAs text NoFirst = (d : Known) (fresh : ℕ) → read_state d fresh text ≡ bad 1
+abbrev pub FirstAs : List ℕ → Option First → Type 0
+FirstAs text (Some f) = FirstLine text f.size f.behind
+FirstAs text None = (d : Known) (fresh : ℕ) → read_state d fresh text ≡ bad 1
 
 -- a good line at p: its numbers stand in scratch, and the rows are as they were
 pub record GoodLine (m : Limits) (kind id size : ℕ) (text : List ℕ) (p : ℕ) (v v' : List ℕ) (n q : ℕ) : Type 0 where
@@ -52,7 +50,7 @@ pub record GoodLine (m : Limits) (kind id size : ℕ) (text : List ℕ) (p : ℕ
   pub within : q ≤ length text
   pub rows : KeptFrom rows_word v v'
 
-abbrev pub NextAs : Limits → ℕ → ℕ → ℕ → List ℕ → ℕ → List ℕ → List ℕ → Next → Type 0
-NextAs m kind id size text p v v' (Good n q) = GoodLine m kind id size text p v v' n q
-NextAs m kind id size text p v v' NoNext =
+abbrev pub NextAs : Limits → ℕ → ℕ → ℕ → List ℕ → ℕ → List ℕ → List ℕ → Option Next → Type 0
+NextAs m kind id size text p v v' (Some l) = GoodLine m kind id size text p v v' l.count l.behind
+NextAs m kind id size text p v v' None =
     (rest : Seen → List ℕ → StateTold) (line : ℕ) (s : State) → s.size ≡ size → on_state_row (known_of m) m.fresh rest line (seen kind id s) (row_of (drop p text)) ≡ bad line

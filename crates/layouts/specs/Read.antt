@@ -1,12 +1,11 @@
 -- What the reader of a state promises.
-use Rattle.std.specs.Prelude.{◌≡◌, List, [], ℕ, ◌≤◌, eqb}
+use Rattle.std.specs.Prelude.{◌≡◌, List, [], ℕ, ◌≤◌, eqb, Result, Ok, Err}
 use Rattle.ir.specs.Pick.{pick}
 use Rattle.rules.specs.Deck.{Known, known, most_classes, most_individuals, most_roles}
 use Rattle.states.specs.State.{StateTold, stated, bad, unread, interpretation_of}
 use Rattle.sets.specs.Laid.{Laid}
 use Rattle.layouts.specs.declared.Limits.{Limits}
-use Rattle.layouts.specs.declared.Stated.{Stated}
-use Rattle.layouts.specs.declared.Stated.TheVariants.{Stated as StatedIn, Bad}
+use Rattle.layouts.specs.declared.BadLine.{BadLine}
 
 pub record Limited (m : Limits) : Type 0 where
   pub classes : m.classes ≤ most_classes
@@ -24,12 +23,12 @@ abbrev pub known_of : Limits → Known
 known_of m = known 0 (record { classes = m.classes; individuals = m.individuals; roles = m.roles; options = 0 }) [] [] [] []
 
 -- the answer, and with a state the words of the store and of scratch that lay it out
-abbrev pub StatedAs : Known → Limits → StateTold → List ℕ → List ℕ → Stated → Type 0
-StatedAs d m (stated s) w v (StatedIn n) = (n ≡ s.size) × Laid (interpretation_of d s) m.roles w v
-StatedAs d m (stated s) w v (Bad l) = ⊥
-StatedAs d m (bad line) w v (StatedIn n) = ⊥
-StatedAs d m (bad line) w v (Bad l) = l ≡ line
+abbrev pub StatedAs : Known → Limits → StateTold → List ℕ → List ℕ → Result ℕ BadLine → Type 0
+StatedAs d m (stated s) w v (Ok n) = (n ≡ s.size) × Laid (interpretation_of d s) m.roles w v
+StatedAs d m (stated s) w v (Err l) = ⊥
+StatedAs d m (bad line) w v (Ok n) = ⊥
+StatedAs d m (bad line) w v (Err l) = l.line ≡ line
 StatedAs d m unread w v r = ⊥
 
-abbrev pub ended_as : ℕ → ℕ → ℕ → Stated
-ended_as size singles individuals = pick (eqb singles individuals) (StatedIn size) (Bad 0)
+abbrev pub ended_as : ℕ → ℕ → ℕ → Result ℕ BadLine
+ended_as size singles individuals = pick (eqb singles individuals) (Ok size) (Err record { line = 0 })

@@ -1,39 +1,25 @@
 // A good line entered into the words that lay out the state.
 ghost use Rattle.std.specs.Prelude.{◌≡◌, Bool, true, ℕ, ◌+◌, ◌*◌, ◌<◌, ◌≤◌, ltb, length, drop};
 ghost use Rattle.words.specs.Words.{words};
-ghost use Rattle.rules.specs.Base.{all, contains};
+ghost use Rattle.rules.specs.Base.{all};
 ghost use Rattle.rules.specs.Run.{scratch_bytes};
 ghost use Rattle.states.specs.State.{State, entered};
-ghost use Rattle.states.specs.Masks.{mask_of};
 ghost use Rattle.sets.specs.Places.{rows_at};
 ghost use Rattle.sets.specs.Laid.{KeptTo};
 ghost use Rattle.layouts.specs.Read.{known_of};
 ghost use Rattle.layouts.specs.Lines.{line_in, LineThere, rows_word};
 ghost use Rattle.layouts.specs.Drawn.{room_put, Linked, RowsAs, with_pair, with_pairs, Drawn, Enterable, IsLine, entered_line};
 
-use crate::{Limits, check};
+use crate::Limits;
+use crate::numbers::Numbers;
 use sets::{kept, places};
 
-// Kind and id of the line before, and how many lines 53 were read.
+// Kind and id of the line before, and how many lines 53 were read. Kinds are the numbers of the text: lines are in the order of both.
 #[derive(Clone, Copy)]
 pub struct At {
     pub kind: u32,
     pub id: u32,
     pub singles: u32,
-}
-
-// The elements of a line 51, as a set.
-fn set_of(scratch: &[u8], n: usize, size: u32) -> u64
-    requires { LineThere scratch.now n × (2 ≤ n) × (size ≤ 64) × (all (λ e. ltb e size) (drop 2 (line_in (words scratch.now) n)) ≡ true) }
-    ensures { result ≡ mask_of size (contains (drop 2 (line_in (words scratch.now) n))) }
-{
-    let mut set: u64 = 0;
-    let mut k = n;
-    while 2 < k {
-        k -= 1;
-        set = sets::with(set, check::number(scratch, n, k) as u64);
-    }
-    set
 }
 
 // The class's set, where the store has room for it.
@@ -73,11 +59,10 @@ fn enter_pairs(scratch: &mut [u8], n: usize, role: u32, size: u32)
     ensures by_index { (roles : ℕ) (f : ℕ → ℕ → ℕ → Bool) → RowsAs size roles (words scratch.old) f → RowsAs size roles (words scratch.new) (with_pairs f role (drop 2 (line_in (words scratch.old) n))) }
     ensures kept_to { KeptTo rows_word (words scratch.old) (words scratch.new) }
 {
-    let mut j = (n - 2) / 2;
-    while 0 < j {
-        j -= 1;
-        let a = check::number(scratch, n, 2 + 2 * j);
-        let b = check::number(scratch, n, 3 + 2 * j);
+    for j in (1..n / 2).rev() {
+        let line = Numbers { scratch, count: n };
+        let a = line.number(2 * j);
+        let b = line.number(2 * j + 1);
         link_pair(scratch, role, a, b);
     }
 }
@@ -89,25 +74,18 @@ pub fn enter(store: &mut [u8], scratch: &mut [u8], n: usize, m: Limits, at: At, 
     ensures drawn { (s : State) → Drawn (known_of m) s at size (words store.old) (words scratch.old) → Drawn (known_of m) (entered_line s (line_in (words scratch.old) n)) result size (words store.new) (words scratch.new) }
     ensures kept_to { KeptTo rows_word (words scratch.old) (words scratch.new) }
 {
-    let kind = check::number(scratch, n, 0);
-    let id = check::number(scratch, n, 1);
+    let line = Numbers { scratch, count: n };
+    let kind = line.number(0);
+    let id = line.number(1);
     if kind == 51 {
-        put_class(store, id as usize, set_of(scratch, n, size));
-        return At {
-            kind,
-            id,
-            singles: at.singles,
-        };
+        put_class(store, id as usize, line.set(size));
+        return At { kind, id, ..at };
     }
     if kind == 52 {
         enter_pairs(scratch, n, id, size);
-        return At {
-            kind,
-            id,
-            singles: at.singles,
-        };
+        return At { kind, id, ..at };
     }
-    let x = check::number(scratch, n, 2);
+    let x = line.number(2);
     let class = (m.classes + at.singles) as usize;
     let singles = at.singles + 1;
     put_class(store, class, sets::with(0, x as u64));

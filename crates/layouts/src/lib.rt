@@ -6,6 +6,7 @@
 pub mod check;
 pub mod enter;
 pub mod line;
+pub mod numbers;
 
 ghost use Rattle.std.specs.Prelude.{◌≡◌, [], suc, ◌≤◌, length, drop};
 ghost use Rattle.words.specs.Words.{words};
@@ -19,7 +20,6 @@ ghost use Rattle.layouts.specs.Read.{Limited, Declares, known_of, StatedAs, ende
 ghost use Rattle.layouts.specs.Drawn.{Blank};
 
 use crate::enter::At;
-use crate::line::{First, Next};
 
 // How many classes, individuals and roles a deck declares, and how many fresh ids its run took.
 #[derive(Clone, Copy)]
@@ -30,21 +30,21 @@ pub struct Limits {
     pub fresh: u32,
 }
 
-// How many elements the state has, or its first bad line.
-#[derive(Clone, Copy)]
-pub enum Stated {
-    Stated(u32),
-    Bad(u32),
+// The first bad line of a state, from 1; 0 where an individual has no line.
+#[derive(Clone, Copy, PartialEq, Eq, Debug)]
+pub struct BadLine {
+    pub line: u32,
 }
 
 // Behind the last line: each individual must have had its own.
-fn ended(size: u32, singles: u32, individuals: u32) -> Stated
+fn ended(size: u32, singles: u32, individuals: u32) -> Result<u32, BadLine>
     ensures { result ≡ ended_as size singles individuals }
 {
     if singles == individuals {
-        return Stated::Stated(size);
+        Ok(size)
+    } else {
+        Err(BadLine { line: 0 })
     }
-    Stated::Bad(0)
 }
 
 // The lines from p on, behind the first.
@@ -55,12 +55,11 @@ fn read_lines(
     m: Limits,
     size: u32,
     from: usize,
-) -> Stated
+) -> Result<u32, BadLine>
     requires { Blank m size text.now store.old scratch.old from }
     ensures stated_as { StatedAs (known_of m) m (state_by (suc (length (drop from text.now))) (known_of m) m.fresh 2 (seen 50 0 (state size [] [] [])) (drop from text.now)) (words store.new) (words scratch.new) result }
     ensures kept_to { KeptTo line_at (words scratch.old) (words scratch.new) }
 {
-    let len = text.len();
     let mut at = At {
         kind: 50,
         id: 0,
@@ -68,27 +67,32 @@ fn read_lines(
     };
     let mut p = from;
     let mut line: usize = 2;
-    while p < len {
-        let Next::Good(n, q) = line::next_line(text, scratch, p, m, at, size) else {
-            let bad = line as u32;
-            return Stated::Bad(bad);
+    while p < text.len() {
+        let Some(next) = line::next_line(text, scratch, p, m, at, size) else {
+            return Err(BadLine { line: line as u32 });
         };
-        at = enter::enter(store, scratch, n, m, at, size);
-        p = q;
+        at = enter::enter(store, scratch, next.count, m, at, size);
+        p = next.behind;
         line += 1;
     }
     ended(size, at.singles, m.individuals)
 }
 
-pub fn read_state(text: &[u8], store: &mut [u8], scratch: &mut [u8], m: Limits) -> Stated
+// How many elements the state has.
+pub fn read_state(
+    text: &[u8],
+    store: &mut [u8],
+    scratch: &mut [u8],
+    m: Limits,
+) -> Result<u32, BadLine>
     requires { Limited m × (store_bytes ≤ length store.old) × (scratch_bytes ≤ length scratch.old) }
     ensures stated_as { (d : Known) → Declares d m → StatedAs d m (read_state d m.fresh text.now) (words store.new) (words scratch.new) result }
     ensures kept_to { KeptTo deck_words (words scratch.old) (words scratch.new) }
 {
-    let First::Size(size, q) = line::first_line(text, scratch) else {
-        return Stated::Bad(1);
+    let Some(first) = line::first_line(text, scratch) else {
+        return Err(BadLine { line: 1 });
     };
     words::clear(store);
     words::clear_words(scratch, 131072, 256 * (m.roles as usize));
-    read_lines(text, store, scratch, m, size, q)
+    read_lines(text, store, scratch, m, first.size, first.behind)
 }

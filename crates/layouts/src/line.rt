@@ -8,55 +8,68 @@ ghost use Rattle.layouts.specs.Read.{Limited};
 ghost use Rattle.layouts.specs.Lines.{FirstAs, NextAs};
 
 use crate::enter::At;
+use crate::numbers::Numbers;
 use crate::{Limits, check};
 use sets::places;
 use text::Line;
 
-// How many elements, and the place behind the first line; or it is bad.
+// How many elements, and the place behind the first line.
 #[derive(Clone, Copy)]
-pub enum First {
-    Size(u32, usize),
-    None,
+pub struct First {
+    pub size: u32,
+    pub behind: usize,
 }
 
-// How many numbers, and the place behind the line; or it is bad.
+// How many numbers, and the place behind the line.
 #[derive(Clone, Copy)]
-pub enum Next {
-    Good(usize, usize),
-    None,
+pub struct Next {
+    pub count: usize,
+    pub behind: usize,
 }
 
-pub fn first_line(text: &[u8], scratch: &mut [u8]) -> First
+// None where the line is bad.
+pub fn first_line(text: &[u8], scratch: &mut [u8]) -> Option<First>
     requires { scratch_bytes ≤ length scratch.old }
     ensures first_as { FirstAs text.now result }
     ensures kept_to { KeptTo line_at (words scratch.old) (words scratch.new) }
 {
-    let Line::Read(n, q) = text::read_row(text, 0, scratch, places::LINE) else {
-        return First::None;
+    let Line::Read(count, behind) = text::read_row(text, 0, scratch, places::LINE) else {
+        return None;
     };
-    if 40960 < n {
-        return First::None;
+    if 40960 < count {
+        return None;
     }
-    if !check::count_ok(scratch, n) {
-        return First::None;
+    let line = Numbers { scratch, count };
+    if !check::count_ok(&line) {
+        return None;
     }
-    First::Size(check::number(scratch, n, 1), q)
+    Some(First {
+        size: line.number(1),
+        behind,
+    })
 }
 
-// The line at p. One of more than 40,960 numbers is bad, whatever they are.
-pub fn next_line(text: &[u8], scratch: &mut [u8], p: usize, m: Limits, at: At, size: u32) -> Next
+// The line at p; None where it is bad. One of more than 40,960 numbers is bad, whatever they are.
+pub fn next_line(
+    text: &[u8],
+    scratch: &mut [u8],
+    p: usize,
+    m: Limits,
+    at: At,
+    size: u32,
+) -> Option<Next>
     requires { (scratch_bytes ≤ length scratch.old) × Limited m × (size ≤ 64) }
     ensures next_as { NextAs m at.kind at.id size text.now p (words scratch.old) (words scratch.new) result }
     ensures kept_to { KeptTo line_at (words scratch.old) (words scratch.new) }
 {
-    let Line::Read(n, q) = text::read_row(text, p, scratch, places::LINE) else {
-        return Next::None;
+    let Line::Read(count, behind) = text::read_row(text, p, scratch, places::LINE) else {
+        return None;
     };
-    if 40960 < n {
-        return Next::None;
+    if 40960 < count {
+        return None;
     }
-    if !check::line_ok(scratch, n, m, at.kind, at.id, size) {
-        return Next::None;
+    if !check::line_ok(&Numbers { scratch, count }, m, at, size) {
+        return None;
     }
-    Next::Good(n, q)
+    Some(Next { count, behind })
 }

@@ -1,7 +1,7 @@
 -- The reader's answer, and the table that is back in scratch. Assumes nothing.
 use mathlib.Core.Path.{◌≡◌, refl, sym, ap, ◌∙◌}
 use mathlib.Core.List.{List, ◌++◌}
-use Prim.Native.Nat.{ℕ, ◌+◌, ◌*◌, ◌≤◌}
+use Prim.Native.Nat.{ℕ, ◌*◌, ◌≤◌}
 use native.Mathlib.Omega.{arith}
 use borrow.Author.Tests.{ltb-false}
 use borrow.Rule.Slice.PartMut.{mid_of, put_mid, post_of, same_len_mid}
@@ -14,26 +14,29 @@ use Rattle.rules.specs.DeckLaws.{read_enough}
 use Rattle.rules.specs.TextLaws.{by_test}
 use Rattle.deck.specs.Records.{told_of, Kept}
 use Rattle.deck.specs.declared.state.State.{State}
-use Rattle.deck.specs.declared.Answer.{Answer}
-use Rattle.deck.specs.declared.Answer.TheVariants as answer
+use Rattle.deck.specs.declared.Refused.{Refused}
+use Rattle.std.specs.Prelude.{Result, Ok, Err}
+use Rattle.ir.specs.Refusals.{refusal_number}
 use Rattle.ontology.specs.Lines.{table_in, Answered, Accepted}
 use Rattle.ontology.proofs.TableLaws.{part_long}
 
 -- ---- of the deck s, with the table t
-module _ (s t : List ℕ) (a : Answer) (R : Answered s t a) where
-  pub accepted_is : (k : State) → a ≡ answer.Accepted k → Accepted s t k
+module _ (s t : List ℕ) (a : Result State Refused) (R : Answered s t a) where
+  pub accepted_is : (k : State) → a ≡ Ok k → Accepted s t k
   accepted_is k e = record { read = sym (rw e at R.told); held = rw e at R.kept }
 
-  pub refused_is : (n line : ℕ) → a ≡ answer.Refused n line → read_deck s ≡ refused n line
-  refused_is n line e = sym (rw e at R.told)
+  pub refused_is : (r : Refused) → a ≡ Err r → read_deck s ≡ refused (refusal_number r.refusal) r.line
+  refused_is r e = sym (rw e at R.told)
 
-  pub refused_few : (n line : ℕ) → a ≡ answer.Refused n line → (n ≤ 9) × (line ≤ most_bytes)
+  pub refused_few : (r : Refused) → a ≡ Err r → (refusal_number r.refusal ≤ 9) × (r.line ≤ most_bytes)
   unfolding read_deck
-  refused_few n line e =
-      let N = read_enough s n line (refused_is n line e) in (
+  refused_few r e =
+      let n : ℕ = refusal_number r.refusal in
+      let line : ℕ = r.line in
+      let N = read_enough s n line (refused_is r e) in (
         N.high,
         by_test (ltb most_bytes (length s))
-            (λ b. let q : refused n line ≡ refused 2 0 = sym (refused_is n line e) ∙ rw b refl in let z : line ≡ 0 = cc in omega arith)
+            (λ b. let q : refused n line ≡ refused 2 0 = sym (refused_is r e) ∙ rw b refl in let z : line ≡ 0 = cc in omega arith)
             (λ b. let l = ltb-false most_bytes (length s) b in omega (arith, N.in_bytes)),
       )
 
@@ -51,5 +54,5 @@ module _ (S t : List ℕ) (room : 4 * hands_at ≤ length S) (size : length t �
       ap (take 28672) (drop_at (take 204800 S) (t ++ post_of 204800 28672 S) 204800 (length-take-le 204800 S (omega arith)))
       ∙ take_at t (post_of 204800 28672 S) 28672 (size ∙ part_long S (omega arith))
 
-  pub back_answered : (s : List ℕ) (a : Answer) → told_of s t a ≡ read_deck s → Kept s t a → Answered s (table_in S₁) a
+  pub back_answered : (s : List ℕ) (a : Result State Refused) → told_of s t a ≡ read_deck s → Kept s t a → Answered s (table_in S₁) a
   back_answered s a told kept = rw back_is record { told = told; kept = kept }

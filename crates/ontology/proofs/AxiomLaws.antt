@@ -18,7 +18,7 @@ use Rattle.deck.specs.Records as reader
 use Rattle.deck.specs.TabLaws.{sum_more, sum_rise}
 use Rattle.pool.specs.Layout.{tab, run}
 use Rattle.pool.specs.Tabs.{get_d_tab, tab_snoc, tab_same, run_is}
-use Rattle.ontology.specs.declared.lines.Line.{Line}
+use Rattle.deck.specs.declared.row.Line.{Line}
 use Rattle.ontology.specs.Layout.{axiom_start, axiom_count, axiom_number, axiom_row, axiom_at, axioms_of, AxiomsHeld}
 use Rattle.ontology.specs.Lines.{Kept, axiom_line, AxiomRead, axiom_put}
 

@@ -27,7 +27,7 @@ use Rattle.pool.specs.Shapes.{count_plain}
 use Rattle.pool.specs.Held.{Held, Ready, Asked}
 use Rattle.pool.specs.HeldLaws.{members_snoc, Same, pool_same, held_same, word_above}
 use Rattle.pool.specs.Answers.{sized, Added}
-use Rattle.ontology.specs.declared.lines.Line.{Line}
+use Rattle.deck.specs.declared.row.Line.{Line}
 use Rattle.ontology.specs.Lines.{Kept, table_of, concept_line, record_for, ConceptRead, Pooled}
 use Rattle.ontology.proofs.ConceptLaws.{width_row, record_is, concept_is}
 

@@ -1,5 +1,5 @@
 -- The lines of an accepted deck s, as the reader's table gives them, and what of them stands in the words w of scratch.
-use Rattle.std.specs.Prelude.{◌≡◌, List, [], ◌∷◌, ℕ, ◌+◌, ◌*◌, ◌-◌, ◌<◌, ◌≤◌, length, get_or, take, drop, eqb, ltb}
+use Rattle.std.specs.Prelude.{◌≡◌, List, [], ◌∷◌, ℕ, ◌+◌, ◌*◌, ◌-◌, ◌<◌, ◌≤◌, length, get_or, take, drop, eqb, ltb, Result}
 use Rattle.std.proofs.Math.Option.{none}
 use Rattle.std.proofs.lemmas.List.Edits.{sets}
 use Rattle.ir.specs.Pick.{pick}
@@ -11,14 +11,14 @@ use Rattle.rules.specs.Pool.{most_members, find, members}
 use Rattle.rules.specs.Deck.{most_bytes, most_classes, most_individuals, most_options, most_concept_lines, most_axioms, parts_of, fine, read_deck}
 use Rattle.rules.specs.Invariants.{Each}
 use Rattle.text.specs.Rows.{row_at}
-use Rattle.deck.specs.declared.Answer.{Answer}
+use Rattle.deck.specs.declared.Refused.{Refused}
+use Rattle.deck.specs.declared.row.Line.{Line}
 use Rattle.deck.specs.declared.state.State.{State}
 use Rattle.deck.specs.Records as reader
 use Rattle.pool.specs.declared.record.Record.{Record}
 use Rattle.pool.specs.Layout.{pool_words, run, record_words, pool_of}
 use Rattle.pool.specs.Held.{Held}
 use Rattle.pool.specs.Answers.{sized}
-use Rattle.ontology.specs.declared.lines.Line.{Line}
 
 -- the words from a on and below b are as they were
 abbrev pub Kept : ℕ → ℕ → List ℕ → List ℕ → Type 0
@@ -41,7 +41,7 @@ abbrev pub axiom_line : List ℕ → ℕ → Line
 axiom_line v i = record { begin = get_or v (reader.axioms_at + 2 * i) 0; fields = reader.axiom_fields v i }
 
 -- the reader's answer, with the bytes t of its table
-pub record Answered (s t : List ℕ) (a : Answer) : Type 0 where
+pub record Answered (s t : List ℕ) (a : Result State Refused) : Type 0 where
   pub told : reader.told_of s t a ≡ read_deck s
   pub kept : reader.Kept s t a
 

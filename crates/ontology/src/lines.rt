@@ -5,6 +5,7 @@ ghost use Rattle.ir.specs.Scratch.{stack_at};
 ghost use Rattle.rules.specs.Deck.{most_concept_lines, most_axioms};
 ghost use Rattle.ontology.specs.Lines.{table_of, concept_line, axiom_line};
 
+use deck::row::Line;
 use deck::table;
 
 // The table's first byte and the one behind it: words LINES and STACK.
@@ -12,26 +13,16 @@ pub const TABLE: usize = 204800;
 
 pub const TABLE_END: usize = 233472;
 
-#[derive(Clone, Copy)]
-pub struct Line {
-    pub begin: usize,
-    pub fields: usize,
-}
-
 pub fn concept_line(scratch: &[u8], i: usize) -> Line
     requires { (i < most_concept_lines) × (4 * stack_at ≤ length scratch.now) }
     ensures { result ≡ concept_line (table_of (words scratch.now)) i }
 {
-    let begin = table::concept_begin(&scratch[TABLE..TABLE_END], i);
-    let fields = table::concept_fields(&scratch[TABLE..TABLE_END], i);
-    Line { begin, fields }
+    table::concept_line(&scratch[TABLE..TABLE_END], i)
 }
 
 pub fn axiom_line(scratch: &[u8], i: usize) -> Line
     requires { (i < most_axioms) × (4 * stack_at ≤ length scratch.now) }
     ensures { result ≡ axiom_line (table_of (words scratch.now)) i }
 {
-    let begin = table::axiom_begin(&scratch[TABLE..TABLE_END], i);
-    let fields = table::axiom_fields(&scratch[TABLE..TABLE_END], i);
-    Line { begin, fields }
+    table::axiom_line(&scratch[TABLE..TABLE_END], i)
 }

@@ -8,7 +8,7 @@ ghost use Rattle.ontology.specs.Loads.{LoadedAs};
 
 use crate::lines::{TABLE, TABLE_END};
 use crate::{axiom_lines, concepts, keys};
-use deck::Answer;
+use deck::Refused;
 use deck::state::State;
 use ir::counters::Counters;
 use pool::layout::{HEADS, POOL};
@@ -57,13 +57,18 @@ fn load_lines(deck: &[u8], scratch: &mut [u8], st: State, limit: u32) -> Loaded
 }
 
 // The reader's answer.
-fn load_answer(deck: &[u8], scratch: &mut [u8], answer: Answer, limit: u32) -> Loaded
+fn load_answer(
+    deck: &[u8],
+    scratch: &mut [u8],
+    answer: Result<State, Refused>,
+    limit: u32,
+) -> Loaded
     requires { (4 * hands_at ≤ length scratch.old) × Answered deck.now (table_in scratch.old) answer }
     ensures { LoadedAs limit (read_deck deck.now) (words scratch.new) result }
 {
     match answer {
-        Answer::Accepted(st) => load_lines(deck, scratch, st, limit),
-        Answer::Refused(n, line) => Loaded::Refused(n as u32, line as u32),
+        Ok(st) => load_lines(deck, scratch, st, limit),
+        Err(refused) => Loaded::Refused(refused.refusal.number(), refused.line as u32),
     }
 }
 

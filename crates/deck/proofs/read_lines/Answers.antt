@@ -1,65 +1,37 @@
-use native.Mathlib.Omega.{arith}
-use mathlib.Core.Path.{sym, ◌∙◌}
-use Prim.Native.Nat.{◌-◌}
-use Rattle.deck.proofs.LineLaws.{read_none, going_first, going_broken, going_numbers, going_bad, going_on, going_end, going_held}
+use mathlib.Core.Path.{sym, ap, ◌∙◌}
+use Rattle.std.proofs.Common.{rules, is_ok}
+use Rattle.ir.specs.Refusals.{refusal_number}
+use Rattle.std.proofs.lemmas.Result.{err_from_is_err_and}
+use Rattle.deck.proofs.LineLaws.{default_state, refusal_some, good_number, bad_number, going_first, going_broken, going_numbers, going_bad, going_on, going_end}
 use Rattle.deck.proofs.read_lines.Goals as goal
 
-pub returns-then-len-eq0 : goal.returns-then-len-eq0
-returns-then-len-eq0 c = record { result_after = read_none c.args.deck.now c.if-len-eq0.true; kept = tt }
+pub loop-begin-init : goal.loop-begin-init
+loop-begin-init c =
+    let d = c.default-st.ensures in
+    let e = default_state c.default-st.result d.0 d.1.0 d.1.1.0 d.1.1.1.0 d.1.1.1.1.0 d.1.1.1.1.1.0 d.1.1.1.1.1.1.0 d.1.1.1.1.1.1.1.0 d.1.1.1.1.1.1.1.1 in
+    rw e (going_first c.args.deck.now c.args.t.now c.requires.0 c.requires.1 (λ z. search rules))
 
-pub loop-p-init : goal.loop-p-init
-loop-p-init c = going_first c.args.deck.now c.args.t.now c.requires.0 c.requires.1 c.if-len-eq0.false
+pub returns-then-fields-eq0-clause-result_after : goal.returns-then-fields-eq0-clause-result_after
+returns-then-fields-eq0-clause-result_after c = going_broken c.args.deck.now c.args.t.now c.loop-begin.t c.loop-begin.st c.loop-begin.begin c.loop-begin.line c.loop-begin.invariant c.loop-begin-test.true c.fields-fields.result c.fields-fields.ensures.result_value c.if-fields-eq0.true
 
-pub fields-n-requires : goal.fields-n-requires
-fields-n-requires c = c.loop-p-test.true
-
-pub shape_of-t-then-n-eq0 : goal.shape_of-t-then-n-eq0
-shape_of-t-then-n-eq0 c = c.loop-p.invariant.size
-
-pub returns-then-n-eq0 : goal.returns-then-n-eq0
-returns-then-n-eq0 c = record {
-  result_after = going_broken c.args.deck.now c.args.t.now c.loop-p.t c.loop-p.st c.loop-p.p c.loop-p.line c.loop-p.invariant c.loop-p-test.true c.fields-n.result c.fields-n.ensures.result_value c.if-n-eq0.true;
-  kept = tt;
-}
-
-pub verdict-v-requires : goal.verdict-v-requires
-verdict-v-requires c = (omega (arith, c.fields-n.ensures.result_in_bounds), c.loop-p.invariant.held)
-
-pub shape_of-t-then-v-ne0 : goal.shape_of-t-then-v-ne0
-shape_of-t-then-v-ne0 c = c.loop-p.invariant.size
-
-pub returns-then-v-ne0 : goal.returns-then-v-ne0
-returns-then-v-ne0 c = record {
-  result_after = going_bad c.args.deck.now c.args.t.now c.loop-p.t c.loop-p.st c.loop-p.p c.loop-p.line c.loop-p.invariant c.loop-p-test.true c.fields-n.result c.fields-n.ensures.result_value c.if-n-eq0.false c.verdict-v.result c.verdict-v.ensures c.if-v-ne0.true;
-  kept = tt;
-}
+pub returns-in_err-map_err-clause-result_after : goal.returns-in_err-map_err-clause-result_after
+returns-in_err-map_err-clause-result_after c =
+    let p = err_from_is_err_and c.from_residual.result c.from_residual.ensures.1 in
+    let b = bad_number c.verdict.result c.map_err.result c.loop-begin.line _ (λ r d k. search rules) c.map_err.ensures.variant c.map_err.ensures.cases c.in_err-map_err.field-0.0 c.in_err-map_err.was in
+    rw (p.1, p.2, b.1) (going_bad c.args.deck.now c.args.t.now c.loop-begin.t c.loop-begin.st c.loop-begin.begin c.loop-begin.line c.loop-begin.invariant c.loop-begin-test.true c.fields-fields.result c.fields-fields.ensures.result_value c.if-fields-eq0.false (refusal_number c.in_err-map_err.field-0.0.refusal) (b.0 ∙ c.verdict.ensures) (refusal_some c.in_err-map_err.field-0.0.refusal))
 
 pub enter-st-requires : goal.enter-st-requires
-enter-st-requires c = record { line = c.fields-n.ensures.result_in_bounds; held = c.loop-p.invariant.held; numbers = going_numbers c.args.deck.now c.args.t.now c.loop-p.t c.loop-p.st c.loop-p.p c.loop-p.line c.loop-p.invariant c.loop-p-test.true c.fields-n.result c.fields-n.ensures.result_value c.if-n-eq0.false; good = sym c.verdict-v.ensures ∙ c.if-v-ne0.false }
-
-pub overflow_mul-p : goal.overflow_mul-p
-overflow_mul-p c = omega (arith, c.fields-n.ensures.result_in_bounds, c.requires.0)
-
-pub overflow_add-p : goal.overflow_add-p
-overflow_add-p c = omega (arith, c.fields-n.ensures.result_in_bounds, c.requires.0)
-
-pub overflow_add-p-in-loop-p : goal.overflow_add-p-in-loop-p
-overflow_add-p-in-loop-p c = omega (arith, c.fields-n.ensures.result_in_bounds, c.requires.0)
-
-pub overflow_add-line : goal.overflow_add-line
-overflow_add-line c = omega (arith, c.loop-p.invariant.lines, c.loop-p.invariant.within, c.requires.0)
-
-pub loop-p-smaller : goal.loop-p-smaller
-loop-p-smaller c = omega (arith, c.fields-n.ensures.result_in_bounds, c.loop-p-test.true)
-
-pub loop-p-preserved : goal.loop-p-preserved
-loop-p-preserved c = going_on c.args.deck.now c.args.t.now c.loop-p.t c.loop-p.st c.loop-p.p c.loop-p.line c.loop-p.invariant c.loop-p-test.true c.fields-n.result c.fields-n.ensures.result_value c.if-n-eq0.false c.enter-st.new.t c.enter-st.result (sym c.verdict-v.ensures ∙ c.if-v-ne0.false) c.enter-st.ensures c.enter-st.auto.t c.fields-n.ensures.result_in_bounds
-
-pub shape_of-t : goal.shape_of-t
-shape_of-t c = c.loop-p.invariant.size
-
-pub returns : goal.returns
-returns c = record {
-  result_after = going_end c.args.deck.now c.args.t.now c.loop-p.t c.loop-p.st c.loop-p.p c.loop-p.line c.loop-p.invariant c.loop-p-test.false;
-  kept = going_held c.args.deck.now c.args.t.now c.loop-p.t c.loop-p.st c.loop-p.p c.loop-p.line c.loop-p.invariant c.loop-p-test.false;
+enter-st-requires c = record {
+  line = c.fields-fields.ensures.result_in_bounds;
+  held = c.loop-begin.invariant.held;
+  numbers = going_numbers c.args.deck.now c.args.t.now c.loop-begin.t c.loop-begin.st c.loop-begin.begin c.loop-begin.line c.loop-begin.invariant c.loop-begin-test.true c.fields-fields.result c.fields-fields.ensures.result_value c.if-fields-eq0.false;
+  good = sym c.verdict.ensures ∙ good_number c.verdict.result (sym c.map_err.ensures.variant ∙ ap is_ok c.in_ok-map_err.was);
 }
+
+pub loop-begin-preserved : goal.loop-begin-preserved
+loop-begin-preserved c =
+    rw c.behind-begin.ensures (going_on c.args.deck.now c.args.t.now c.loop-begin.t c.loop-begin.st c.loop-begin.begin c.loop-begin.line c.loop-begin.invariant c.loop-begin-test.true c.fields-fields.result c.fields-fields.ensures.result_value c.if-fields-eq0.false c.enter-st.new.t c.enter-st.result
+    (sym c.verdict.ensures ∙ good_number c.verdict.result (sym c.map_err.ensures.variant ∙ ap is_ok c.in_ok-map_err.was)) c.enter-st.ensures c.enter-st.auto.t c.fields-fields.ensures.result_in_bounds)
+
+pub returns-clause-result_after : goal.returns-clause-result_after
+returns-clause-result_after c = going_end c.args.deck.now c.args.t.now c.loop-begin.t c.loop-begin.st c.loop-begin.begin c.loop-begin.line c.loop-begin.invariant c.loop-begin-test.false

@@ -1,31 +1,44 @@
-use borrow.Author.Tests.{eq-eqb, ne_eqb, not-true, not-false}
-use mathlib.Core.Path.{refl, sym, ◌∙◌}
-use Rattle.rules.specs.Deck.{section_of, in_order, fields_ok, verdict}
-use Rattle.rules.specs.TextLaws.{and_true}
+use Rattle.std.proofs.Common.{rules, Some}
+use mathlib.Core.Path.{◌≡◌, refl}
+use Rattle.rules.specs.Deck.{verdict}
 use Rattle.text.specs.RowLaws.{length_row}
-use Rattle.deck.specs.Records.{known_in}
+use Rattle.deck.specs.declared.state.Section.TheVariants.{Concepts}
 use Rattle.deck.proofs.ConceptLaws.{counted_known}
+use Rattle.deck.proofs.KindLaws.{no_concepts}
 use Rattle.deck.proofs.verdict.Goals as goal
 
 pub returns-then-not-shape : goal.returns-then-not-shape
 unfolding verdict
-returns-then-not-shape c = rw (length_row c.args.deck.now c.args.p c.args.n, ← c.entry-kind.ensures, ← c.shape.ensures, not-true c.shape.result c.if-not-shape.true-raw) refl
+returns-then-not-shape c =
+    let r = c.args.row.now in
+    rw (length_row r.deck.now r.line.begin r.line.fields, ← c.entry-kind.ensures, ← c.shape.ensures, c.if-not-shape.true) refl
 
 pub returns-then-not-limits : goal.returns-then-not-limits
 unfolding verdict
-returns-then-not-limits c = rw (length_row c.args.deck.now c.args.p c.args.n, ← c.entry-kind.ensures, ← c.shape.ensures, not-false c.shape.result c.if-not-shape.false-raw, ← c.limits.ensures (known_in c.args.deck.now c.args.t.now c.args.st) (counted_known c.args.deck.now c.args.t.now c.args.st), not-true c.limits.result c.if-not-limits.true-raw) refl
+returns-then-not-limits c =
+    let r = c.args.row.now in
+    let K = counted_known r.deck.now c.args.t.now c.args.st in
+    rw (length_row r.deck.now r.line.begin r.line.fields, ← c.entry-kind.ensures, ← c.shape.ensures, c.if-not-shape.false, ← c.limits.ensures _ K, c.if-not-limits.true) refl
 
 pub returns-then-not-names : goal.returns-then-not-names
 unfolding verdict
-returns-then-not-names c = rw (length_row c.args.deck.now c.args.p c.args.n, ← c.entry-kind.ensures, ← c.shape.ensures, not-false c.shape.result c.if-not-shape.false-raw, ← c.limits.ensures (known_in c.args.deck.now c.args.t.now c.args.st) (counted_known c.args.deck.now c.args.t.now c.args.st), not-false c.limits.result c.if-not-limits.false-raw, ← c.names.ensures (known_in c.args.deck.now c.args.t.now c.args.st) (counted_known c.args.deck.now c.args.t.now c.args.st), not-true c.names.result c.if-not-names.true-raw) refl
+returns-then-not-names c =
+    let r = c.args.row.now in
+    let K = counted_known r.deck.now c.args.t.now c.args.st in
+    rw (length_row r.deck.now r.line.begin r.line.fields, ← c.entry-kind.ensures, ← c.shape.ensures, c.if-not-shape.false, ← c.limits.ensures _ K, c.if-not-limits.false, ← c.names.ensures _ K, c.if-not-names.true) refl
 
-pub concept-requires : goal.concept-requires
-concept-requires c = (record { within = c.requires.0; kind = c.entry-kind.ensures; section = sym c.section_of.ensures ∙ c.if-section_of-eq3.true; fields = (and_true (in_order c.args.st.section (section_of c.entry-kind.result)) (fields_ok c.entry-kind.result c.args.n) (sym c.shape.ensures ∙ not-false _ c.if-not-shape.false-raw)).1 }, c.requires.1.concepts)
-
-pub returns-then-section_of-eq3 : goal.returns-then-section_of-eq3
+pub returns-then-eq : goal.returns-then-eq
 unfolding verdict
-returns-then-section_of-eq3 c = rw (length_row c.args.deck.now c.args.p c.args.n, ← c.entry-kind.ensures, ← c.shape.ensures, not-false c.shape.result c.if-not-shape.false-raw, ← c.limits.ensures (known_in c.args.deck.now c.args.t.now c.args.st) (counted_known c.args.deck.now c.args.t.now c.args.st), not-false c.limits.result c.if-not-limits.false-raw, ← c.names.ensures (known_in c.args.deck.now c.args.t.now c.args.st) (counted_known c.args.deck.now c.args.t.now c.args.st), not-false c.names.result c.if-not-names.false-raw, ← c.section_of.ensures, eq-eqb _ _ c.if-section_of-eq3.true, ← c.concept.ensures) refl
+returns-then-eq c =
+    let e : c.section_of.result ≡ Some Concepts = search rules in
+    let r = c.args.row.now in
+    let K = counted_known r.deck.now c.args.t.now c.args.st in
+    rw (length_row r.deck.now r.line.begin r.line.fields, ← c.entry-kind.ensures, ← c.shape.ensures, c.if-not-shape.false, ← c.limits.ensures _ K, c.if-not-limits.false, ← c.names.ensures _ K, c.if-not-names.false, ← c.section_of.ensures, e) c.concept.ensures
 
-pub returns : goal.returns
+pub returns-else-eq : goal.returns-else-eq
 unfolding verdict
-returns c = rw (length_row c.args.deck.now c.args.p c.args.n, ← c.entry-kind.ensures, ← c.shape.ensures, not-false c.shape.result c.if-not-shape.false-raw, ← c.limits.ensures (known_in c.args.deck.now c.args.t.now c.args.st) (counted_known c.args.deck.now c.args.t.now c.args.st), not-false c.limits.result c.if-not-limits.false-raw, ← c.names.ensures (known_in c.args.deck.now c.args.t.now c.args.st) (counted_known c.args.deck.now c.args.t.now c.args.st), not-false c.names.result c.if-not-names.false-raw, ← c.section_of.ensures, ne_eqb _ _ c.if-section_of-eq3.false) refl
+returns-else-eq c =
+    let e : c.section_of.result ≡ Some Concepts → ⊥ = search rules in
+    let r = c.args.row.now in
+    let K = counted_known r.deck.now c.args.t.now c.args.st in
+    rw (length_row r.deck.now r.line.begin r.line.fields, ← c.entry-kind.ensures, ← c.shape.ensures, c.if-not-shape.false, ← c.limits.ensures _ K, c.if-not-limits.false, ← c.names.ensures _ K, c.if-not-names.false, ← c.section_of.ensures, no_concepts c.section_of.result e) refl

@@ -19,8 +19,8 @@ next_line-requires c =
     let v = c.loop-p in
     (omega (arith, v.invariant.scratch_long, c.requires.space), c.requires.limited, c.requires.few)
 
-pub overflow_cast-bad : goal.overflow_cast-bad
-overflow_cast-bad c =
+pub overflow_cast-result : goal.overflow_cast-result
+overflow_cast-result c =
     let v = c.loop-p in
     let bad : BadLine c.args.m v.at.kind v.at.id c.args.size c.args.text.now v.p = subst (NextAs c.args.m v.at.kind v.at.id c.args.size c.args.text.now v.p (words v.scratch) (words c.next_line.new.scratch)) c.in_default.is c.next_line.ensures.next_as in
     let q = going_few c.args.text.now c.args.store.now c.args.scratch.now c.args.m c.args.size c.args.from v.store v.scratch v.at v.p v.line v.invariant c.requires.limited c.loop-p-test.true bad in
@@ -44,10 +44,10 @@ returns-in_default c =
 pub enter-at-requires : goal.enter-at-requires
 enter-at-requires c =
     let v = c.loop-p in
-    let n = c.in-Good.n in
-    let q = c.in-Good.q in
+    let n = c.in-Some.next.count in
+    let q = c.in-Some.next.behind in
     let w = words c.next_line.new.scratch in
-    let L : GoodLine c.args.m v.at.kind v.at.id c.args.size c.args.text.now v.p (words v.scratch) w n q = subst (NextAs c.args.m v.at.kind v.at.id c.args.size c.args.text.now v.p (words v.scratch) w) c.in-Good.is c.next_line.ensures.next_as in
+    let L : GoodLine c.args.m v.at.kind v.at.id c.args.size c.args.text.now v.p (words v.scratch) w n q = subst (NextAs c.args.m v.at.kind v.at.id c.args.size c.args.text.now v.p (words v.scratch) w) c.in-Some.is c.next_line.ensures.next_as in
     record {
       limited = c.requires.limited;
       few = c.requires.few;
@@ -64,19 +64,19 @@ overflow_add-line c = omega (arith, c.loop-p.invariant.lines, c.loop-p.invariant
 pub loop-p-smaller : goal.loop-p-smaller
 loop-p-smaller c =
     let v = c.loop-p in
-    let n = c.in-Good.n in
-    let q = c.in-Good.q in
+    let n = c.in-Some.next.count in
+    let q = c.in-Some.next.behind in
     let w = words c.next_line.new.scratch in
-    let L : GoodLine c.args.m v.at.kind v.at.id c.args.size c.args.text.now v.p (words v.scratch) w n q = subst (NextAs c.args.m v.at.kind v.at.id c.args.size c.args.text.now v.p (words v.scratch) w) c.in-Good.is c.next_line.ensures.next_as in
+    let L : GoodLine c.args.m v.at.kind v.at.id c.args.size c.args.text.now v.p (words v.scratch) w n q = subst (NextAs c.args.m v.at.kind v.at.id c.args.size c.args.text.now v.p (words v.scratch) w) c.in-Some.is c.next_line.ensures.next_as in
     omega (arith, L.onward, L.within, c.loop-p-test.true)
 
 pub loop-p-preserved : goal.loop-p-preserved
 loop-p-preserved c =
     let v = c.loop-p in
-    let n = c.in-Good.n in
-    let q = c.in-Good.q in
+    let n = c.in-Some.next.count in
+    let q = c.in-Some.next.behind in
     let w = words c.next_line.new.scratch in
-    let L : GoodLine c.args.m v.at.kind v.at.id c.args.size c.args.text.now v.p (words v.scratch) w n q = subst (NextAs c.args.m v.at.kind v.at.id c.args.size c.args.text.now v.p (words v.scratch) w) c.in-Good.is c.next_line.ensures.next_as in
+    let L : GoodLine c.args.m v.at.kind v.at.id c.args.size c.args.text.now v.p (words v.scratch) w n q = subst (NextAs c.args.m v.at.kind v.at.id c.args.size c.args.text.now v.p (words v.scratch) w) c.in-Some.is c.next_line.ensures.next_as in
     going_on c.args.text.now c.args.store.now c.args.scratch.now c.args.m c.args.size c.args.from v.store v.scratch v.at v.p v.line v.invariant w n q L c.enter-at.new.store c.enter-at.new.scratch c.enter-at.result c.loop-p-test.true c.enter-at.ensures.line c.enter-at.ensures.drawn c.next_line.ensures.kept_to c.enter-at.ensures.kept_to c.enter-at.auto.store (c.enter-at.auto.scratch ∙ c.next_line.auto.scratch)
 
 pub shape_of-store : goal.shape_of-store

@@ -1,12 +1,18 @@
-use mathlib.Core.Path.{refl}
+use borrow.Author.Tests.{lt-leb}
+use mathlib.Core.Bool.{true, false, true≢false}
+use mathlib.Core.Path.{◌≡◌, refl, sym, ◌∙◌}
 use Rattle.deck.proofs.ConceptLaws.{two_members, few_members}
 use Rattle.deck.proofs.concepts.members_fine.Goals as goal
-
-pub returns-then-n-lt3 : goal.returns-then-n-lt3
-returns-then-n-lt3 c = rw (few_members c.args.deck.now c.args.p c.args.n c.if-n-lt3.true) refl
+use Rattle.deck.proofs.concepts.members_fine.Goals.{then-row-ge3, else-row-ge3}
 
 pub returns-then-rises : goal.returns-then-rises
-returns-then-rises c = rw (two_members c.args.deck.now c.args.p c.args.n c.if-n-lt3.false, ← c.rises.ensures, c.if-rises.true, ← c.all_fit.ensures) refl
+returns-then-rises c = elim c.if-row-ge3.branch [
+  | then-row-ge3 w ↦ let r : w.rises.result ≡ true = sym w.value-is ∙ c.if-rises.true in rw (two_members c.args.row.now w.if-row-ge3.true, ← w.rises.ensures, r, ← c.all_fit.ensures) refl
+  | else-row-ge3 w ↦ absurd (true≢false (sym c.if-rises.true ∙ w.value-is ∙ lt-leb _ _ w.if-row-ge3.false))
+]
 
 pub returns-else-rises : goal.returns-else-rises
-returns-else-rises c = rw (two_members c.args.deck.now c.args.p c.args.n c.if-n-lt3.false, ← c.rises.ensures, c.if-rises.false) refl
+returns-else-rises c = elim c.if-row-ge3.branch [
+  | then-row-ge3 w ↦ let r : w.rises.result ≡ false = sym w.value-is ∙ c.if-rises.false in rw (c.if-rises.false, two_members c.args.row.now w.if-row-ge3.true, ← w.rises.ensures, r) refl
+  | else-row-ge3 w ↦ rw (c.if-rises.false, few_members c.args.row.now w.if-row-ge3.false) refl
+]

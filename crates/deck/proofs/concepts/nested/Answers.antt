@@ -4,19 +4,20 @@ use Prim.Native.Nat.{◌<◌}
 use lib.ListN.{drop}
 use lib.Dec.{ltb}
 use Rattle.rules.specs.DeckLaws.{all_each}
-use Rattle.text.specs.Rows.{row_at}
+use Rattle.deck.specs.Rows.{numbers}
 use Rattle.deck.specs.TabLaws.{length_tab}
 use Rattle.deck.proofs.ConceptLaws.{line_parts}
 use Rattle.deck.proofs.concepts.nested.Goals as goal
 
-pub all_below-requires : goal.all_below-requires
-all_below-requires c = c.requires.0.within
-
 pub deepest_of-requires : goal.deepest_of-requires
-deepest_of-requires c = (c.requires.0.within, c.requires.1, all_each (λ x. ltb x c.args.st.concepts) (λ x. x < c.args.st.concepts) (λ x q. ltb-true x c.args.st.concepts q) (drop c.first_part-from.result (row_at c.args.deck.now c.args.p c.args.n)) (sym c.all_below.ensures ∙ c.if-all_below.true))
+deepest_of-requires c = (c.requires.1, all_each (λ x. ltb x c.args.st.concepts) (λ x. x < c.args.st.concepts) (λ x q. ltb-true x c.args.st.concepts q) (drop c.first_part-from.result (numbers c.args.row.now)) (sym c.all_below.ensures ∙ c.if-all_below.true))
 
 pub returns-then-all_below : goal.returns-then-all_below
-returns-then-all_below c = rw (length_tab, line_parts c.args.deck.now c.args.p c.args.n c.args.kind c.requires.0, ← c.first_part-from.ensures, ← c.all_below.ensures, c.if-all_below.true, ← c.deepest_of.ensures.value) refl
+returns-then-all_below c =
+    let r = c.args.row.now in
+    rw (length_tab, line_parts r.deck.now r.line.begin r.line.fields c.args.kind c.requires.0, ← c.first_part-from.ensures, ← c.all_below.ensures, c.if-all_below.true, ← c.deepest_of.ensures.value) refl
 
-pub returns : goal.returns
-returns c = rw (length_tab, line_parts c.args.deck.now c.args.p c.args.n c.args.kind c.requires.0, ← c.first_part-from.ensures, ← c.all_below.ensures, c.if-all_below.false) refl
+pub returns-else-all_below : goal.returns-else-all_below
+returns-else-all_below c =
+    let r = c.args.row.now in
+    rw (length_tab, line_parts r.deck.now r.line.begin r.line.fields c.args.kind c.requires.0, ← c.first_part-from.ensures, ← c.all_below.ensures, c.if-all_below.false) refl

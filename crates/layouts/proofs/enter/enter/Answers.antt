@@ -14,16 +14,16 @@ use Rattle.states.specs.MaskLaws.{mask_empty}
 use Rattle.layouts.specs.Read.{known_of}
 use Rattle.layouts.specs.Lines.{line_in}
 use Rattle.layouts.specs.Drawn.{Drawn, room_put, entered_line}
-use Rattle.layouts.proofs.Numbers.{line_length}
+use Rattle.layouts.proofs.NumberLaws.{line_length}
 use Rattle.layouts.proofs.Links.{number_below}
 use Rattle.layouts.proofs.Facts.{line_fine}
 use Rattle.layouts.proofs.Drawing.{at, class_line, role_line, single_line, third_kind, single_few, single_long}
 use Rattle.layouts.proofs.enter.enter.Goals as goal
 
-pub set_of-requires : goal.set_of-requires
-set_of-requires c =
+pub set-requires : goal.set-requires
+set-requires c =
     let F = line_fine (known_of c.args.m) c.args.m.fresh c.args.at.kind c.args.at.id c.args.size (line_in (words c.args.scratch.now) c.args.n) c.requires.fine in
-    (c.requires.there, c.requires.some, c.requires.few, F.below)
+    record { some = c.requires.some; few = c.requires.few; below = F.below }
 
 pub put_class-requires : goal.put_class-requires
 put_class-requires c = let q : c.number-id.result < 4294967296 = c.number-id.type_inv in omega (arith, q)
@@ -34,7 +34,7 @@ returns-then-kind-eq51 c =
     let r = line_in (words c.args.scratch.now) c.args.n in
     let w = words c.args.store.now in
     let v = words c.args.scratch.now in
-    let put : words c.put_class.new.store ≡ room_put w c.number-id.result (mask_of c.args.size (contains (drop 2 r))) = c.put_class.ensures ∙ ap (room_put w c.number-id.result) c.set_of.ensures in record {
+    let put : words c.put_class.new.store ≡ room_put w c.number-id.result (mask_of c.args.size (contains (drop 2 r))) = c.put_class.ensures ∙ ap (room_put w c.number-id.result) c.set.ensures in record {
       line = (c.number-kind.ensures, c.number-id.ensures);
       drawn = λ s D. subst (λ (t : List ℕ). Drawn (known_of c.args.m) (entered_line s r) (at c.number-kind.result c.number-id.result c.args.at.singles) c.args.size t v) (sym put) (class_line c.args.m s c.args.at c.args.size w v D r F c.number-kind.result c.number-id.result c.number-kind.ensures c.number-id.ensures c.if-kind-eq51.true);
       kept_to = λ j _. refl;
@@ -64,7 +64,7 @@ number-x-requires c =
     let e : get_or r 0 0 ≡ 53 = third_kind c.args.m c.args.at.kind c.args.at.id c.args.size r c.number-kind.result F c.number-kind.ensures c.if-kind-eq51.false c.if-kind-eq52.false in
     let l = line_length c.args.scratch.now c.args.n c.requires.there in
     let t = single_long c.args.m c.args.at.kind c.args.at.id c.args.size c.args.n r F e l in
-    (c.requires.there, omega (arith, t))
+    omega (arith, t)
 
 pub overflow_add-class : goal.overflow_add-class
 overflow_add-class c =

@@ -9,33 +9,7 @@ use Rattle.layouts.proofs.Pairs.{pairing_first, first_below, second_below, pairi
 use Rattle.layouts.proofs.enter.enter_pairs.Goals as goal
 
 pub loop-j-init : goal.loop-j-init
-loop-j-init c =
-    pairing_first c.args.scratch.now c.args.n c.args.role c.args.size c.requires.0 c.requires.1
-
-pub overflow_sub-j-in-loop-j : goal.overflow_sub-j-in-loop-j
-overflow_sub-j-in-loop-j c = omega (arith, c.loop-j-test.true)
-
-pub overflow_mul-j : goal.overflow_mul-j
-overflow_mul-j c = omega (arith, c.loop-j.invariant.fits, c.requires.0.1)
-
-pub overflow_add-j : goal.overflow_add-j
-overflow_add-j c = omega (arith, c.loop-j.invariant.fits, c.requires.0.1)
-
-pub number-a-requires : goal.number-a-requires
-number-a-requires c =
-    let v = c.loop-j in
-    ((omega (arith, v.invariant.long, c.requires.0.0), c.requires.0.1), omega (arith, v.invariant.fits, c.loop-j-test.true))
-
-pub overflow_mul-j-in-loop-j : goal.overflow_mul-j-in-loop-j
-overflow_mul-j-in-loop-j c = omega (arith, c.loop-j.invariant.fits, c.requires.0.1)
-
-pub overflow_add-j-in-loop-j : goal.overflow_add-j-in-loop-j
-overflow_add-j-in-loop-j c = omega (arith, c.loop-j.invariant.fits, c.requires.0.1)
-
-pub number-b-requires : goal.number-b-requires
-number-b-requires c =
-    let v = c.loop-j in
-    ((omega (arith, v.invariant.long, c.requires.0.0), c.requires.0.1), omega (arith, v.invariant.fits, c.loop-j-test.true))
+loop-j-init c = pairing_first c.args.scratch.now c.args.n c.args.role c.args.size c.requires.0 c.requires.1
 
 pub link_pair-requires : goal.link_pair-requires
 link_pair-requires c =
@@ -44,21 +18,13 @@ link_pair-requires c =
     let q = second_below c.args.scratch.now c.args.n c.args.role c.args.size c.requires.0 v.scratch v.j v.invariant c.loop-j-test.true c.requires.4 c.number-a.result c.number-b.result c.number-a.ensures c.number-b.ensures in
     (omega (arith, v.invariant.long, c.requires.0.0), c.requires.2, omega (arith, p, c.requires.3), omega (arith, q, c.requires.3))
 
-pub loop-j-smaller : goal.loop-j-smaller
-loop-j-smaller c = omega (arith, c.loop-j-test.true)
-
 pub loop-j-preserved : goal.loop-j-preserved
 loop-j-preserved c =
     let v = c.loop-j in
     pairing_more c.args.scratch.now c.args.n c.args.role c.args.size c.requires.0 v.scratch v.j v.invariant c.loop-j-test.true c.requires.4 c.number-a.result c.number-b.result c.number-a.ensures c.number-b.ensures c.link_pair.new.scratch c.requires.3 c.link_pair.auto.scratch c.link_pair.ensures.kept_to c.link_pair.ensures.by_index
 
-pub shape_of-scratch : goal.shape_of-scratch
-shape_of-scratch c = c.loop-j.invariant.long
-
-pub returns : goal.returns
-returns c =
+pub returns-clause-by_index : goal.returns-clause-by_index
+returns-clause-by_index c =
     let v = c.loop-j in
-    let e : 2 + 2 * v.j ≡ 2 = omega (arith, c.loop-j-test.false) in record {
-      by_index = λ roles f R. subst (λ (k : ℕ). RowsAs c.args.size roles (words v.scratch) (with_pairs f c.args.role (drop k (line_in (words c.args.scratch.now) c.args.n)))) e (v.invariant.rows roles f R);
-      kept_to = v.invariant.kept;
-    }
+    let e : 2 * v.j ≡ 2 = omega (arith, c.loop-j-test.false, v.invariant.some) in
+    λ roles f R. subst (λ (k : ℕ). RowsAs c.args.size roles (words v.scratch) (with_pairs f c.args.role (drop k (line_in (words c.args.scratch.now) c.args.n)))) e (v.invariant.rows roles f R)

@@ -3,7 +3,7 @@ use mathlib.Core.Path.{◌≡◌, ap}
 use Prim.Native.Nat.{◌+◌}
 use Rattle.words.specs.Words.{words}
 use Rattle.deck.specs.Records as reader
-use Rattle.ontology.specs.declared.lines.Line.{Line}
+use Rattle.deck.specs.declared.row.Line.{Line}
 use Rattle.ontology.specs.Lines.{table_of}
 use Rattle.ontology.proofs.AxiomLaws.{axiom_stores}
 use Rattle.ontology.proofs.axiom_lines.load_axiom.Goals as goal

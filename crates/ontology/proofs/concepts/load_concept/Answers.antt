@@ -4,7 +4,7 @@ use Prim.Native.Nat.{ℕ, ◌+◌, ◌*◌}
 use lib.ListN.{get_or}
 use Rattle.words.specs.Words.{words}
 use Rattle.ir.specs.Counts.{interned}
-use Rattle.ontology.specs.declared.lines.Line.{Line}
+use Rattle.deck.specs.declared.row.Line.{Line}
 use Rattle.ontology.specs.Lines.{table_of}
 use Rattle.ontology.proofs.PoolLaws.{OnStack, line_few, line_some, line_ready, line_asked, line_space, line_below, line_fresh, line_pooled}
 use Rattle.ontology.proofs.concepts.load_concept.Goals as goal
