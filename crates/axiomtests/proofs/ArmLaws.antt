@@ -25,17 +25,11 @@ use Rattle.axiomtests.specs.declared.members.Sets.{Sets}
 use Rattle.ontology.specs.Rows.{row_axiom, row_number, sub_class_is, equivalent_is, disjoint_is, union_is, domain_is, range_is, irreflexive_is, asymmetric_is, disjoint_roles_is, inverse_is, sub_role_is, equivalent_roles_is, reflexive_is}
 use Rattle.axiomtests.specs.Lines.{Line, breakers, breakers_behind}
 use Rattle.axiomtests.specs.Lists.{numbers_of, Members, unlike_at, clash_at, clashes_at}
-use Rattle.axiomtests.proofs.ListLaws.{all_paired, some_at}
+use Rattle.axiomtests.proofs.ListLaws.{all_paired, some_at, Both, Either}
 use Rattle.axiomtests.proofs.RoleLaws.{turned_in, turned_related}
 use Rattle.axiomtests.proofs.LineLaws.{arm_in, rows_of, concept_of_lem, row_of_lem, codes_of, concept_sets, row_sets, concepts_of, rows_in}
 
 -- ---- what a call of `sets` says
-abbrev pub Both : ℕ → ℕ → ℕ → Type 0
-Both a b r = (n : ℕ) (f g : ℕ → Bool) → a ≡ mask_of n f → b ≡ mask_of n g → r ≡ mask_of n (λ x. f x && g x)
-
-abbrev pub Either : ℕ → ℕ → ℕ → Type 0
-Either a b r = (n : ℕ) (f g : ℕ → Bool) → a ≡ mask_of n f → b ≡ mask_of n g → r ≡ mask_of n (λ x. f x || g x)
-
 abbrev pub Differ : ℕ → ℕ → ℕ → Type 0
 Differ a b r = (n : ℕ) (f g : ℕ → Bool) → a ≡ mask_of n f → b ≡ mask_of n g → r ≡ mask_of n (λ x. not (same_truth (f x) (g x)))
 

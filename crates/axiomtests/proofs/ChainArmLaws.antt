@@ -36,7 +36,7 @@ use Rattle.ontology.specs.Rows.{row_axiom, row_number, chain_is, transitive_is, 
 use Rattle.axiomtests.specs.Lines.{Line, LineIn}
 use Rattle.axiomtests.specs.Chains.{part_code, parts_of, RowsOf, Chained, ChainIn}
 use Rattle.axiomtests.proofs.LineLaws.{few_elements, arm_in, rows_of, code_small, codes_of, concept_of_lem}
-use Rattle.axiomtests.proofs.ArmLaws.{Both}
+use Rattle.axiomtests.proofs.ListLaws.{Both}
 use Rattle.axiomtests.proofs.PathLaws.{length_parts}
 
 map_tab : {A B : Type 0} (g : A → B) (f : ℕ → A) (i n : ℕ) → map g (tab f i n) ≡ tab (λ j. g (f j)) i n

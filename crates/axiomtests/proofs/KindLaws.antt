@@ -2,7 +2,7 @@
 use mathlib.Core.Path.{◌≡◌, refl}
 use mathlib.Core.Bool.{true, false≢true}
 use mathlib.Core.List.{List}
-use Prim.Native.Nat.{ℕ, ◌<◌, ◌≤◌}
+use Prim.Native.Nat.{ℕ, ◌≤◌}
 use native.Mathlib.Omega.{arith}
 use lib.Dec.{eqb}
 use borrow.Author.Tests.{ne_eqb, eqb-true}
@@ -36,27 +36,12 @@ pair_vars r =
     axiom_kinds (Two r) (λ h. absurd (false≢true h)) (λ h. absurd (false≢true h)) (λ h. absurd (false≢true h)) (λ h. absurd (false≢true h)) (λ _. refl) (λ _. refl) (λ h. absurd (false≢true h)) (λ h. absurd (false≢true h)) (λ h. absurd (false≢true h))
     (λ _. refl) (λ _. refl) (λ _. refl) (λ _. refl) (λ _. refl) (λ h. absurd (false≢true h)) (λ h. absurd (false≢true h))
 
--- ---- the order of the tests
-abbrev Early : ℕ → Type 0
-Early k = k < 25 → of_element k ≡ true
-
-pub early_element : (k : ℕ) → section_of k ≡ 4 → Early k
-early_element =
-    axiom_kinds Early (λ _. refl) (λ _. refl) (λ _. refl) (λ _. refl) (λ h. absurd (omega arith)) (λ h. absurd (omega arith)) (λ h. absurd (omega arith)) (λ h. absurd (omega arith)) (λ h. absurd (omega arith)) (λ h. absurd (omega arith))
-    (λ h. absurd (omega arith)) (λ h. absurd (omega arith)) (λ h. absurd (omega arith)) (λ h. absurd (omega arith)) (λ h. absurd (omega arith)) (λ h. absurd (omega arith))
-
-abbrev Paired : ℕ → Type 0
-Paired k = 25 ≤ k → k < 35 → (k ≡ 27 → ⊥) → (k ≡ 28 → ⊥) → (k ≡ 29 → ⊥) → of_pair k ≡ true
-
-pub paired_kind : (k : ℕ) → section_of k ≡ 4 → Paired k
-paired_kind =
-    axiom_kinds Paired (λ l. absurd (omega arith)) (λ l. absurd (omega arith)) (λ l. absurd (omega arith)) (λ l. absurd (omega arith)) (λ _ _ _ _ _. refl) (λ _ _ _ _ _. refl) (λ _ _ h. absurd (h refl)) (λ _ _ _ h. absurd (h refl)) (λ _ _ _ _ h. absurd (h refl))
-    (λ _ _ _ _ _. refl) (λ _ _ _ _ _. refl) (λ _ _ _ _ _. refl) (λ _ _ _ _ _. refl) (λ _ _ _ _ _. refl) (λ _ l. absurd (omega arith)) (λ _ l. absurd (omega arith))
-
+-- ---- the kind that is neither
 abbrev Last : ℕ → Type 0
-Last k = 35 ≤ k → (k ≡ 35 → ⊥) → k ≡ 36
+Last k = (21 ≤ k → k ≤ 35 → ⊥) → k ≡ 36
 
 pub last_kind : (k : ℕ) → section_of k ≡ 4 → Last k
 last_kind =
-    axiom_kinds Last (λ l. absurd (omega arith)) (λ l. absurd (omega arith)) (λ l. absurd (omega arith)) (λ l. absurd (omega arith)) (λ l. absurd (omega arith)) (λ l. absurd (omega arith)) (λ l. absurd (omega arith)) (λ l. absurd (omega arith)) (λ l. absurd (omega arith))
-    (λ l. absurd (omega arith)) (λ l. absurd (omega arith)) (λ l. absurd (omega arith)) (λ l. absurd (omega arith)) (λ l. absurd (omega arith)) (λ _ h. absurd (h refl)) (λ _ _. refl)
+    axiom_kinds Last (λ h. absurd (h (omega arith) (omega arith))) (λ h. absurd (h (omega arith) (omega arith))) (λ h. absurd (h (omega arith) (omega arith))) (λ h. absurd (h (omega arith) (omega arith))) (λ h. absurd (h (omega arith) (omega arith)))
+    (λ h. absurd (h (omega arith) (omega arith))) (λ h. absurd (h (omega arith) (omega arith))) (λ h. absurd (h (omega arith) (omega arith))) (λ h. absurd (h (omega arith) (omega arith))) (λ h. absurd (h (omega arith) (omega arith)))
+    (λ h. absurd (h (omega arith) (omega arith))) (λ h. absurd (h (omega arith) (omega arith))) (λ h. absurd (h (omega arith) (omega arith))) (λ h. absurd (h (omega arith) (omega arith))) (λ h. absurd (h (omega arith) (omega arith))) (λ _. refl)

@@ -2,7 +2,7 @@
 use mathlib.Core.Path.{◌≡◌, refl, sym, ap, ◌∙◌}
 use mathlib.Core.Bool.{Bool, true, false, not, ◌&&◌, ◌||◌}
 use mathlib.Core.List.{List, [], ◌∷◌}
-use Prim.Native.Nat.{ℕ, ◌+◌, ◌-◌, ◌<◌, ◌≤◌}
+use Prim.Native.Nat.{ℕ, ◌+◌, ◌-◌, ◌<◌}
 use native.Mathlib.Omega.{arith}
 use lib.ListN.{get_or}
 use lib.Dec.{eqb}
@@ -98,12 +98,9 @@ module _ (f : ℕ → ℕ → Bool) where
       go true e = ap (λ b. not (b && P)) (in_all x l) ∙ in_first (all (λ c. f c x) l) (any (λ c. f c x) l) P e
       go false e = ap (λ b. not (b && P)) (in_none x l) ∙ not_first (all (λ c. f c x) l) (any (λ c. f c x) l) P e
 
--- ---- what a loop has found of the numbers from j on
+-- ---- what is found of the numbers from j on, from the last to the first
 abbrev pub Test : Type 0
 Test = (ℕ → ℕ → Bool) → List ℕ → ℕ → Bool
-
-abbrev pub Found : Test → ℕ → List ℕ → Sets → ℕ → ℕ → Type 0
-Found T n v l j m = (f : ℕ → ℕ → Bool) → Members n f v l → m ≡ mask_of n (λ x. T f (numbers_from v l j) x)
 
 abbrev pub some_at : Test
 some_at f l x = any (λ c. f c x) l
@@ -115,39 +112,45 @@ every_at f l x = all (λ c. f c x) l
 abbrev pub clash_by : Bool → ℕ → Test
 clash_by always a f l x = any (λ b. clash_at always f a b x) l
 
-module _ (T : Test) (n : ℕ) (v : List ℕ) (l : Sets) where
+abbrev pub found_from : Test → (ℕ → ℕ → Bool) → (n : ℕ) → List ℕ → Sets → ℕ → ℕ
+found_from T f n v l j = mask_of n (T f (numbers_from v l j))
+
+module _ (T : Test) (f : ℕ → ℕ → Bool) (n : ℕ) (v : List ℕ) (l : Sets) where
   -- nothing behind the last
-  pub found_none : (m : ℕ) → ((f : ℕ → ℕ → Bool) → m ≡ mask_of n (T f [])) → Found T n v l l.count m
-  found_none m h f M = h f ∙ ap (λ (k : List ℕ). mask_of n (T f k)) (sym (from_end v l))
+  pub found_none : found_from T f n v l l.count ≡ mask_of n (T f [])
+  found_none = ap (λ (k : List ℕ). mask_of n (T f k)) (from_end v l)
 
-  pub found_next : (i j m : ℕ) → i + 1 ≡ j → j ≤ l.count → ((f : ℕ → ℕ → Bool) → Members n f v l → m ≡ mask_of n (T f (number_of v l i ∷ numbers_from v l j))) → Found T n v l i m
-  found_next i j m e h g f M =
-      g f M ∙ ap (λ (k : ℕ). mask_of n (T f (number_of v l i ∷ numbers_from v l k))) (sym e) ∙ ap (λ (k : List ℕ). mask_of n (T f k)) (sym (from_next v l i (omega arith)))
+  pub found_all : found_from T f n v l 0 ≡ mask_of n (T f (numbers_of v l))
+  found_all = ap (λ (k : List ℕ). mask_of n (T f k)) (from_all v l)
 
-  pub found_all : (j m : ℕ) → j ≤ 0 → Found T n v l j m → (f : ℕ → ℕ → Bool) → Members n f v l → m ≡ mask_of n (λ x. T f (numbers_of v l) x)
-  found_all j m h F f M =
-      let e : j ≡ 0 = omega arith in
-      F f M ∙ ap (λ (k : ℕ). mask_of n (T f (numbers_from v l k))) e ∙ ap (λ (k : List ℕ). mask_of n (T f k)) (from_all v l)
+  found_next : (j : ℕ) → j < l.count → mask_of n (T f (number_of v l j ∷ numbers_from v l (j + 1))) ≡ found_from T f n v l j
+  found_next j h = ap (λ (k : List ℕ). mask_of n (T f k)) (sym (from_next v l j h))
 
--- ---- one number more, before those from j on
-module _ (v : List ℕ) (l : Sets) (i j m : ℕ) (e : i + 1 ≡ j) (h : j ≤ l.count) where
-  module _ (s : m ≡ member_set v l i) where
-    pub some_next : (found r : ℕ) → ((n : ℕ) (f g : ℕ → Bool) → m ≡ mask_of n f → found ≡ mask_of n g → r ≡ mask_of n (λ x. f x || g x)) → (n : ℕ) → Found some_at n v l j found → Found some_at n v l i r
-    some_next found r E n F = found_next some_at n v l i j r e h (λ f M. E n (f (number_of v l i)) (some_at f (numbers_from v l j)) (s ∙ M i (omega arith)) (F f M))
+-- the union and the intersection of two sets, as the code has them
+abbrev pub Either : (a b r : ℕ) → Type 0
+Either a b r = (n : ℕ) (f g : ℕ → Bool) → a ≡ mask_of n f → b ≡ mask_of n g → r ≡ mask_of n (λ x. f x || g x)
 
-    pub every_next : (found r : ℕ) → ((n : ℕ) (f g : ℕ → Bool) → m ≡ mask_of n f → found ≡ mask_of n g → r ≡ mask_of n (λ x. f x && g x)) → (n : ℕ) → Found every_at n v l j found → Found every_at n v l i r
-    every_next found r E n F = found_next every_at n v l i j r e h (λ f M. E n (f (number_of v l i)) (every_at f (numbers_from v l j)) (s ∙ M i (omega arith)) (F f M))
+abbrev pub Both : (a b r : ℕ) → Type 0
+Both a b r = (n : ℕ) (f g : ℕ → Bool) → a ≡ mask_of n f → b ≡ mask_of n g → r ≡ mask_of n (λ x. f x && g x)
 
-  module _ (always : Bool) where
-    pub clash_next : (a found r : ℕ) → ((n : ℕ) (f : ℕ → ℕ → Bool) → Members n f v l → m ≡ mask_of n (clash_at always f a (number_of v l i)))
-        → ((n : ℕ) (f g : ℕ → Bool) → m ≡ mask_of n f → found ≡ mask_of n g → r ≡ mask_of n (λ x. f x || g x)) → (n : ℕ) → Found (clash_by always a) n v l j found → Found (clash_by always a) n v l i r
-    clash_next a found r C E n F = found_next (clash_by always a) n v l i j r e h (λ f M. E n (clash_at always f a (number_of v l i)) (clash_by always a f (numbers_from v l j)) (C n f M) (F f M))
+-- ---- one number more, before those behind it
+module _ (f : ℕ → ℕ → Bool) (n : ℕ) (v : List ℕ) (l : Sets) (M : Members n f v l) (j : ℕ) (h : j < l.count) where
+  pub some_next : (found r : ℕ) → found ≡ found_from some_at f n v l (j + 1) → Either (member_set v l j) found r → r ≡ found_from some_at f n v l j
+  some_next found r e E = E n (f (number_of v l j)) (some_at f (numbers_from v l (j + 1))) (M j h) e ∙ found_next some_at f n v l j h
 
-    pub pairs_next : (found r : ℕ) → ((n : ℕ) (f : ℕ → ℕ → Bool) → Members n f v l → m ≡ mask_of n (λ x. clash_by always (number_of v l i) f (numbers_from v l (i + 1)) x))
-        → ((n : ℕ) (f g : ℕ → Bool) → m ≡ mask_of n f → found ≡ mask_of n g → r ≡ mask_of n (λ x. f x || g x)) → (n : ℕ) → Found (clashes_at always) n v l j found → Found (clashes_at always) n v l i r
-    pairs_next found r C E n F = found_next (clashes_at always) n v l i j r e h (λ f M.
-        E n (clash_by always (number_of v l i) f (numbers_from v l j)) (clashes_at always f (numbers_from v l j)) (C n f M ∙ ap (λ (k : ℕ). mask_of n (clash_by always (number_of v l i) f (numbers_from v l k))) e) (F f M)
-        ∙ mask_same n (λ x. clash_by always (number_of v l i) f (numbers_from v l j) x || clashes_at always f (numbers_from v l j) x) (clashes_at always f (number_of v l i ∷ numbers_from v l j)) (λ x _. clashes_next f always (number_of v l i) (numbers_from v l j) x))
+  pub every_next : (found r : ℕ) → found ≡ found_from every_at f n v l (j + 1) → Both (member_set v l j) found r → r ≡ found_from every_at f n v l j
+  every_next found r e E = E n (f (number_of v l j)) (every_at f (numbers_from v l (j + 1))) (M j h) e ∙ found_next every_at f n v l j h
+
+  -- m is the set where the number a and number j clash, or number j and those behind it
+  module _ (always : Bool) (m found r : ℕ) (E : Either m found r) where
+    pub clash_next : (a : ℕ) → m ≡ mask_of n (clash_at always f a (number_of v l j)) → found ≡ found_from (clash_by always a) f n v l (j + 1) → r ≡ found_from (clash_by always a) f n v l j
+    clash_next a d e = E n (clash_at always f a (number_of v l j)) (clash_by always a f (numbers_from v l (j + 1))) d e ∙ found_next (clash_by always a) f n v l j h
+
+    pub pairs_next : m ≡ found_from (clash_by always (number_of v l j)) f n v l (j + 1) → found ≡ found_from (clashes_at always) f n v l (j + 1) → r ≡ found_from (clashes_at always) f n v l j
+    pairs_next d e =
+        E n (clash_by always (number_of v l j) f (numbers_from v l (j + 1))) (clashes_at always f (numbers_from v l (j + 1))) d e
+        ∙ mask_same n (λ x. clash_by always (number_of v l j) f (numbers_from v l (j + 1)) x || clashes_at always f (numbers_from v l (j + 1)) x) (clashes_at always f (number_of v l j ∷ numbers_from v l (j + 1))) (λ x _. clashes_next f always (number_of v l j) (numbers_from v l (j + 1)) x)
+        ∙ found_next (clashes_at always) f n v l j h
 
 -- numbers that do not clash, and that do
 module _ (n : ℕ) (f : ℕ → ℕ → Bool) (always : Bool) (a b : ℕ) where

@@ -62,6 +62,6 @@ module _ (n : ℕ) (t : List ℕ → Bool) where
       first_here (λ y. behind y (least_of (rises 0 n) 1 (λ l. t (y ∷ l)))) n x (x ∷ first_where (λ y. not (t (x ∷ y ∷ []))) (rises 0 n) ∷ []) h (λ y q. none_behind y (g y q))
       (ap (behind x) (one_behind x ∙ ap (λ b. pick {A = Option (List ℕ)} b none (some (first_where (λ y. not (t (x ∷ y ∷ []))) (rises 0 n) ∷ []))) (ne_eqb (set_behind x) 0 (λ z. d (e ∙ z)))))
 
-  pub pair_nowhere : 0 < n → ((y : ℕ) → y < n → 0 ≡ set_behind y) → least_of (rises 0 n) 2 t ≡ behind 0 (least_of (rises 0 n) 1 (λ l. t (0 ∷ l)))
+  pub pair_nowhere : ((y : ℕ) → y < n → 0 ≡ set_behind y) → least_of (rises 0 n) 2 t ≡ none
   unfolding least_of
-  pair_nowhere h g = first_nowhere (λ y. behind y (least_of (rises 0 n) 1 (λ l. t (y ∷ l)))) n (λ y q. none_behind y (g y q)) ∙ sym (none_behind 0 (g 0 h))
+  pair_nowhere g = first_nowhere (λ y. behind y (least_of (rises 0 n) 1 (λ l. t (y ∷ l)))) n (λ y q. none_behind y (g y q))

@@ -1,15 +1,13 @@
 -- The least breaking assignment as the code has it, and what the search leaves alone in the words of scratch.
-use Rattle.std.specs.Prelude.{◌≡◌, List, ℕ, ◌≤◌, length, get_or}
-use Rattle.std.proofs.Math.Option.{Option, none, some}
+use Rattle.std.specs.Prelude.{◌≡◌, List, ℕ, Option, Some, None, ◌≤◌, length, get_or}
+use Rattle.std.proofs.Math.Option as Told
 use Rattle.sets.specs.Places.{shown_at, line_at}
 use Rattle.sets.specs.Laid.{KeptTo}
 use Rattle.sets.specs.Verdicts.{shown}
-use Rattle.axiomtests.specs.declared.breaks.Breaks.{Breaks}
-use Rattle.axiomtests.specs.declared.breaks.Breaks.TheVariants.{Nothing, Shown}
 
-abbrev pub least_in : List ℕ → Breaks → Option (List ℕ)
-least_in v Nothing = none
-least_in v (Shown k) = some (shown v k)
+abbrev pub least_in : List ℕ → Option ℕ → Told.Option (List ℕ)
+least_in v None = Told.none
+least_in v (Some k) = Told.some (shown v k)
 
 -- only the elements that are shown and the sets of a chain are written
 pub record Aside (v v' : List ℕ) : Type 0 where

@@ -1,7 +1,8 @@
 -- An axiom where the code has it, its kind and the `count` words from `at` on, and an interpretation laid out beside it (w are
 -- the store's words, v those of scratch).
 use Rattle.std.specs.Prelude.{◌≡◌, Bool, true, not, ◌||◌, List, [], ◌∷◌, ℕ, ◌+◌, ◌<◌, ◌≤◌, length, eqb}
-use Rattle.std.proofs.Math.Option.{Option}
+use Rattle.std.specs.Prelude as Found
+use Rattle.std.proofs.Math.Option.{Option, none}
 use Rattle.words.specs.Words.{words}
 use Rattle.ir.specs.Scratch.{numbers_at, lines_at}
 use Rattle.rules.specs.Concept.{Axiom}
@@ -68,11 +69,17 @@ abbrev pub Behind : List ℕ → Trial → (kind at count x r : ℕ) → Type 0
 Behind v t kind at count x r = (d : Known) (I : Interpretation) (w : List ℕ) → Line d I w v t kind at count → r ≡ mask_of I.size (breakers_behind I d.concepts (row_axiom v kind at count) x)
 
 -- the first element with a set that is not empty, and its set
-pub record FirstWith (v : List ℕ) (t : Trial) (kind at count : ℕ) (r : First) : Type 0 where
+pub record FirstAt (v : List ℕ) (t : Trial) (kind at count : ℕ) (r : First) : Type 0 where
   pub among : r.element < t.size
+  pub some : 0 < r.set
   pub set : Behind v t kind at count r.element r.set
   pub least : (d : Known) (I : Interpretation) (w : List ℕ) → Line d I w v t kind at count
       → least_of (rises 0 I.size) 2 (axiom_holds_at I d.concepts (row_axiom v kind at count)) ≡ behind r.element (least_of (rises 0 I.size) 1 (λ l. axiom_holds_at I d.concepts (row_axiom v kind at count) (r.element ∷ l)))
+
+-- or no pair breaks the axiom
+abbrev pub FirstWith : List ℕ → Trial → (kind at count : ℕ) → Found.Option First → Type 0
+FirstWith v t kind at count (Found.Some r) = FirstAt v t kind at count r
+FirstWith v t kind at count Found.None = (d : Known) (I : Interpretation) (w : List ℕ) → Line d I w v t kind at count → least_of (rises 0 I.size) 2 (axiom_holds_at I d.concepts (row_axiom v kind at count)) ≡ none
 
 -- o is the least assignment that breaks the axiom
 abbrev pub Broken : (w v : List ℕ) → Trial → (kind at count : ℕ) → Option (List ℕ) → Type 0

@@ -15,7 +15,6 @@ ghost use Rattle.sets.specs.Verdicts.{shown};
 ghost use Rattle.axiomtests.specs.Breaking.{least_in, Aside};
 ghost use Rattle.axiomtests.specs.Chains.{part_code, parts_of, next_of, RowsOf, Chained, AllLeft, ChainIn, WalkIn};
 
-use crate::breaks::Breaks;
 use crate::roles;
 use sets::places::{LEFT, SHOWN};
 
@@ -40,14 +39,10 @@ fn back(scratch: &[u8], size: u64, code: u32, set: u64) -> u64
     requires { (code < 2 * most_roles) × (size ≤ most_elements) × (scratch_bytes ≤ length scratch.now) }
     ensures { (I : Interpretation) (f : ℕ → Bool) → size ≡ I.size → RowsOf I (words scratch.now) code → set ≡ mask_of I.size f → result ≡ mask_of I.size (λ y. not (all (λ w. not (related I (role_of code) y w && f w)) (rises 0 I.size))) }
 {
-    let mut found: u64 = 0;
-    let mut y: u64 = 0;
-    while y < size {
-        let m = sets::both(roles::row(scratch, code, y), set);
-        found = sets::grown(found, y, m != 0);
-        y += 1;
-    }
-    found
+    sets::filtered(
+        size as u32,
+        |y| sets::both(sets::kept::row(scratch, code, y), set) != 0,
+    )
 }
 
 // For the first element x, a set for each number of parts that are left.
@@ -58,13 +53,10 @@ fn fill_left(scratch: &mut [u8], size: u64, c: Chain, x: u64)
 {
     let mut set = sets::without(sets::whole(size), roles::row(scratch, c.sup, x));
     sets::kept::put_set(scratch, LEFT, set);
-    let parts = c.parts;
-    let mut k: u32 = 0;
-    while k < parts {
-        let code = part(scratch, size, c, parts - 1 - k);
+    for k in 0..c.parts {
+        let code = part(scratch, size, c, c.parts - 1 - k);
         set = back(scratch, size, code, set);
-        k += 1;
-        sets::kept::put_set(scratch, LEFT + k as usize, set);
+        sets::kept::put_set(scratch, LEFT + (k + 1) as usize, set);
     }
 }
 
@@ -85,32 +77,25 @@ fn walk(scratch: &mut [u8], size: u64, c: Chain, x: u64)
     ensures parts_after { (I : Interpretation) → Chained I (words scratch.old) size c → AllLeft I (words scratch.old) c x → shown (words scratch.new) (c.parts + 1) ≡ x ∷ walk_of I (role_of c.sup) x (parts_of (words scratch.old) c) x }
 {
     words::put_word(scratch, SHOWN, x as u32);
-    let parts = c.parts;
     let mut y = x;
-    let mut k = parts;
-    while 0 < k {
-        k -= 1;
+    for k in (0..c.parts).rev() {
         y = next(scratch, size, c, x, k, y);
-        words::put_word(scratch, SHOWN + (parts - k) as usize, y as u32);
+        words::put_word(scratch, SHOWN + (c.parts - k) as usize, y as u32);
     }
 }
 
-pub fn least_path(scratch: &mut [u8], size: u64, c: Chain) -> Breaks
+pub fn least_path(scratch: &mut [u8], size: u64, c: Chain) -> Option<u32>
     requires { ChainIn scratch.old size c }
     ensures aside { Aside (words scratch.old) (words scratch.new) }
     ensures result_after { (I : Interpretation) → Chained I (words scratch.old) size c → least_in (words scratch.new) result ≡ least_of (rises 0 I.size) (suc c.parts) (λ l. chain_at I (role_of c.sup) (place l 0) (parts_of (words scratch.old) c) l) }
 {
-    let parts = c.parts;
-    let mut x: u64 = 0;
-    while x < size {
+    for x in 0..size {
         fill_left(scratch, size, c, x);
-        let left = sets::kept::get_set(scratch, LEFT + parts as usize);
+        let left = sets::kept::get_set(scratch, LEFT + c.parts as usize);
         if sets::has(left, x) {
             walk(scratch, size, c, x);
-            let shown = parts + 1;
-            return Breaks::Shown(shown);
+            return Some(c.parts + 1);
         }
-        x += 1;
     }
-    Breaks::Nothing
+    None
 }

@@ -6,7 +6,6 @@ ghost use Rattle.axiomtests.specs.Lines.{LineIn, LineThere, Elements, of_element
 use crate::members::Sets;
 use crate::{members, roles};
 use extents::Trial;
-use sets::places::CONCEPTS;
 
 // SubClassOf.
 fn sub_class(scratch: &[u8], t: Trial, at: usize, count: u32) -> u64
@@ -23,14 +22,7 @@ fn equivalent(scratch: &[u8], t: Trial, at: usize, count: u32) -> u64
     requires { LineIn scratch.now t 22 at count }
     ensures { (w : List ℕ) → Elements w (words scratch.now) t 22 at count result }
 {
-    let from = at + 1;
-    let n = count - 1;
-    let l = Sets {
-        at: from,
-        count: n,
-        first: CONCEPTS,
-        step: 1,
-    };
+    let l = Sets::of_concepts(at + 1, count - 1);
     members::unlike(scratch, l, t.size as u64)
 }
 
@@ -39,14 +31,7 @@ fn disjoint(scratch: &[u8], t: Trial, at: usize, count: u32) -> u64
     requires { LineIn scratch.now t 23 at count }
     ensures { (w : List ℕ) → Elements w (words scratch.now) t 23 at count result }
 {
-    let from = at + 1;
-    let n = count - 1;
-    let l = Sets {
-        at: from,
-        count: n,
-        first: CONCEPTS,
-        step: 1,
-    };
+    let l = Sets::of_concepts(at + 1, count - 1);
     members::clashes(scratch, l, true)
 }
 
@@ -55,14 +40,7 @@ fn disjoint_union(store: &[u8], scratch: &[u8], t: Trial, at: usize, count: u32)
     requires { LineThere store.now scratch.now t 24 at count }
     ensures { Elements (words store.now) (words scratch.now) t 24 at count result }
 {
-    let from = at + 2;
-    let n = count - 2;
-    let l = Sets {
-        at: from,
-        count: n,
-        first: CONCEPTS,
-        step: 1,
-    };
+    let l = Sets::of_concepts(at + 2, count - 2);
     let class = words::get_word(scratch, at + 1) as usize;
     let uncovered = sets::differ(sets::kept::get_set(store, class), members::some(scratch, l));
     sets::either(uncovered, members::clashes(scratch, l, true))
@@ -91,20 +69,12 @@ pub fn element_mask(store: &[u8], scratch: &[u8], t: Trial, kind: u32, at: usize
     requires { LineThere store.now scratch.now t kind at count × (of_element kind ≡ true) }
     ensures { Elements (words store.now) (words scratch.now) t kind at count result }
 {
-    if kind == 21 {
-        return sub_class(scratch, t, at, count);
+    match kind {
+        21 => sub_class(scratch, t, at, count),
+        22 => equivalent(scratch, t, at, count),
+        23 => disjoint(scratch, t, at, count),
+        24 => disjoint_union(store, scratch, t, at, count),
+        29 => irreflexive(scratch, t, at, count),
+        _ => reflexive(scratch, t, at, count),
     }
-    if kind == 22 {
-        return equivalent(scratch, t, at, count);
-    }
-    if kind == 23 {
-        return disjoint(scratch, t, at, count);
-    }
-    if kind == 24 {
-        return disjoint_union(store, scratch, t, at, count);
-    }
-    if kind == 29 {
-        return irreflexive(scratch, t, at, count);
-    }
-    reflexive(scratch, t, at, count)
 }

@@ -1,7 +1,6 @@
 // The first broken axiom of a deck in a state that is laid out, with the least breaking assignment.
 #![tactic(auto)]
 
-pub mod breaks;
 pub mod chains;
 pub mod elements;
 pub mod members;
@@ -9,6 +8,7 @@ pub mod pairs;
 pub mod roles;
 
 ghost use Rattle.std.specs.Prelude.{◌≡◌, Bool, true, not, List, [], ◌∷◌, ℕ, ◌<◌, ◌≤◌, length};
+ghost use Rattle.std.proofs.Math.Option.{some};
 ghost use Rattle.words.specs.Words.{words};
 ghost use Rattle.rules.specs.Deck.{Known};
 ghost use Rattle.rules.specs.Run.{scratch_bytes};
@@ -17,48 +17,46 @@ ghost use Rattle.ontology.specs.Layout.{axiom_at};
 ghost use Rattle.states.specs.Conditions.{rises, behind, least_of, axiom_broken};
 ghost use Rattle.states.specs.Masks.{mask_of};
 ghost use Rattle.states.specs.Test.{axioms_verdict};
-ghost use Rattle.sets.specs.Verdicts.{verdict_in};
+ghost use Rattle.sets.specs.Verdicts.{shown, verdict_in};
 ghost use Rattle.extents.specs.Ready.{Ready, Fits, ConceptSets, SetsThere};
 ghost use Rattle.axiomtests.specs.Breaking.{least_in, Aside};
 ghost use Rattle.axiomtests.specs.Lines.{LineIn, LineThere, Broken, of_element, of_pair};
 
-use breaks::Breaks;
 use chains::Chain;
 use extents::Trial;
 use ir::scratch::NUMBERS;
 use ontology::axiom;
+use pairs::First;
 use sets::places::SHOWN;
-use sets::verdict::Verdict;
+use sets::verdict;
+
+// What breaks an axiom is told by how many elements are shown; they stand in scratch from word SHOWN on.
 
 // The least element of a set, if it has one.
-fn show_one(scratch: &mut [u8], m: u64) -> Breaks
+fn show_one(scratch: &mut [u8], m: u64) -> Option<u32>
     requires { scratch_bytes ≤ length scratch.old }
     ensures aside { Aside (words scratch.old) (words scratch.new) }
     ensures by_index { (n : ℕ) (t : List ℕ → Bool) → n ≤ 64 → m ≡ mask_of n (λ x. not (t (x ∷ []))) → least_in (words scratch.new) result ≡ least_of (rises 0 n) 1 t }
 {
     if m == 0 {
-        return Breaks::Nothing;
+        return None;
     }
     words::put_word(scratch, SHOWN, sets::least(m) as u32);
-    Breaks::Shown(1)
+    Some(1)
 }
 
-// An element and the least of a set, if it has one.
-fn show_two(scratch: &mut [u8], x: u64, m: u64) -> Breaks
-    requires { (x < 64) × (scratch_bytes ≤ length scratch.old) }
+// An element and the least of a set that has one.
+fn show_two(scratch: &mut [u8], x: u64, m: u64)
+    requires { (x < 64) × (0 < m) × (scratch_bytes ≤ length scratch.old) }
     ensures aside { Aside (words scratch.old) (words scratch.new) }
-    ensures by_index { (n : ℕ) (t : List ℕ → Bool) → n ≤ 64 → m ≡ mask_of n (λ y. not (t (y ∷ []))) → least_in (words scratch.new) result ≡ behind x (least_of (rises 0 n) 1 t) }
+    ensures by_index { (n : ℕ) (t : List ℕ → Bool) → n ≤ 64 → m ≡ mask_of n (λ y. not (t (y ∷ []))) → some (shown (words scratch.new) 2) ≡ behind x (least_of (rises 0 n) 1 t) }
 {
-    if m == 0 {
-        return Breaks::Nothing;
-    }
     words::put_word(scratch, SHOWN, x as u32);
     words::put_word(scratch, SHOWN + 1, sets::least(m) as u32);
-    Breaks::Shown(2)
 }
 
 // ClassAssertion, which shows nothing: base + i is the class of individual i.
-fn assertion(store: &[u8], scratch: &[u8], t: Trial, at: usize, count: u32) -> Breaks
+fn assertion(store: &[u8], scratch: &[u8], t: Trial, at: usize, count: u32) -> Option<u32>
     requires { LineThere store.now scratch.now t 36 at count }
     ensures { Broken (words store.now) (words scratch.now) t 36 at count (least_in (words scratch.now) result) }
 {
@@ -69,13 +67,13 @@ fn assertion(store: &[u8], scratch: &[u8], t: Trial, at: usize, count: u32) -> B
         sets::kept::get_set(store, class),
     );
     if named == 0 {
-        return Breaks::Shown(0);
+        return Some(0);
     }
-    Breaks::Nothing
+    None
 }
 
 // SubChain, and TransitiveRole as a chain of two parts.
-fn chain(scratch: &mut [u8], t: Trial, kind: u32, at: usize, count: u32) -> Breaks
+fn chain(scratch: &mut [u8], t: Trial, kind: u32, at: usize, count: u32) -> Option<u32>
     requires { LineIn scratch.old t kind at count × (27 ≤ kind) × (kind < 29) }
     ensures aside { Aside (words scratch.old) (words scratch.new) }
     ensures by_index { (w : List ℕ) → Broken w (words scratch.old) t kind at count (least_in (words scratch.new) result) }
@@ -83,27 +81,31 @@ fn chain(scratch: &mut [u8], t: Trial, kind: u32, at: usize, count: u32) -> Brea
     let sup = words::get_word(scratch, at + 1);
     let size = t.size as u64;
     if kind == 27 {
-        let from = at + 2;
-        let parts = count - 2;
         let c = Chain {
-            sup: sup,
-            at: from,
+            sup,
+            at: at + 2,
             step: 1,
-            parts: parts,
+            parts: count - 2,
         };
         return chains::least_path(scratch, size, c);
     }
-    let from = at + 1;
     let c = Chain {
-        sup: sup,
-        at: from,
+        sup,
+        at: at + 1,
         step: 0,
         parts: 2,
     };
     chains::least_path(scratch, size, c)
 }
 
-fn element(store: &[u8], scratch: &mut [u8], t: Trial, kind: u32, at: usize, count: u32) -> Breaks
+fn element(
+    store: &[u8],
+    scratch: &mut [u8],
+    t: Trial,
+    kind: u32,
+    at: usize,
+    count: u32,
+) -> Option<u32>
     requires { LineThere store.now scratch.old t kind at count × (of_element kind ≡ true) }
     ensures aside { Aside (words scratch.old) (words scratch.new) }
     ensures broken { Broken (words store.now) (words scratch.old) t kind at count (least_in (words scratch.new) result) }
@@ -112,16 +114,17 @@ fn element(store: &[u8], scratch: &mut [u8], t: Trial, kind: u32, at: usize, cou
     show_one(scratch, m)
 }
 
-fn pair(scratch: &mut [u8], t: Trial, kind: u32, at: usize, count: u32) -> Breaks
+fn pair(scratch: &mut [u8], t: Trial, kind: u32, at: usize, count: u32) -> Option<u32>
     requires { LineIn scratch.old t kind at count × (of_pair kind ≡ true) }
     ensures aside { Aside (words scratch.old) (words scratch.new) }
     ensures by_index { (w : List ℕ) → Broken w (words scratch.old) t kind at count (least_in (words scratch.new) result) }
 {
-    let first = pairs::first_pair(scratch, t, kind, at, count);
-    show_two(scratch, first.element, first.set)
+    let First { element, set } = pairs::first_pair(scratch, t, kind, at, count)?;
+    show_two(scratch, element, set);
+    Some(2)
 }
 
-// By the kind.
+// By the kind, the deck's own number: an enum would be made by a match over the same sixteen numbers.
 fn row_broken(
     store: &[u8],
     scratch: &mut [u8],
@@ -129,34 +132,21 @@ fn row_broken(
     kind: u32,
     at: usize,
     count: u32,
-) -> Breaks
+) -> Option<u32>
     requires { LineThere store.now scratch.old t kind at count }
     ensures aside { Aside (words scratch.old) (words scratch.new) }
     ensures broken { Broken (words store.now) (words scratch.old) t kind at count (least_in (words scratch.new) result) }
 {
-    if kind < 25 {
-        return element(store, scratch, t, kind, at, count);
+    match kind {
+        21..=24 | 29 | 35 => element(store, scratch, t, kind, at, count),
+        25 | 26 | 30..=34 => pair(scratch, t, kind, at, count),
+        27 | 28 => chain(scratch, t, kind, at, count),
+        _ => assertion(store, scratch, t, at, count),
     }
-    if kind < 27 {
-        return pair(scratch, t, kind, at, count);
-    }
-    if kind < 29 {
-        return chain(scratch, t, kind, at, count);
-    }
-    if kind == 29 {
-        return element(store, scratch, t, kind, at, count);
-    }
-    if kind < 35 {
-        return pair(scratch, t, kind, at, count);
-    }
-    if kind == 35 {
-        return element(store, scratch, t, kind, at, count);
-    }
-    assertion(store, scratch, t, at, count)
 }
 
 // Axiom i.
-fn axiom_broken(store: &[u8], scratch: &mut [u8], t: Trial, i: u32) -> Breaks
+fn axiom_broken(store: &[u8], scratch: &mut [u8], t: Trial, i: u32) -> Option<u32>
     requires { SetsThere store.now scratch.old t × (i < t.axioms) }
     ensures aside { Aside (words scratch.old) (words scratch.new) }
     ensures result_after { (d : Known) (I : Interpretation) → Ready d I (words store.now) (words scratch.old) → ConceptSets d I (length d.concepts) (words scratch.old) → Fits d I t → least_in (words scratch.new) result ≡ axiom_broken I d.concepts (axiom_at (words scratch.old) i) }
@@ -167,22 +157,15 @@ fn axiom_broken(store: &[u8], scratch: &mut [u8], t: Trial, i: u32) -> Breaks
     row_broken(store, scratch, t, kind, at, count)
 }
 
-pub fn axioms_verdict(store: &[u8], scratch: &mut [u8], t: Trial) -> Verdict
+pub fn axioms_verdict(store: &[u8], scratch: &mut [u8], t: Trial) -> Result<(), verdict::Broken>
     requires { SetsThere store.now scratch.old t }
     ensures { (d : Known) (I : Interpretation) → Ready d I (words store.now) (words scratch.old) → ConceptSets d I (length d.concepts) (words scratch.old) → Fits d I t → verdict_in (words scratch.new) result ≡ axioms_verdict I d }
 {
-    let n = t.axioms;
-    let line = t.line;
-    let mut i: u32 = 0;
-    while i < n {
-        match axiom_broken(store, scratch, t, i) {
-            Breaks::Nothing => {}
-            Breaks::Shown(k) => {
-                let here = line + i;
-                return Verdict::Broken(here, k);
-            }
+    for i in 0..t.axioms {
+        if let Some(shown) = axiom_broken(store, scratch, t, i) {
+            let at = t.line + i;
+            return Err(verdict::Broken { at, shown });
         }
-        i += 1;
     }
-    Verdict::Holds
+    Ok(())
 }

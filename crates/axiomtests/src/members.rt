@@ -2,8 +2,12 @@
 ghost use Rattle.std.specs.Prelude.{◌≡◌, Bool, not, ◌||◌, ℕ, ◌+◌, ◌<◌, ◌≤◌, eqb};
 ghost use Rattle.words.specs.Words.{words};
 ghost use Rattle.rules.specs.Base.{all, any};
+ghost use Rattle.states.specs.State.{most_elements};
 ghost use Rattle.states.specs.Masks.{mask_of};
+ghost use Rattle.sets.specs.Places.{concepts_at, rows_at};
 ghost use Rattle.axiomtests.specs.Lists.{number_of, numbers_from, numbers_of, member_set, unlike_at, clash_at, clashes_at, Members, SetsIn};
+
+use sets::places::{CONCEPTS, ROWS};
 
 // The numbers stand from word `at` on, and the set of number m is set `first + step * m`.
 #[derive(Clone, Copy)]
@@ -12,6 +16,33 @@ pub struct Sets {
     pub count: u32,
     pub first: usize,
     pub step: usize,
+}
+
+impl Sets {
+    // Of concepts.
+    pub fn of_concepts(at: usize, count: u32) -> Sets
+        ensures { result ≡ record { at = at; count = count; first = concepts_at; step = 1 } }
+    {
+        Sets {
+            at,
+            count,
+            first: CONCEPTS,
+            step: 1,
+        }
+    }
+
+    // Of roles: what element x is related to.
+    pub fn of_roles(at: usize, count: u32, x: u64) -> Sets
+        requires { x < most_elements }
+        ensures { result ≡ record { at = at; count = count; first = rows_at + x; step = 64 } }
+    {
+        Sets {
+            at,
+            count,
+            first: ROWS + x as usize,
+            step: 64,
+        }
+    }
 }
 
 // The set of number j.
@@ -23,19 +54,25 @@ fn member(scratch: &[u8], l: Sets, j: u32) -> u64
     sets::kept::get_set(scratch, l.first + l.step * m)
 }
 
+// The sets from the last number to the first, each joined to what is found behind it.
+fn folded<F: Fn(u64, u64) -> u64>(scratch: &[u8], l: Sets, end: u64, join: F) -> u64
+    requires there { SetsIn scratch.now l }
+    requires callable { (a b : ℕ) → F.pre join a b }
+    ensures { (g : ℕ → ℕ) → end ≡ g l.count → ((j found r : ℕ) → j < l.count → found ≡ g (j + 1) → F.post join (member_set (words scratch.now) l j) found r → r ≡ g j) → result ≡ g 0 }
+{
+    let mut found = end;
+    for j in (0..l.count).rev() {
+        found = join(member(scratch, l, j), found);
+    }
+    found
+}
+
 // What some of them have.
 pub fn some(scratch: &[u8], l: Sets) -> u64
     requires { SetsIn scratch.now l }
     ensures { (n : ℕ) (f : ℕ → ℕ → Bool) → Members n f (words scratch.now) l → result ≡ mask_of n (λ x. any (λ c. f c x) (numbers_of (words scratch.now) l)) }
 {
-    let mut found: u64 = 0;
-    let mut j = l.count;
-    while 0 < j {
-        j -= 1;
-        let m = member(scratch, l, j);
-        found = sets::either(m, found);
-    }
-    found
+    folded(scratch, l, 0, sets::either)
 }
 
 // What all of them have.
@@ -43,14 +80,7 @@ pub fn every(scratch: &[u8], l: Sets, size: u64) -> u64
     requires { SetsIn scratch.now l × (size ≤ 64) }
     ensures { (f : ℕ → ℕ → Bool) → Members size f (words scratch.now) l → result ≡ mask_of size (λ x. all (λ c. f c x) (numbers_of (words scratch.now) l)) }
 {
-    let mut found = sets::whole(size);
-    let mut j = l.count;
-    while 0 < j {
-        j -= 1;
-        let m = member(scratch, l, j);
-        found = sets::both(m, found);
-    }
-    found
+    folded(scratch, l, sets::whole(size), sets::both)
 }
 
 // What one of them has and another has not.
@@ -65,10 +95,7 @@ pub fn unlike(scratch: &[u8], l: Sets, size: u64) -> u64
 fn clashing(a: u32, b: u32, always: bool) -> bool
     ensures { result ≡ always || not (eqb a b) }
 {
-    if always {
-        return true;
-    }
-    a != b
+    always || a != b
 }
 
 // What the set m of number a and that of number k have, if they clash.
@@ -90,10 +117,8 @@ fn clash_behind(scratch: &[u8], l: Sets, always: bool, j: u32) -> u64
 {
     let a = words::get_word(scratch, l.at + j as usize);
     let m = member(scratch, l, j);
-    let mut found: u64 = 0;
-    let mut k = l.count;
-    while j + 1 < k {
-        k -= 1;
+    let mut found = 0;
+    for k in (j + 1..l.count).rev() {
         found = sets::either(clash(scratch, l, always, a, m, k), found);
     }
     found
@@ -104,12 +129,9 @@ pub fn clashes(scratch: &[u8], l: Sets, always: bool) -> u64
     requires { SetsIn scratch.now l }
     ensures { (n : ℕ) (f : ℕ → ℕ → Bool) → Members n f (words scratch.now) l → result ≡ mask_of n (λ x. clashes_at always f (numbers_of (words scratch.now) l) x) }
 {
-    let mut found: u64 = 0;
-    let mut j = l.count;
-    while 0 < j {
-        j -= 1;
-        let m = clash_behind(scratch, l, always, j);
-        found = sets::either(m, found);
+    let mut found = 0;
+    for j in (0..l.count).rev() {
+        found = sets::either(clash_behind(scratch, l, always, j), found);
     }
     found
 }

@@ -7,9 +7,8 @@ ghost use Rattle.axiomtests.specs.Lines.{LineIn, Behind, FirstWith, of_pair};
 use crate::members::Sets;
 use crate::{members, roles};
 use extents::Trial;
-use sets::places::ROWS;
 
-// The first element, and the set of the second ones.
+// The first element, and the set of the second ones, which is not empty.
 #[derive(Clone, Copy)]
 pub struct First {
     pub element: u64,
@@ -56,15 +55,7 @@ fn disjoint_roles(scratch: &[u8], t: Trial, at: usize, count: u32, x: u64) -> u6
     requires { LineIn scratch.now t 31 at count × (x < t.size) }
     ensures { Behind (words scratch.now) t 31 at count x result }
 {
-    let from = at + 1;
-    let n = count - 1;
-    let first = ROWS + x as usize;
-    let l = Sets {
-        at: from,
-        count: n,
-        first: first,
-        step: 64,
-    };
+    let l = Sets::of_roles(at + 1, count - 1, x);
     members::clashes(scratch, l, false)
 }
 
@@ -96,15 +87,7 @@ fn equivalent_roles(scratch: &[u8], t: Trial, at: usize, count: u32, x: u64) -> 
     requires { LineIn scratch.now t 34 at count × (x < t.size) }
     ensures { Behind (words scratch.now) t 34 at count x result }
 {
-    let from = at + 1;
-    let n = count - 1;
-    let first = ROWS + x as usize;
-    let l = Sets {
-        at: from,
-        count: n,
-        first: first,
-        step: 64,
-    };
+    let l = Sets::of_roles(at + 1, count - 1, x);
     members::unlike(scratch, l, t.size as u64)
 }
 
@@ -112,40 +95,27 @@ fn pair_mask(scratch: &[u8], t: Trial, kind: u32, at: usize, count: u32, x: u64)
     requires { LineIn scratch.now t kind at count × (of_pair kind ≡ true) × (x < t.size) }
     ensures { Behind (words scratch.now) t kind at count x result }
 {
-    if kind == 25 {
-        return domain(scratch, t, at, count, x);
+    match kind {
+        25 => domain(scratch, t, at, count, x),
+        26 => range(scratch, t, at, count, x),
+        30 => asymmetric(scratch, t, at, count, x),
+        31 => disjoint_roles(scratch, t, at, count, x),
+        32 => inverse(scratch, t, at, count, x),
+        33 => sub_role(scratch, t, at, count, x),
+        _ => equivalent_roles(scratch, t, at, count, x),
     }
-    if kind == 26 {
-        return range(scratch, t, at, count, x);
-    }
-    if kind == 30 {
-        return asymmetric(scratch, t, at, count, x);
-    }
-    if kind == 31 {
-        return disjoint_roles(scratch, t, at, count, x);
-    }
-    if kind == 32 {
-        return inverse(scratch, t, at, count, x);
-    }
-    if kind == 33 {
-        return sub_role(scratch, t, at, count, x);
-    }
-    equivalent_roles(scratch, t, at, count, x)
 }
 
-// The first element with a set that is not empty, or an empty set.
-pub fn first_pair(scratch: &[u8], t: Trial, kind: u32, at: usize, count: u32) -> First
+// The first element with a set that is not empty, if there is one.
+pub fn first_pair(scratch: &[u8], t: Trial, kind: u32, at: usize, count: u32) -> Option<First>
     requires { LineIn scratch.now t kind at count × (of_pair kind ≡ true) }
     ensures { FirstWith (words scratch.now) t kind at count result }
 {
-    let size = t.size as u64;
-    let mut x: u64 = 0;
-    while x < size {
+    for x in 0..t.size as u64 {
         let m = pair_mask(scratch, t, kind, at, count, x);
         if m != 0 {
-            return First { element: x, set: m };
+            return Some(First { element: x, set: m });
         }
-        x += 1;
     }
-    First { element: 0, set: 0 }
+    None
 }

@@ -21,7 +21,7 @@ use Rattle.rules.specs.Invariants.{Each, RisingFrom}
 use Rattle.rules.specs.JointLaws.{Rising, insert_rising}
 use Rattle.rules.specs.EachLaws.{each_any, each_left, each_right, each_map}
 use Rattle.rules.specs.Semantics.{Interpretation, implies, chosen, atom_holds, inserted, vars_of, clause_vars}
-use Rattle.meaning.specs.Truth.{or_unit, or_none, and_unit, any_append, each_all}
+use Rattle.meaning.specs.Truth.{or_none, and_unit, any_append, each_all}
 use Rattle.meaning.specs.Choices.{AgreeOn, atom_agree, InVars, in_vars}
 use Rattle.states.specs.Conditions.{rises, behind, chosen_from, clause_broken}
 use Rattle.states.specs.ChainLaws.{first_same}

@@ -21,7 +21,6 @@ module _ (s₀ : List ℕ) (a : Atom) (at f : ℕ) (head : Bool) (size : ℕ) wh
 
   -- before the set of element e
   pub record Rows (s : List ℕ) (e : ℕ) : Type 0 where
-    pub within : e ≤ size
     pub long : length s ≡ length s₀
     pub other : Changed (2 * at) (2 * (at + 64)) (words s₀) (words s)
     pub left : (q : ℕ) → e ≤ q → q < size → set_at (words s) (at + q) ≡ set_at (words s₀) (at + q)
@@ -30,7 +29,6 @@ module _ (s₀ : List ℕ) (a : Atom) (at f : ℕ) (head : Bool) (size : ℕ) wh
 
   pub rows_start : Rows s₀ 0
   rows_start = record {
-    within = omega arith;
     long = refl;
     other = changed_none (2 * at) (2 * (at + 64)) (words s₀);
     left = λ q h l. refl;
@@ -48,7 +46,6 @@ module _ (s₀ : List ℕ) (a : Atom) (at f : ℕ) (head : Bool) (size : ℕ) wh
         (C : Changed (2 * (at + e)) (2 * (at + e) + 2) (words s) (words s')) where
       pub rows_next : Rows s' (e + 1)
       rows_next = record {
-        within = omega arith;
         long = long' ∙ H.long;
         other = sets_changed at e (words s) (words s') C 64 (words s₀) (omega arith) H.other;
         left = sets_left at e (words s) (words s') C size (words s₀) H.left;

@@ -1,6 +1,6 @@
 -- The tables narrowed by the atoms of a run, one after the other, and by a clause's body and head. Assumes nothing.
 use mathlib.Core.Path.{◌≡◌, refl, sym, ap, subst, ◌∙◌}
-use mathlib.Core.Bool.{Bool, true, false, ◌&&◌}
+use mathlib.Core.Bool.{Bool, true, ◌&&◌}
 use mathlib.Core.List.{List, [], ◌∷◌, ◌++◌}
 use Prim.Native.Nat.{ℕ, ◌+◌, ◌*◌, ◌/◌, ◌<◌, ◌≤◌}
 use native.Mathlib.Omega.{arith}
@@ -91,7 +91,6 @@ module _ (text store s₀ run : List ℕ) (v : Vars) (head : Bool) (size : ℕ) 
   -- before atom i
   pub record RunTo (n : ℕ) (s : List ℕ) (i : ℕ) : Type 0 where
     pub count : n ≡ length run / 24
-    pub within : i ≤ n
     pub long : length s ≡ length s₀
     pub other : Changed (2 * vars_at) shown_at (words s₀) (words s)
     pub done : (I : Interpretation) (roles : ℕ) (vs : List ℕ) (l : List Atom) (one : ℕ → ℕ → Bool) (two : ℕ → ℕ → ℕ → ℕ → Bool) → Run run l → Meant I roles vs size l v text (words store) (words s₀) → Tables size v.n one two (words s₀)
@@ -100,7 +99,6 @@ module _ (text store s₀ run : List ℕ) (v : Vars) (head : Bool) (size : ℕ) 
   pub run_start : (n : ℕ) → n ≡ length run / 24 → RunTo n s₀ 0
   run_start n e = record {
     count = e;
-    within = omega arith;
     long = refl;
     other = changed_none (2 * vars_at) shown_at (words s₀);
     done = λ I roles vs l one two R M T. tables_same size v.n one (ones_with I vs head [] one) two (twos_with I vs head [] two) (words s₀) (λ j x. sym (and_unit (one j x))) (λ i j e x. sym (and_unit (two i j e x))) T;
@@ -115,7 +113,6 @@ module _ (text store s₀ run : List ℕ) (v : Vars) (head : Bool) (size : ℕ) 
         → RunTo n s' (i + 1)
     run_next h s' e C N = record {
       count = H.count;
-      within = omega arith;
       long = e ∙ H.long;
       other = changed_then (2 * vars_at) shown_at (words s₀) (words s) (words s') H.other C;
       done = λ I roles vs l one two R M T.

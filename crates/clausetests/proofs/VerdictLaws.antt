@@ -1,6 +1,6 @@
 -- The elements shown, one clause, and the clauses one after the other. Assumes nothing.
 use mathlib.Core.Path.{◌≡◌, refl, sym, ap, ◌∙◌}
-use mathlib.Core.Bool.{Bool, true, false, not, ◌||◌, false≢true}
+use mathlib.Core.Bool.{Bool, true, false, ◌||◌, false≢true}
 use mathlib.Core.List.{List, [], ◌∷◌, ◌++◌, append_assoc}
 use mathlib.Core.Option.{Option, none, some}
 use Prim.Native.Nat.{ℕ, zero, suc, ◌+◌, ◌*◌, ◌<◌, ◌≤◌}
@@ -8,8 +8,8 @@ use native.Mathlib.Omega.{arith}
 use lib.ListN.{length, get_or, take, drop, drop_of_length-le}
 use lib.Seq.{sets, sets-eq, drop_at, take-append-le, length-take-le}
 use borrow.Author.Tests.{ltb-false}
+use Rattle.std.specs.Prelude as Code
 use Rattle.words.specs.Words.{words}
-use Rattle.ir.specs.Pick.{pick}
 use Rattle.words.specs.Runs.{get_d_sets_before, get_d_sets_after}
 use Rattle.rules.specs.Base.{any}
 use Rattle.rules.specs.State.{Clause}
@@ -25,7 +25,6 @@ use Rattle.sets.specs.Verdicts.{shown}
 use Rattle.tables.specs.Tabled.{Run, Tabled, ClauseThere, no_clause}
 use Rattle.tables.specs.ClauseLaws.{clause_at, clause_split}
 use Rattle.clausetests.specs.declared.vars.Vars.{Vars}
-use Rattle.clausetests.specs.declared.search.Found.{Found}
 use Rattle.clausetests.specs.Vars.{VarsAs, few, many}
 use Rattle.clausetests.specs.Given.{Given, NamesRoles}
 use Rattle.clausetests.specs.Fitting.{clause_one, clause_two, Changed, Meant, ClauseMeant}
@@ -36,16 +35,15 @@ use Rattle.clausetests.proofs.PlaceLaws.{vars_long}
 use Rattle.clausetests.proofs.BreakLaws.{vars_distinct, broken_search}
 
 -- ---- the elements shown
-module _ (w w' : List ℕ) (a b c d : ℕ) (e : w' ≡ sets w shown_at (a ∷ b ∷ c ∷ d ∷ [])) where
-  pub shown_put : shown_at + 4 ≤ length w → (k : ℕ) → k ≤ 4 → shown w' k ≡ take k (a ∷ b ∷ c ∷ d ∷ [])
+module _ (w w' xs : List ℕ) (four : length xs ≡ 4) (e : w' ≡ sets w shown_at xs) where
+  pub shown_put : shown_at + 4 ≤ length w → (k : ℕ) → k ≤ 4 → shown w' k ≡ take k xs
   shown_put h k l =
-      let xs : List ℕ = a ∷ b ∷ c ∷ d ∷ [] in
-      ap (λ (t : List ℕ). take k (drop shown_at t)) (e ∙ sets-eq xs w shown_at h ∙ append_assoc (take shown_at w) xs (drop (shown_at + length xs) w))
+      ap (λ (t : List ℕ). take k (drop shown_at t)) (e ∙ sets-eq xs w shown_at (omega arith) ∙ append_assoc (take shown_at w) xs (drop (shown_at + length xs) w))
       ∙ ap (take k) (drop_at (take shown_at w) (xs ++ drop (shown_at + length xs) w) shown_at (length-take-le shown_at w (omega arith)))
-      ∙ take-append-le k xs (drop (shown_at + length xs) w) l
+      ∙ take-append-le k xs (drop (shown_at + length xs) w) (omega arith)
 
   pub shown_changed : Changed shown_at (shown_at + 4) w w'
-  shown_changed = rw e (record { before = λ i h. get_d_sets_before (a ∷ b ∷ c ∷ d ∷ []) w shown_at i 0 h; behind = λ i h. get_d_sets_after (a ∷ b ∷ c ∷ d ∷ []) w shown_at i 0 h })
+  shown_changed = rw e (record { before = λ i h. get_d_sets_before xs w shown_at i 0 h; behind = λ i h. get_d_sets_after xs w shown_at i 0 (omega arith) })
 
 -- ---- one clause
 vars_few : (c : Clause) (v : Vars) → VarsAs (clause_vars c) v → wide_clause c ≡ false → v.n ≤ 4
@@ -64,7 +62,7 @@ module _ (I : Interpretation) (roles size : ℕ) (c : Clause) (i : ℕ) (text cl
   }
 
   -- what was found by the tables
-  pub found_broken : (f : Found) → found_in v.n f ≡ search_by size (clause_two I c) v.n 0 (clause_one I c) → found_in v.n f ≡ clause_broken I c
+  pub found_broken : (f : Code.Option (List ℕ)) → found_in v.n f ≡ search_by size (clause_two I c) v.n 0 (clause_one I c) → found_in v.n f ≡ clause_broken I c
   found_broken f e =
       e ∙ ap (λ (m : ℕ). search_by m (clause_two I c) v.n 0 (clause_one I c)) S.given.elements
       ∙ ap (λ (m : ℕ). search_by I.size (clause_two I c) m 0 (clause_one I c)) (sym (vars_long (clause_vars c) v A (vars_few c v A S.narrow))) ∙ sym (broken_search I c)
@@ -93,19 +91,12 @@ module _ (size i : ℕ) (text clauses atoms store s : List ℕ) (H : ClauseHere 
     };
   }
 
-pub verdict_none : (i n : ℕ) (f : Found) (o : Option (List ℕ)) → not f.yes ≡ true → found_in n f ≡ o → holds ≡ or_broken i o holds
-verdict_none i n f o y e = rw (← e) (go f.yes y)
-  where
-    go : (b : Bool) → not b ≡ true → holds ≡ or_broken i (pick b (some (take n (f.a ∷ f.b ∷ f.c ∷ f.d ∷ []))) none) holds
-    go true y = absurd (false≢true y)
-    go false y = refl
+-- what is shown breaks it
+pub verdict_some : (i : ℕ) (o : Option (List ℕ)) (k l : List ℕ) → some k ≡ o → l ≡ k → broken i l ≡ or_broken i o holds
+verdict_some i o k l e g = rw (← e, g) refl
 
-pub verdict_some : (i n : ℕ) (f : Found) (o : Option (List ℕ)) (l : List ℕ) → not f.yes ≡ false → found_in n f ≡ o → l ≡ take n (f.a ∷ f.b ∷ f.c ∷ f.d ∷ []) → broken i l ≡ or_broken i o holds
-verdict_some i n f o l y e g = rw (← e, g) (go f.yes y)
-  where
-    go : (b : Bool) → not b ≡ false → broken i (take n (f.a ∷ f.b ∷ f.c ∷ f.d ∷ [])) ≡ or_broken i (pick b (some (take n (f.a ∷ f.b ∷ f.c ∷ f.d ∷ []))) none) holds
-    go true y = refl
-    go false y = absurd (false≢true (sym y))
+pub verdict_none : (i : ℕ) (o : Option (List ℕ)) → none ≡ o → holds ≡ or_broken i o holds
+verdict_none i o e = rw (← e) refl
 
 -- ---- the clauses one after the other
 any_nth : (f : Clause → Bool) (l : List Clause) (i : ℕ) → any f l ≡ false → i < length l → f (get_or l i no_clause) ≡ false
@@ -141,14 +132,13 @@ stops i (some k) n l r e = e
 module _ (text clauses atoms store s₀ : List ℕ) (count size : ℕ) where
   -- before clause i
   pub record TriedTo (s : List ℕ) (i : ℕ) : Type 0 where
-    pub within : i ≤ count
     pub long : length s ≡ length s₀
     pub other : Changed (2 * vars_at) (shown_at + 4) (words s₀) (words s)
     pub left : (I : Interpretation) (roles : ℕ) (l : List Clause) → Given I roles size text (words store) (words s₀) → Tabled (words clauses) (words atoms) count l → Each (ClauseNames roles) l → any wide_clause l ≡ false
         → first_broken (clause_broken I) i (drop i l) ≡ clauses_verdict I l
 
   pub tried_start : TriedTo s₀ 0
-  tried_start = record { within = omega arith; long = refl; other = changed_none (2 * vars_at) (shown_at + 4) (words s₀); left = λ I roles l G T N W. refl }
+  tried_start = record { long = refl; other = changed_none (2 * vars_at) (shown_at + 4) (words s₀); left = λ I roles l G T N W. refl }
 
   module _ (s : List ℕ) (i : ℕ) (H : TriedTo s i) where
     kept : (I : Interpretation) (roles : ℕ) → Given I roles size text (words store) (words s₀) → Given I roles size text (words store) (words s)
@@ -175,7 +165,6 @@ module _ (text clauses atoms store s₀ : List ℕ) (count size : ℕ) where
 
       pub tried_on : v ≡ holds → (s' : List ℕ) → length s' ≡ length s → Changed (2 * vars_at) (shown_at + 4) (words s) (words s') → TriedTo s' (i + 1)
       tried_on e s' g C = record {
-        within = omega arith;
         long = g ∙ H.long;
         other = changed_then (2 * vars_at) (shown_at + 4) (words s₀) (words s) (words s') H.other C;
         left = λ I roles l G T N W. sym (split I l T ∙ goes_on i (clause_broken I (get_or l i no_clause)) (first_broken (clause_broken I) (i + 1) (drop (i + 1) l)) (sym e ∙ here I roles l G T N W)) ∙ H.left I roles l G T N W;

@@ -1,13 +1,23 @@
 -- The search by the tables: with each element the sets of the places behind it are narrowed.
-use Rattle.std.specs.Prelude.{Bool, ◌&&◌, List, [], ◌∷◌, ℕ, zero, suc, ◌+◌, take}
+use Rattle.std.specs.Prelude.{◌≡◌, Bool, ◌&&◌, List, [], ℕ, zero, suc, ◌+◌, ◌≤◌, ◌<◌, get_or, take, drop}
+use Rattle.std.specs.Prelude as Code
 use Rattle.std.proofs.Math.Option.{Option, none, some}
 use Rattle.ir.specs.Pick.{pick}
 use Rattle.states.specs.Conditions.{rises, behind, first_of}
-use Rattle.clausetests.specs.declared.search.Found.{Found}
+use Rattle.states.specs.Masks.{mask_of}
 
--- k elements, as the code has them
-abbrev pub found_in : ℕ → Found → Option (List ℕ)
-found_in k f = pick f.yes (some (take k (f.a ∷ f.b ∷ f.c ∷ f.d ∷ []))) none
+-- k elements, as the code has them: the first ones, or those from place j on
+abbrev pub found_in : ℕ → Code.Option (List ℕ) → Option (List ℕ)
+found_in k (Code.Some l) = some (take k l)
+found_in k Code.None = none
+
+abbrev pub found_from : ℕ → ℕ → Code.Option (List ℕ) → Option (List ℕ)
+found_from j k (Code.Some l) = some (take k (drop j l))
+found_from j k Code.None = none
+
+-- the sets of the places from j on and before `end`
+abbrev pub Fits : ℕ → ℕ → ℕ → (ℕ → ℕ → Bool) → List ℕ → Type 0
+Fits n j end F l = (i : ℕ) → j ≤ i → i < end → get_or l i 0 ≡ mask_of n (F i)
 
 -- what fits at each place, with x at place j
 abbrev pub narrowed : (ℕ → ℕ → ℕ → ℕ → Bool) → ℕ → ℕ → (ℕ → ℕ → Bool) → ℕ → ℕ → Bool

@@ -28,13 +28,7 @@ fn at_most(scratch: &[u8], code: u32, among: u64, n: u32, size: u32) -> u64
     requires { RowsThere code size scratch.now }
     ensures { (R : ℕ → ℕ → Bool) (f : ℕ → Bool) → Rows (words scratch.now) code size R → among ≡ mask_of size f → result ≡ mask_of size (λ x. leb (count_in size R f x) n) }
 {
-    let mut m: u64 = 0;
-    let mut x: u32 = 0;
-    while x < size {
-        m = sets::grown(m, x as u64, count_in(scratch, code, x, among) <= n);
-        x += 1;
-    }
-    m
+    sets::filtered(size, |x| count_in(scratch, code, x, among) <= n)
 }
 
 // To at least n.
@@ -42,13 +36,7 @@ fn at_least(scratch: &[u8], code: u32, among: u64, n: u32, size: u32) -> u64
     requires { RowsThere code size scratch.now }
     ensures { (R : ℕ → ℕ → Bool) (f : ℕ → Bool) → Rows (words scratch.now) code size R → among ≡ mask_of size f → result ≡ mask_of size (λ x. leb n (count_in size R f x)) }
 {
-    let mut m: u64 = 0;
-    let mut x: u32 = 0;
-    while x < size {
-        m = sets::grown(m, x as u64, n <= count_in(scratch, code, x, among));
-        x += 1;
-    }
-    m
+    sets::filtered(size, |x| n <= count_in(scratch, code, x, among))
 }
 
 // The elements that a number restriction counts.

@@ -26,11 +26,9 @@ fn line_set(text: &[u8], p: usize, n: usize, size: u32) -> u64
     requires { (p + 11 * n ≤ length text.now) × (size ≤ 64) }
     ensures { result ≡ set_of size (drop 2 (row_at text.now p n)) }
 {
-    let mut m: u64 = 0;
-    let mut k: usize = 2;
-    while k < n {
+    let mut m = 0;
+    for k in 2..n {
         m = with_below(m, text::field(text, p, n, k), size);
-        k += 1;
     }
     m
 }
@@ -40,10 +38,7 @@ fn is_line(text: &[u8], p: usize, n: usize, c: u32) -> bool
     requires { p + 11 * n ≤ length text.now }
     ensures { result ≡ eqb (get_or (row_at text.now p n) 0 0) 51 && eqb c (get_or (row_at text.now p n) 1 0) }
 {
-    if text::entry(text, p, n, 0) != 51 {
-        return false;
-    }
-    c as usize == text::entry(text, p, n, 1)
+    text::entry(text, p, n, 0) == 51 && c as usize == text::entry(text, p, n, 1)
 }
 
 // Class c's line, from the line at `from` on.

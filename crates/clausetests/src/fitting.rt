@@ -27,16 +27,12 @@ fn pairs(k: u32) -> usize
     requires { k ≤ 4 }
     ensures { (result ≡ pairs k) × (result ≤ 6) }
 {
-    if k < 2 {
-        return 0;
+    match k {
+        0 | 1 => 0,
+        2 => 1,
+        3 => 3,
+        _ => 6,
     }
-    if k == 2 {
-        return 1;
-    }
-    if k == 3 {
-        return 3;
-    }
-    6
 }
 
 // Where the sets of the places i and j begin.
@@ -61,10 +57,8 @@ fn fill(scratch: &mut [u8], from: usize, n: usize, m: u64)
     ensures by_index { (i : ℕ) → i < n → set_at (words scratch.new) (from + i) ≡ m }
     ensures changed { Changed (2 * from) (2 * (from + n)) (words scratch.old) (words scratch.new) }
 {
-    let mut i: usize = 0;
-    while i < n {
+    for i in 0..n {
         kept::put_set(scratch, from + i, m);
-        i += 1;
     }
 }
 
@@ -105,11 +99,9 @@ fn narrow_rows(scratch: &mut [u8], a: Atom, at: usize, free: u32, head: bool, si
     ensures e_after { (I : Interpretation) (roles : ℕ) (text w : List ℕ) (f : ℕ → ℕ → Bool) → Given I roles size text w (words scratch.old) → NamesRoles roles a → ((e : ℕ) → e < size → set_at (words scratch.old) (at + e) ≡ mask_of size (f e)) → (e : ℕ) → e < size → set_at (words scratch.new) (at + e) ≡ mask_of size (λ y. f e y && turned head (atom_holds I (chosen (λ _. e) «free» y) a)) }
     ensures changed { Changed (2 * at) (2 * (at + 64)) (words scratch.old) (words scratch.new) }
 {
-    let mut e: u32 = 0;
-    while e < size {
+    for e in 0..size {
         let m = atom::atom_row(scratch, a, free, e, size);
         narrow(scratch, at + e as usize, m, head);
-        e += 1;
     }
 }
 
@@ -211,10 +203,8 @@ fn narrow_run(
     ensures changed { Changed (2 * vars_at) shown_at (words scratch.old) (words scratch.new) }
 {
     let n = run.len() / 24;
-    let mut i: usize = 0;
-    while i < n {
+    for i in 0..n {
         narrow_at(text, store, scratch, run, i, v, head, size);
-        i += 1;
     }
 }
 

@@ -1,5 +1,5 @@
 // The first clause that is broken, and the least elements that break it.
-ghost use Rattle.std.specs.Prelude.{◌≡◌, false, List, [], ◌∷◌, ℕ, ◌≤◌, ◌+◌, ◌*◌, length, take};
+ghost use Rattle.std.specs.Prelude.{◌≡◌, false, List, ℕ, ◌≤◌, ◌+◌, ◌*◌, length, take};
 ghost use Rattle.words.specs.Words.{words};
 ghost use Rattle.rules.specs.Base.{any};
 ghost use Rattle.rules.specs.State.{Clause};
@@ -15,22 +15,20 @@ ghost use Rattle.clausetests.specs.Given.{Given};
 ghost use Rattle.clausetests.specs.Fitting.{Changed};
 ghost use Rattle.clausetests.specs.Clauses.{ClauseNames, ClausesThere, ClauseIs, ClauseHere};
 
-use crate::search::Found;
 use crate::{fitting, search, vars};
 use sets::places::SHOWN;
-use sets::verdict::Verdict;
+use sets::verdict::Broken;
 use tables::read;
 
 // The elements stand in scratch.
-fn put_shown(scratch: &mut [u8], f: Found)
+fn put_shown(scratch: &mut [u8], found: [u32; 4])
     requires { scratch_bytes ≤ length scratch.old }
-    ensures by_index { (k : ℕ) → k ≤ 4 → shown (words scratch.new) k ≡ take k (f.a ∷ f.b ∷ f.c ∷ f.d ∷ []) }
+    ensures by_index { (k : ℕ) → k ≤ 4 → shown (words scratch.new) k ≡ take k found }
     ensures changed { Changed shown_at (shown_at + 4) (words scratch.old) (words scratch.new) }
 {
-    words::put_word(scratch, SHOWN, f.a);
-    words::put_word(scratch, SHOWN + 1, f.b);
-    words::put_word(scratch, SHOWN + 2, f.c);
-    words::put_word(scratch, SHOWN + 3, f.d);
+    for i in 0..4 {
+        words::put_word(scratch, SHOWN + i, found[i]);
+    }
 }
 
 // Clause i.
@@ -42,7 +40,7 @@ fn clause_verdict(
     scratch: &mut [u8],
     i: u32,
     size: u32,
-) -> Verdict
+) -> Result<(), Broken>
     requires { ClauseHere size i text.now clauses.now atoms.now store.now scratch.old }
     ensures result_after { (I : Interpretation) (roles : ℕ) (c : Clause) → ClauseIs I roles size c i text.now (words clauses.now) (words atoms.now) (words store.now) (words scratch.old) → verdict_in (words scratch.new) result ≡ or_broken i (clause_broken I c) holds }
     ensures changed { Changed (2 * vars_at) (shown_at + 4) (words scratch.old) (words scratch.new) }
@@ -51,12 +49,11 @@ fn clause_verdict(
     let body = read::body_of(clauses, atoms, i);
     let head = read::head_of(clauses, atoms, i);
     fitting::clause_tables(text, store, scratch, body, head, v, size);
-    let f = search::search(scratch, v.n, size);
-    if !f.yes {
-        return Verdict::Holds;
+    if let Some(found) = search::search(scratch, v.n, size) {
+        put_shown(scratch, found);
+        return Err(Broken { at: i, shown: v.n });
     }
-    put_shown(scratch, f);
-    Verdict::Broken(i, v.n)
+    Ok(())
 }
 
 // The first `count` clauses.
@@ -68,17 +65,12 @@ pub fn clauses_verdict(
     scratch: &mut [u8],
     count: u32,
     size: u32,
-) -> Verdict
+) -> Result<(), Broken>
     requires { ClausesThere size count text.now clauses.now atoms.now store.now scratch.old }
     ensures { (I : Interpretation) (roles : ℕ) (l : List Clause) → Given I roles size text.now (words store.now) (words scratch.old) → Tabled (words clauses.now) (words atoms.now) count l → Each (ClauseNames roles) l → any wide_clause l ≡ false → verdict_in (words scratch.new) result ≡ clauses_verdict I l }
 {
-    let mut i: u32 = 0;
-    while i < count {
-        match clause_verdict(text, clauses, atoms, store, scratch, i, size) {
-            Verdict::Holds => {}
-            Verdict::Broken(n, k) => return Verdict::Broken(n, k),
-        }
-        i += 1;
+    for i in 0..count {
+        clause_verdict(text, clauses, atoms, store, scratch, i, size)?;
     }
-    Verdict::Holds
+    Ok(())
 }

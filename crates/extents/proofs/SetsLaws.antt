@@ -22,7 +22,6 @@ use Rattle.extents.specs.Sets.{IsSet}
 -- store and scratch by their bytes, s₀ before and s now
 pub record SetsTo (store s₀ s : List ℕ) (t : Trial) (c : ℕ) : Type 0 where
   pub long : length s ≡ length s₀
-  pub few : c ≤ t.concepts
   pub low : KeptTo deck_words (words s₀) (words s)
   pub high : KeptIn 86016 393216 (words s₀) (words s)
   pub sets : (d : Known) (I : Interpretation) → Ready d I (words store) (words s₀) → Fits d I t → ConceptSets d I c (words s)
@@ -30,7 +29,6 @@ pub record SetsTo (store s₀ s : List ℕ) (t : Trial) (c : ℕ) : Type 0 where
 pub sets_start : (store s : List ℕ) (t : Trial) → SetsTo store s s t 0
 sets_start store s t = record {
   long = refl;
-  few = omega arith;
   low = λ i h. refl;
   high = λ i l h. refl;
   sets = λ d I R F c h. absurd (omega arith);
@@ -81,7 +79,6 @@ module _ (store s₀ s : List ℕ) (t : Trial) (c : ℕ) (T : SetsTo store s₀ 
       pub sets_more : length s' ≡ length s → SetsTo store s₀ s' t (c + 1)
       sets_more n = record {
         long = n ∙ T.long;
-        few = omega arith;
         low = kept_trans deck_words (words s₀) (words s) (words s') T.low put_low;
         high = kept_in_trans 86016 393216 (words s₀) (words s) (words s') T.high put_high;
         sets = next;

@@ -40,12 +40,10 @@ pub fn joint_set(scratch: &[u8], j: Joint, start: u32, count: u32, n: u32) -> u6
     ensures { (m : ℕ → ℕ → Bool) → Each (λ c. set_at (words scratch.now) (concepts_at + c) ≡ mask_of n (m c)) (run (words scratch.now) (members_at + start) count) → result ≡ mask_of n (λ x. over (joint_of j) (λ c. m c x) (run (words scratch.now) (members_at + start) count)) }
 {
     let mut m = unit(j, n);
-    let mut i: u32 = 0;
-    while i < count {
+    for i in 0..count {
         let c = record::member(scratch, start + i);
         let set = crate::set_of(scratch, c);
         m = joined(j, m, set);
-        i += 1;
     }
     m
 }

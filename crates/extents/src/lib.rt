@@ -108,7 +108,8 @@ fn filled_set(scratch: &[u8], c: u32, t: Trial) -> u64
     restriction::restriction_set(scratch, kind, number, role, set, t.size)
 }
 
-// By the sets of the concepts before it.
+// By the sets of the concepts before it. A kind is the deck's own number, which the record has as a word: an enum would cost a match
+// of twelve arms before this one.
 fn concept_set(store: &[u8], scratch: &[u8], c: u32, t: Trial) -> u64
     requires { ReadyThere store.now scratch.now t × (c < t.concepts) }
     ensures { IsSet (words store.now) (words scratch.now) t c result }
@@ -130,11 +131,8 @@ pub fn concept_sets(store: &[u8], scratch: &mut [u8], t: Trial)
     ensures kept_to { KeptTo deck_words (words scratch.old) (words scratch.new) }
     ensures kept_in { KeptIn 86016 393216 (words scratch.old) (words scratch.new) }
 {
-    let n = t.concepts;
-    let mut c: u32 = 0;
-    while c < n {
+    for c in 0..t.concepts {
         let set = concept_set(store, scratch, c, t);
         kept::put_set(scratch, CONCEPTS + c as usize, set);
-        c += 1;
     }
 }

@@ -38,7 +38,7 @@ pub fn at_most(number: u32, row: u64, set: u64) -> bool
     sets::size(sets::both(row, set)) <= number
 }
 
-// By the restriction's kind.
+// By the restriction's kind, the deck's own number.
 fn holds(kind: u32, number: u32, row: u64, set: u64) -> bool
     ensures { (n : ℕ) (f g : ℕ → Bool) → row ≡ mask_of n f → set ≡ mask_of n g → result ≡ restricted kind number n f g }
 {
@@ -55,13 +55,5 @@ pub fn restriction_set(scratch: &[u8], kind: u32, number: u32, code: u32, set: u
     requires { (code < 2048) × (n ≤ 64) × (scratch_bytes ≤ length scratch.now) }
     ensures { (f : ℕ → ℕ → Bool) (g : ℕ → Bool) → Rows (words scratch.now) code n f → set ≡ mask_of n g → result ≡ mask_of n (λ x. restricted kind number n (f x) g) }
 {
-    let mut m: u64 = 0;
-    let mut x: u32 = 0;
-    while x < n {
-        let row = kept::row(scratch, code, x);
-        let here = holds(kind, number, row, set);
-        m = sets::grown(m, x as u64, here);
-        x += 1;
-    }
-    m
+    sets::filtered(n, |x| holds(kind, number, kept::row(scratch, code, x), set))
 }

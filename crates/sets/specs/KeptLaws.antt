@@ -1,7 +1,6 @@
 -- A set that is put is there, and every other stays. Assumes nothing.
-use Rattle.std.specs.Prelude.{◌≡◌, refl, List, [], ◌∷◌, ℕ, ◌+◌, ◌*◌, ◌/◌, ◌%◌, ◌<◌, ◌≤◌, length, get_or}
+use Rattle.std.specs.Prelude.{◌≡◌, List, [], ◌∷◌, ℕ, ◌+◌, ◌*◌, ◌/◌, ◌%◌, ◌<◌, ◌≤◌, length, get_or}
 use Rattle.std.proofs.Common.{sym, ap, ap₂, ◌∙◌, arith, add-zero}
-use Rattle.std.proofs.lemmas.List.Edits.{sets}
 use Rattle.words.specs.Runs.{get_d_sets_in, get_d_sets_before, get_d_sets_after}
 use Rattle.sets.specs.Kept.{set_at, set_put}
 

@@ -39,13 +39,5 @@ pub fn loops(scratch: &[u8], code: u32, n: u32) -> u64
     requires { (code < 2048) × (n ≤ 64) × (scratch_bytes ≤ length scratch.now) }
     ensures { (f : ℕ → ℕ → Bool) → Rows (words scratch.now) code n f → result ≡ mask_of n (λ x. f x x) }
 {
-    let mut m: u64 = 0;
-    let mut x: u32 = 0;
-    while x < n {
-        let here = row(scratch, code, x);
-        let looped = crate::has(here, x as u64);
-        m = crate::grown(m, x as u64, looped);
-        x += 1;
-    }
-    m
+    crate::filtered(n, |x| crate::has(row(scratch, code, x), x as u64))
 }

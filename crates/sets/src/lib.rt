@@ -85,6 +85,19 @@ pub fn grown(m: u64, x: u64, b: bool) -> u64
     m
 }
 
+// The elements of the first n that pass the test.
+pub fn filtered<F: Fn(u32) -> bool>(n: u32, test: F) -> u64
+    requires few { n ≤ 64 }
+    requires callable { (x : ℕ) → x < n → F.pre test x }
+    ensures { (f : ℕ → Bool) → ((x : ℕ) (b : Bool) → x < n → F.post test x b → b ≡ f x) → result ≡ mask_of n f }
+{
+    let mut m: u64 = 0;
+    for x in 0..n {
+        m = grown(m, x as u64, test(x));
+    }
+    m
+}
+
 // The least element of a set that has one.
 pub fn least(m: u64) -> u64
     requires { 0 < m }

@@ -1,7 +1,6 @@
-// A verdict: what is broken, by an axiom's line or a clause's number, and how many elements are shown. They stand in scratch from
-// word SHOWN on.
+// What is broken, by an axiom's line or a clause's number, and how many elements are shown. They stand in scratch from word SHOWN on.
 #[derive(Clone, Copy)]
-pub enum Verdict {
-    Holds,
-    Broken(u32, u32),
+pub struct Broken {
+    pub at: u32,
+    pub shown: u32,
 }

@@ -1,8 +1,9 @@
 -- The deck that was read twice, once for its header and once into scratch, is one deck; and what is laid out beside it is ready
 -- for the tests. Assumes nothing.
-use Rattle.std.specs.Prelude.{◌≡◌, refl, Bool, true, false, List, ℕ, ◌+◌, ◌*◌, ◌/◌, ◌≤◌, length, ltb, leb}
+use Rattle.std.specs.Prelude.{◌≡◌, refl, Bool, true, false, List, ℕ, ◌+◌, ◌*◌, ◌/◌, ◌≤◌, length, ltb, leb, Result, Ok, Err, is_ok}
 use Rattle.std.proofs.Common.{sym, ap, subst, ◌∙◌, arith, ltb-true, le_refl}
 use Rattle.std.proofs.lemmas.Bool.{false≢true}
+use Rattle.ir.specs.Refusals.{refusal_number}
 use Rattle.ir.specs.declared.counters.Counters.{Counters}
 use Rattle.words.specs.Words.{words}
 use Rattle.rules.specs.Base.{contains}
@@ -13,8 +14,7 @@ use Rattle.rules.specs.Deck.{Known, Told, fine, refused, read_deck}
 use Rattle.rules.specs.DeckLaws.{DeckIn, read_in}
 use Rattle.rules.specs.Semantics.{Interpretation}
 use Rattle.rules.specs.Statements.{Proper}
-use Rattle.deck.specs.declared.Answer.{Answer}
-use Rattle.deck.specs.declared.Answer.TheVariants as Answers
+use Rattle.deck.specs.declared.Refused.{Refused}
 use Rattle.deck.specs.declared.state.State.{State as Reader}
 use Rattle.deck.specs.Records.{known_in, told_of}
 use Rattle.ontology.specs.declared.load.Loaded.{Loaded}
@@ -36,8 +36,7 @@ use Rattle.pool.specs.HeldLaws.{Same, held_same, pool_same}
 use Rattle.ontology.specs.Layout.{axioms_of, AxiomsHeld}
 use Rattle.ontology.specs.KeptAxioms.{held_axioms, axioms_kept}
 use Rattle.layouts.specs.declared.Limits.{Limits}
-use Rattle.layouts.specs.declared.Stated.{Stated}
-use Rattle.layouts.specs.declared.Stated.TheVariants as States
+use Rattle.layouts.specs.declared.BadLine.{BadLine}
 use Rattle.layouts.specs.Read.{Declares, StatedAs}
 use Rattle.trials.specs.Judged.{Judgement, denied, judged_of}
 use Rattle.trials.specs.Judging.{InScratch, trial_of, Clauses, Clausal}
@@ -58,12 +57,16 @@ fine_refused d n line h = absurd (false≢true (ap is_fine h))
     is_fine (fine d) = true
     is_fine (refused n line) = false
 
-module _ (deck t : List ℕ) (a : Answer) (e : told_of deck t a ≡ read_deck deck) where
-  pub answer_known : (k : Reader) (d : Known) → a ≡ Answers.Accepted k → read_deck deck ≡ fine d → known_in deck t k ≡ d
+module _ (deck t : List ℕ) (a : Result Reader Refused) (e : told_of deck t a ≡ read_deck deck) where
+  pub answer_known : (k : Reader) (d : Known) → a ≡ Ok k → read_deck deck ≡ fine d → known_in deck t k ≡ d
   answer_known k d h f = fine_same (known_in deck t k) d (sym (ap (told_of deck t) h) ∙ e ∙ f)
 
-  pub answer_refused : {P : Type 0} (n line : ℕ) (d : Known) → a ≡ Answers.Refused n line → read_deck deck ≡ fine d → P
-  answer_refused n line d h f = fine_refused d n line (sym (ap (told_of deck t) h) ∙ e ∙ f)
+  pub answer_refused : {P : Type 0} (r : Refused) (d : Known) → a ≡ Err r → read_deck deck ≡ fine d → P
+  answer_refused r d h f = fine_refused d (refusal_number r.refusal) r.line (sym (ap (told_of deck t) h) ∙ e ∙ f)
+
+pub answer_ok : (deck t : List ℕ) (a : Result Reader Refused) (d : Known) → told_of deck t a ≡ read_deck deck → read_deck deck ≡ fine d → is_ok a ≡ true
+answer_ok deck t (Ok k) d e f = refl
+answer_ok deck t (Err r) d e f = fine_refused d (refusal_number r.refusal) r.line (e ∙ f)
 
 -- the header, as the reader has it
 pub record Opened (d : Known) (k : Reader) : Type 0 where
@@ -72,7 +75,7 @@ pub record Opened (d : Known) (k : Reader) : Type 0 where
   pub individuals : d.header.individuals ≡ k.individuals
   pub roles : d.header.roles ≡ k.roles
 
-pub opened : (deck t : List ℕ) (a : Answer) (k : Reader) (d : Known) → told_of deck t a ≡ read_deck deck → a ≡ Answers.Accepted k → read_deck deck ≡ fine d → Opened d k
+pub opened : (deck t : List ℕ) (a : Result Reader Refused) (k : Reader) (d : Known) → told_of deck t a ≡ read_deck deck → a ≡ Ok k → read_deck deck ≡ fine d → Opened d k
 opened deck t a k d e h f =
     let q = answer_known deck t a e k d h f in
     record { inside = read_in deck d f; classes = ap (λ (x : Known). x.header.classes) (sym q); individuals = ap (λ (x : Known). x.header.individuals) (sym q); roles = ap (λ (x : Known). x.header.roles) (sym q) }
@@ -127,18 +130,18 @@ pub record Stating (d : Known) (m : Limits) (text w v : List ℕ) (size : ℕ) :
   pub proper : Proper d (interpretation_of d state)
 
 module _ (d : Known) (m : Limits) (text w v : List ℕ) (D : Declares d m) where
-  pub stated_as : (r : Stated) (size : ℕ) → r ≡ States.Stated size → StatedAs d m (read_state d m.fresh text) w v r → Stating d m text w v size
+  pub stated_as : (r : Result ℕ BadLine) (size : ℕ) → r ≡ Ok size → StatedAs d m (read_state d m.fresh text) w v r → Stating d m text w v size
   stated_as r size e h = go (read_state d m.fresh text) refl (subst (StatedAs d m (read_state d m.fresh text) w v) e h)
     where
-      go : (x : StateTold) → read_state d m.fresh text ≡ x → StatedAs d m x w v (States.Stated size) → Stating d m text w v size
+      go : (x : StateTold) → read_state d m.fresh text ≡ x → StatedAs d m x w v (Ok size) → Stating d m text w v size
       go (stated s) q z = record { state = s; read = q; elements = z.0; laid = subst (λ (n : ℕ). Laid (interpretation_of d s) n w v) (sym D.roles) z.1; proper = read_proper d s (read_sound d m.fresh s text q) }
       go (bad line) q z = absurd z
       go unread q z = absurd z
 
-  pub bad_as : (r : Stated) (line : ℕ) → r ≡ States.Bad line → StatedAs d m (read_state d m.fresh text) w v r → read_state d m.fresh text ≡ bad line
-  bad_as r line e h = go (read_state d m.fresh text) refl (subst (StatedAs d m (read_state d m.fresh text) w v) e h)
+  pub bad_as : (r : Result ℕ BadLine) (b : BadLine) → r ≡ Err b → StatedAs d m (read_state d m.fresh text) w v r → read_state d m.fresh text ≡ bad b.line
+  bad_as r b e h = go (read_state d m.fresh text) refl (subst (StatedAs d m (read_state d m.fresh text) w v) e h)
     where
-      go : (x : StateTold) → read_state d m.fresh text ≡ x → StatedAs d m x w v (States.Bad line) → x ≡ bad line
+      go : (x : StateTold) → read_state d m.fresh text ≡ x → StatedAs d m x w v (Err b) → x ≡ bad b.line
       go (stated s) q z = absurd z
       go (bad l) q z = ap bad (sym z)
       go unread q z = absurd z

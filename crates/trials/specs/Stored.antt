@@ -1,5 +1,5 @@
 -- The front of the store: the ten numbers, and the verdict.
-use Rattle.std.specs.Prelude.{◌≡◌, List, [], ◌∷◌, ◌++◌, ℕ, ◌+◌, ◌*◌, ◌≤◌, length}
+use Rattle.std.specs.Prelude.{◌≡◌, List, [], ◌∷◌, ◌++◌, Result, Ok, Err, ℕ, ◌+◌, ◌*◌, ◌≤◌, length}
 use Prim.{Unit}
 use Rattle.rules.specs.Run.{Accepted, accepted, scratch_bytes}
 use Rattle.statistics.specs.declared.ClauseStats.{ClauseStats}
@@ -9,8 +9,7 @@ use Rattle.clausify.specs.Answer.{ten_of}
 use Rattle.words.specs.Words.{words}
 use Rattle.states.specs.Test.{store_bytes, verdict_words}
 use Rattle.states.specs.Test as Test
-use Rattle.sets.specs.declared.verdict.Verdict.{Verdict}
-use Rattle.sets.specs.declared.verdict.Verdict.TheVariants.{Holds, Broken}
+use Rattle.sets.specs.declared.verdict.Broken.{Broken}
 use Rattle.sets.specs.Verdicts.{verdict_in}
 use Rattle.trials.specs.Judged.{Judgement, given, denied, said_in}
 use Rattle.trials.specs.declared.judged.Judged.{Judged}
@@ -23,12 +22,12 @@ abbrev pub most_shown : ℕ
 most_shown = 129
 
 -- what is shown has its words
-abbrev pub Shows : Verdict → Type 0
-Shows Holds = Unit {0}
-Shows (Broken n k) = k ≤ most_shown
+abbrev pub Shows : Result (Unit {0}) Broken → Type 0
+Shows (Ok _) = Unit {0}
+Shows (Err b) = b.shown ≤ most_shown
 
 -- of scratch's words v
-abbrev pub front_of : List ℕ → ClauseStats → ℕ → ℕ → Verdict → List ℕ
+abbrev pub front_of : List ℕ → ClauseStats → ℕ → ℕ → Result (Unit {0}) Broken → List ℕ
 front_of v s fresh_ids visits x = ten_of s fresh_ids visits ++ verdict_words (verdict_in v x)
 
 -- a verdict shows at most so many elements

@@ -1,7 +1,7 @@
 -- The store's front, from its words to the store's bytes. Assumes nothing.
-use Rattle.std.specs.Prelude.{◌≡◌, refl, List, [], ◌∷◌, ◌++◌, ℕ, zero, suc, ◌+◌, ◌*◌, ◌-◌, ◌≤◌, ◌<◌, ltb, get_or, length, take, drop, replicate}
+use Rattle.std.specs.Prelude.{◌≡◌, refl, List, [], ◌∷◌, ◌++◌, Result, Ok, Err, ℕ, zero, suc, ◌+◌, ◌*◌, ◌-◌, ◌≤◌, ◌<◌, ltb, get_or, length, take, drop, replicate}
 use Rattle.std.proofs.Common.{sym, ap, ap₂, subst, ◌∙◌, append_assoc, arith, not-suc-le-zero, ltb-true, ltb-false, length-append, length-take, length-drop, length-take-le}
-use Prim.{tt}
+use Prim.{tt, Unit}
 use Rattle.meaning.specs.Truth.{by_truth}
 use Rattle.std.proofs.Math.ListN.{get_or-append, get_or-eq_default}
 use Rattle.std.proofs.lemmas.List.{replicate-append-replicate}
@@ -20,8 +20,7 @@ use Rattle.states.specs.Test.{Lent, verdict_words, store_table}
 use Rattle.states.specs.Test as Test
 use Rattle.trials.specs.Entry.{verdict_reply}
 use Rattle.trials.specs.Tells.{Numbered, NumberedAs}
-use Rattle.sets.specs.declared.verdict.Verdict.{Verdict}
-use Rattle.sets.specs.declared.verdict.Verdict.TheVariants.{Holds, Broken}
+use Rattle.sets.specs.declared.verdict.Broken.{Broken}
 use Rattle.sets.specs.Places.{shown_at}
 use Rattle.sets.specs.Verdicts.{shown, verdict_in}
 use Rattle.trials.specs.Judged.{given, tested_as}
@@ -49,21 +48,21 @@ front_holds l h =
 pub shown_long : (w : List ℕ) (k : ℕ) → k ≤ most_shown → scratch_bytes ≤ 4 * length w → length (shown w k) ≡ k
 shown_long w k h l = length-take-le k (drop shown_at w) (omega (arith, length-drop shown_at w))
 
-pub front_broken : (w f l : List ℕ) (n k : ℕ) → f ≡ padded front_words l → length l ≡ 10 → k ≤ most_shown → scratch_bytes ≤ 4 * length w
-    → sets f 10 (n ∷ k ∷ shown w k) ≡ padded front_words (l ++ verdict_words (verdict_in w (Broken n k)))
-front_broken w f l n k e h j b =
-    let s = shown_long w k j b in
-    front_more f l (n ∷ k ∷ shown w k) e h (omega (arith, s)) ∙ ap (λ (m : ℕ). padded front_words (l ++ (n ∷ m ∷ shown w k))) (sym s)
+pub front_broken : (w f l : List ℕ) (b : Broken) → f ≡ padded front_words l → length l ≡ 10 → b.shown ≤ most_shown → scratch_bytes ≤ 4 * length w
+    → sets f 10 (b.at ∷ b.shown ∷ shown w b.shown) ≡ padded front_words (l ++ verdict_words (verdict_in w (Err b)))
+front_broken w f l b e h j long =
+    let s = shown_long w b.shown j long in
+    front_more f l (b.at ∷ b.shown ∷ shown w b.shown) e h (omega (arith, s)) ∙ ap (λ (m : ℕ). padded front_words (l ++ (b.at ∷ m ∷ shown w b.shown))) (sym s)
 
-pub front_short : (w : List ℕ) (x : Verdict) → Shows x → scratch_bytes ≤ 4 * length w → length (verdict_words (verdict_in w x)) ≤ 131
-front_short w Holds h l = omega arith
-front_short w (Broken n k) h l = omega (arith, shown_long w k h l)
+pub front_short : (w : List ℕ) (x : Result (Unit {0}) Broken) → Shows x → scratch_bytes ≤ 4 * length w → length (verdict_words (verdict_in w x)) ≤ 131
+front_short w (Ok _) h l = omega arith
+front_short w (Err b) h l = omega (arith, shown_long w b.shown h l)
 
 -- (what is short has so many elements as it says)
-pub shows_short : (w : List ℕ) (x : Verdict) → ShortVerdict (verdict_in w x) → scratch_bytes ≤ 4 * length w → Shows x
-shows_short w Holds h l = tt
-shows_short w (Broken n k) h l =
-    let a = length-take k (drop shown_at w) in
+pub shows_short : (w : List ℕ) (x : Result (Unit {0}) Broken) → ShortVerdict (verdict_in w x) → scratch_bytes ≤ 4 * length w → Shows x
+shows_short w (Ok _) h l = tt
+shows_short w (Err v) h l =
+    let a = length-take v.shown (drop shown_at w) in
     let b = length-drop shown_at w in
     omega (arith, h, a, b, l)
 
@@ -102,7 +101,7 @@ unfolding ten_reply
 ten_counted a s fresh_ids visits e = sym (ap ten_reply e)
 
 -- ---- the store of a verdict, by the run's numbers
-pub store_told : (a : Accepted) (t : Lent) (s : ClauseStats) (fresh_ids visits : ℕ) (w z f : List ℕ) (x : Verdict) → Counted a s fresh_ids visits → z ≡ replicate t.store 0 → 4 * front_words ≤ t.store
+pub store_told : (a : Accepted) (t : Lent) (s : ClauseStats) (fresh_ids visits : ℕ) (w z f : List ℕ) (x : Result (Unit {0}) Broken) → Counted a s fresh_ids visits → z ≡ replicate t.store 0 → 4 * front_words ≤ t.store
     → length f ≡ 4 * front_words → Bytes f → words f ≡ padded front_words (front_of w s fresh_ids visits x) → Shows x → scratch_bytes ≤ 4 * length w
     → f ++ drop (4 * front_words) z ≡ store_table t (tested_as a (given (verdict_in w x)))
 store_told a t s fresh_ids visits w z f x c y h l b e k j =

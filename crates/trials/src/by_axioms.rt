@@ -18,13 +18,13 @@ use crate::judged::Judged;
 use crate::opened;
 use extents::Trial;
 use ir::counters::Counters;
-use layouts::{Limits, Stated};
+use layouts::Limits;
 use ontology::load;
 use ontology::load::Loaded;
-use sets::verdict::Verdict;
+use sets::verdict::Broken;
 
 // In a state that is laid out.
-fn verdict(store: &[u8], scratch: &mut [u8], t: Trial) -> Verdict
+fn verdict(store: &[u8], scratch: &mut [u8], t: Trial) -> Result<(), Broken>
     requires { ReadyThere store.now scratch.old t }
     ensures { (d : Known) (I : Interpretation) → Ready d I (words store.now) (words scratch.old) → Fits d I t → verdict_in (words scratch.new) result ≡ axioms_verdict I d }
 {
@@ -58,8 +58,8 @@ fn loaded(
     ensures { (d : Known) (l : List Clause) → InScratch d (words scratch.old) k n → Declares d m → said_in (words scratch.new) result ≡ judged_of Test.axioms d l (read_state d m.fresh state.now) }
 {
     match layouts::read_state(state, store, scratch, m) {
-        Stated::Stated(size) => Judged::Given(verdict(store, scratch, trial(k, n, size))),
-        Stated::Bad(line) => Judged::Denied(13, line),
+        Ok(size) => Judged::Given(verdict(store, scratch, trial(k, n, size))),
+        Err(bad) => Judged::Denied(13, bad.line),
     }
 }
 

@@ -14,7 +14,6 @@ ghost use Rattle.trials.specs.Judging.{Clausal, ClausalThere, Clauses, JudgeTher
 use crate::judged::Judged;
 use crate::opened;
 use clausetests::{vars, verdict};
-use layouts::Stated;
 
 // In a state that is laid out: 14, before any verdict, or the verdict.
 fn tested(
@@ -50,7 +49,7 @@ pub fn judge(
 {
     let m = opened::limits(deck, scratch, fresh);
     match layouts::read_state(state, store, scratch, m) {
-        Stated::Stated(size) => tested(state, clauses, atoms, store, scratch, count, size),
-        Stated::Bad(line) => Judged::Denied(13, line),
+        Ok(size) => tested(state, clauses, atoms, store, scratch, count, size),
+        Err(bad) => Judged::Denied(13, bad.line),
     }
 }

@@ -1,10 +1,10 @@
 // What a test says.
-use sets::verdict::Verdict;
+use sets::verdict::Broken;
 
 // A verdict, or a refusal's number and line.
 #[derive(Clone, Copy)]
 pub enum Judged {
-    Given(Verdict),
+    Given(Result<(), Broken>),
     Denied(u32, u32),
 }
 

@@ -4,7 +4,6 @@ ghost use Rattle.rules.specs.Deck.{Known, fine, read_deck};
 ghost use Rattle.rules.specs.Run.{scratch_bytes};
 ghost use Rattle.layouts.specs.Read.{Limited, Declares};
 
-use deck::Answer;
 use layouts::Limits;
 
 // The reader's table in scratch: its first byte and the one behind it.
@@ -17,19 +16,11 @@ pub fn limits(deck: &[u8], scratch: &mut [u8], fresh: u32) -> Limits
     requires { (scratch_bytes ≤ length scratch.old) × («fresh» ≤ 2000000) × ((d : Known) × (read_deck deck.now ≡ fine d)) }
     ensures { Limited result × (result.fresh ≡ «fresh») × ((d : Known) → read_deck deck.now ≡ fine d → Declares d result) }
 {
-    let answer = deck::read(deck, &mut scratch[TABLE..TABLE_END]);
-    match answer {
-        Answer::Accepted(st) => Limits {
-            classes: st.classes as u32,
-            individuals: st.individuals as u32,
-            roles: st.roles as u32,
-            fresh,
-        },
-        Answer::Refused(_, _) => Limits {
-            classes: 0,
-            individuals: 0,
-            roles: 0,
-            fresh,
-        },
+    let st = deck::read(deck, &mut scratch[TABLE..TABLE_END]).unwrap();
+    Limits {
+        classes: st.classes as u32,
+        individuals: st.individuals as u32,
+        roles: st.roles as u32,
+        fresh,
     }
 }

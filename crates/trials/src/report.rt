@@ -15,7 +15,7 @@ ghost use Rattle.trials.specs.Stored.{front_words, most_shown, Shows, front_of, 
 use crate::judged::{Judged, Tried};
 use clausify::numbers;
 use sets::places::SHOWN;
-use sets::verdict::Verdict;
+use sets::verdict::Broken;
 use statistics::ClauseStats;
 
 // Behind the ten numbers: what is broken, how many elements are shown, and these.
@@ -31,13 +31,13 @@ fn put_broken(front: &mut [u8], scratch: &[u8], n: u32, k: u32)
 }
 
 // The verdict behind the ten numbers of a front that was zeros.
-fn put_verdict(front: &mut [u8], scratch: &[u8], v: Verdict)
+fn put_verdict(front: &mut [u8], scratch: &[u8], v: Result<(), Broken>)
     requires { (length front.old ≡ 4 * front_words) × Shows v × (scratch_bytes ≤ length scratch.now) }
     ensures { (l : List ℕ) → length l ≡ 10 → words front.old ≡ padded front_words l → words front.new ≡ padded front_words (l ++ verdict_words (verdict_in (words scratch.now) v)) }
 {
     match v {
-        Verdict::Holds => {}
-        Verdict::Broken(n, k) => put_broken(front, scratch, n, k),
+        Ok(()) => {}
+        Err(b) => put_broken(front, scratch, b.at, b.shown),
     }
 }
 
@@ -48,7 +48,7 @@ fn put_front(
     s: ClauseStats,
     fresh_ids: u32,
     visits: u32,
-    v: Verdict,
+    v: Result<(), Broken>,
 )
     requires { (front.old ≡ replicate (length front.old) 0) × (length front.old ≡ 4 * front_words) × Shows v × (scratch_bytes ≤ length scratch.now) }
     ensures { words front.new ≡ padded front_words (front_of (words scratch.now) s fresh_ids visits v) }
@@ -58,12 +58,12 @@ fn put_front(
 }
 
 // The reply.
-fn tried(v: Verdict) -> Tried
+fn tried(v: Result<(), Broken>) -> Tried
     ensures { (w : List ℕ) → Shows v → scratch_bytes ≤ 4 * length w → result ≡ verdict_reply (verdict_in w v) }
 {
     match v {
-        Verdict::Holds => Tried::Holds,
-        Verdict::Broken(n, k) => Tried::Broken(n, k),
+        Ok(()) => Tried::Holds,
+        Err(b) => Tried::Broken(b.at, b.shown),
     }
 }
 

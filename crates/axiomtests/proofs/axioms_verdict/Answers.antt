@@ -1,6 +1,6 @@
-use mathlib.Core.Path.{◌≡◌, refl, sym, ap, ◌∙◌}
+use mathlib.Core.Path.{◌≡◌, sym, ap, ◌∙◌}
 use mathlib.Core.List.{◌∷◌}
-use Prim.Native.Nat.{ℕ, ◌+◌, ◌-◌, ◌≤◌}
+use Prim.Native.Nat.{ℕ, ◌+◌, ◌≤◌}
 use native.Mathlib.Omega.{arith}
 use lib.ListN.{length, drop}
 use Rattle.words.specs.Words.{words}
@@ -16,45 +16,33 @@ use Rattle.axiomtests.proofs.ReadyLaws.{ready_aside, sets_aside, there_aside, ax
 use Rattle.axiomtests.proofs.axioms_verdict.Goals as goal
 
 pub loop-i-init : goal.loop-i-init
-loop-i-init c = (refl, omega arith, aside_refl _, λ d I R S F. let z : axiom_line d 0 ≡ axiom_line d 0 + 0 = omega arith in ap (λ (k : ℕ). first_broken (axiom_broken I d.concepts) k d.axioms) z)
+loop-i-init c = (aside_refl _, λ d I R S F. let z : axiom_line d 0 ≡ axiom_line d 0 + 0 = omega arith in ap (λ (k : ℕ). first_broken (axiom_broken I d.concepts) k d.axioms) z)
 
 pub axiom_broken-requires : goal.axiom_broken-requires
-axiom_broken-requires c = let X = c.loop-i in (there_aside c.args.store.now c.args.scratch.now X.scratch c.args.t X.invariant.2 X.invariant.0 c.requires, c.loop-i-test.true)
+axiom_broken-requires c = let X = c.loop-i in (there_aside c.args.store.now c.args.scratch.now X.scratch c.args.t X.invariant.0 X.auto.scratch c.requires, c.loop-i-test.true)
 
-pub overflow_add-here : goal.overflow_add-here
-overflow_add-here c =
+pub overflow_add-at : goal.overflow_add-at
+overflow_add-at c =
     let P = c.requires in
     let keys : length P.known.keys ≤ 65536 = omega (arith, P.ready.inside.size) in
     record { fits = omega (arith, c.loop-i-test.true, P.fits.line, P.fits.axioms, P.ready.inside.few_axioms, P.ready.inside.few_concepts) }
 
-pub shape_of-scratch-in-Shown : goal.shape_of-scratch-in-Shown
-shape_of-scratch-in-Shown c =
-    c.axiom_broken.auto.scratch ∙ c.loop-i.invariant.0
-
-pub returns-in-Shown : goal.returns-in-Shown
-returns-in-Shown c =
+pub returns-in-Some : goal.returns-in-Some
+returns-in-Some c =
     let X = c.loop-i in
     let w = words c.args.store.now in
     let u = words c.args.scratch.now in
     let before = words X.scratch in
     let v = words c.axiom_broken.new.scratch in
     λ d I R S F.
-    let still : Ready d I w before = ready_aside d I w u before X.invariant.2 R in
-    let sets : ConceptSets d I (length d.concepts) before = sets_aside d I w u before X.invariant.2 R S in
+    let still : Ready d I w before = ready_aside d I w u before X.invariant.0 R in
+    let sets : ConceptSets d I (length d.concepts) before = sets_aside d I w u before X.invariant.0 R S in
     let found : least_in v c.axiom_broken.result ≡ axiom_broken I d.concepts (axiom_at before X.i) = c.axiom_broken.ensures.result_after d I still sets F in
     let next : drop X.i d.axioms ≡ axiom_at before X.i ∷ drop (X.i + 1) d.axioms = axioms_next d I w before c.args.t X.i still sets F c.loop-i-test.true in
     let at : c.args.t.line + X.i ≡ axiom_line d 0 + X.i = omega (arith, F.line) in
-    ap (λ (n : ℕ). broken n (shown v c.in-Shown.k)) at
-    ∙ broken_here (axiom_broken I d.concepts) (axiom_line d 0 + X.i) (axiom_at before X.i) (drop X.i d.axioms) (drop (X.i + 1) d.axioms) (shown v c.in-Shown.k) next (ap (least_in v) (sym c.in-Shown.is) ∙ found)
-    ∙ sym (X.invariant.3 d I R S F)
-
-pub overflow_add-i : goal.overflow_add-i
-overflow_add-i c =
-    let P = c.requires in record { fits = omega (arith, c.loop-i-test.true, P.fits.axioms, P.ready.inside.few_axioms) }
-
-pub loop-i-smaller : goal.loop-i-smaller
-loop-i-smaller c =
-    omega (arith, c.loop-i-test.true)
+    ap (λ (n : ℕ). broken n (shown v c.in-Some.shown)) at
+    ∙ broken_here (axiom_broken I d.concepts) (axiom_line d 0 + X.i) (axiom_at before X.i) (drop X.i d.axioms) (drop (X.i + 1) d.axioms) (shown v c.in-Some.shown) next (ap (least_in v) (sym c.in-Some.is) ∙ found)
+    ∙ sym (X.invariant.1 d I R S F)
 
 pub loop-i-preserved : goal.loop-i-preserved
 loop-i-preserved c =
@@ -63,21 +51,16 @@ loop-i-preserved c =
     let u = words c.args.scratch.now in
     let before = words X.scratch in
     let v = words c.axiom_broken.new.scratch in (
-      c.axiom_broken.auto.scratch ∙ X.invariant.0,
-      omega (arith, c.loop-i-test.true),
-      aside_trans u before v X.invariant.2 c.axiom_broken.ensures.aside,
+      aside_trans u before v X.invariant.0 c.axiom_broken.ensures.aside,
       λ d I R S F.
-          let still : Ready d I w before = ready_aside d I w u before X.invariant.2 R in
-          let sets : ConceptSets d I (length d.concepts) before = sets_aside d I w u before X.invariant.2 R S in
+          let still : Ready d I w before = ready_aside d I w u before X.invariant.0 R in
+          let sets : ConceptSets d I (length d.concepts) before = sets_aside d I w u before X.invariant.0 R S in
           let found : least_in v c.axiom_broken.result ≡ axiom_broken I d.concepts (axiom_at before X.i) = c.axiom_broken.ensures.result_after d I still sets F in
           let next : drop X.i d.axioms ≡ axiom_at before X.i ∷ drop (X.i + 1) d.axioms = axioms_next d I w before c.args.t X.i still sets F c.loop-i-test.true in
           let at : axiom_line d 0 + (X.i + 1) ≡ axiom_line d 0 + X.i + 1 = omega arith in
-          X.invariant.3 d I R S F
-          ∙ broken_on (axiom_broken I d.concepts) (axiom_line d 0 + X.i) (axiom_line d 0 + (X.i + 1)) (axiom_at before X.i) (drop X.i d.axioms) (drop (X.i + 1) d.axioms) next at (ap (least_in v) (sym c.in-Nothing.is) ∙ found),
+          X.invariant.1 d I R S F
+          ∙ broken_on (axiom_broken I d.concepts) (axiom_line d 0 + X.i) (axiom_line d 0 + (X.i + 1)) (axiom_at before X.i) (drop X.i d.axioms) (drop (X.i + 1) d.axioms) next at (ap (least_in v) (sym c.in_default.is) ∙ found),
     )
 
-pub shape_of-scratch : goal.shape_of-scratch
-shape_of-scratch c = c.loop-i.invariant.0
-
 pub returns : goal.returns
-returns c = let X = c.loop-i in λ d I R S F. broken_none (axiom_broken I d.concepts) (axiom_line d 0 + X.i) X.i d.axioms (omega (arith, c.loop-i-test.false, F.axioms)) ∙ sym (X.invariant.3 d I R S F)
+returns c = let X = c.loop-i in λ d I R S F. broken_none (axiom_broken I d.concepts) (axiom_line d 0 + X.i) X.i d.axioms (omega (arith, c.loop-i-test.false, F.axioms)) ∙ sym (X.invariant.1 d I R S F)

@@ -14,8 +14,8 @@ use Rattle.axiomtests.proofs.chain.Goals as goal
 other : (k : ℕ) → 27 ≤ k → k < 29 → (k ≡ 27 → ⊥) → k ≡ 28
 other k a b c = omega arith
 
-pub overflow_sub-parts : goal.overflow_sub-parts
-overflow_sub-parts c = leb-true 2 c.args.count (subst (λ (k : ℕ). fields_ok k c.args.count ≡ true) c.if-kind-eq27.true c.requires.0.line.fields)
+pub overflow_sub-c : goal.overflow_sub-c
+overflow_sub-c c = leb-true 2 c.args.count (subst (λ (k : ℕ). fields_ok k c.args.count ≡ true) c.if-kind-eq27.true c.requires.0.line.fields)
 
 pub least_path-requires : goal.least_path-requires
 least_path-requires c =

@@ -1,15 +1,9 @@
 use mathlib.Core.Path.{◌≡◌, sym, ap, ◌∙◌}
-use mathlib.Core.Bool.{true}
-use Prim.Native.Nat.{ℕ, ◌<◌, ◌≤◌}
 use native.Mathlib.Omega.{arith}
 use Rattle.words.specs.Words.{words}
 use Rattle.pool.specs.Layout.{field, is_list}
 use Rattle.extents.proofs.ThereLaws.{below_trial, size_fits, self_room, not_room, joint_room, joint_few, is_self, is_not, is_and, is_or}
 use Rattle.extents.proofs.composed_set.Goals as goal
-
--- what is left
-eight : (k r : ℕ) → r ≡ k → 5 ≤ k → k < 9 → (r ≡ 5 → ⊥) → (r ≡ 6 → ⊥) → (r ≡ 7 → ⊥) → k ≡ 8
-eight k r e l h a b c = omega arith
 
 pub loops-requires : goal.loops-requires
 loops-requires c =
@@ -32,8 +26,8 @@ joint_set-requires c =
 pub joint_set-requires-in_default : goal.joint_set-requires-in_default
 joint_set-requires-in_default c =
     let a = c.args in
-    let r = c.in_default.in_default-own.rest in
-    let e : is_list (field (words a.scratch.now) a.c 0) ≡ true = ap is_list (eight _ c.kind-kind.result c.kind-kind.ensures c.requires.1 c.requires.2 r.0.0.1 r.0.1 r.1) in
+    let k : field (words a.scratch.now) a.c 0 ≡ 8 = omega arith in
+    let e = ap is_list k in
     rw (c.child-child.ensures, c.number-number.ensures) (joint_room a.scratch.now a.t a.c c.requires.0 e, size_fits a.scratch.now a.t a.c c.requires.0, c.requires.0.space, joint_few a.scratch.now a.t a.c c.requires.0 e)
 
 pub returns-in-5 : goal.returns-in-5
@@ -57,7 +51,6 @@ returns-in-7 c =
 pub returns-in_default : goal.returns-in_default
 returns-in_default c =
     let a = c.args in
-    let r = c.in_default.in_default-own.rest in
     λ w. is_or w (words a.scratch.now) a.t a.c (below_trial a.scratch.now a.t a.c c.requires.0) _
-    (eight _ c.kind-kind.result c.kind-kind.ensures c.requires.1 c.requires.2 r.0.0.1 r.0.1 r.1)
+    (omega arith)
     (rw (← c.child-child.ensures, ← c.number-number.ensures) c.joint_set-in_default.ensures)

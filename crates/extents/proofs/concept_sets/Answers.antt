@@ -1,4 +1,3 @@
-use Prim.Native.Nat.{◌-◌}
 use native.Mathlib.Omega.{arith}
 use Rattle.extents.proofs.SetsLaws.{sets_start, sets_ready, sets_few, sets_more, sets_end}
 use Rattle.extents.proofs.concept_sets.Goals as goal
@@ -11,12 +10,6 @@ concept_set-set-requires c =
     let L = c.loop-c in
     let a = c.args in
     (sets_ready a.store.now a.scratch.now L.scratch a.t L.c L.invariant c.requires, c.loop-c-test.true)
-
-pub overflow_add-c : goal.overflow_add-c
-overflow_add-c c =
-    let L = c.loop-c in
-    let a = c.args in
-    omega (arith, sets_few a.store.now a.scratch.now L.scratch a.t L.c L.invariant c.requires c.loop-c-test.true)
 
 pub put_set-requires : goal.put_set-requires
 put_set-requires c =

@@ -1,15 +1,11 @@
 use mathlib.Core.Path.{◌≡◌, refl, sym, ap, ◌∙◌}
-use Prim.Native.Nat.{ℕ, ◌+◌, ◌<◌, ◌≤◌}
+use Prim.Native.Nat.{ℕ, ◌+◌}
 use native.Mathlib.Omega.{arith}
 use Rattle.words.specs.Words.{words}
 use Rattle.pool.specs.Layout.{field}
 use Rattle.sets.specs.Kept.{set_at}
 use Rattle.extents.proofs.ThereLaws.{concept_there, kind_least, class_there, individual_there, is_top_lem, is_bot, is_atomic, is_nominal}
 use Rattle.extents.proofs.leaf_set.Goals as goal
-
--- what is left
-four : (k r : ℕ) → r ≡ k → 1 ≤ k → k < 5 → (r ≡ 1 → ⊥) → (r ≡ 2 → ⊥) → (r ≡ 3 → ⊥) → k ≡ 4
-four k r e l h a b c = omega arith
 
 pub get_set-requires : goal.get_set-requires
 get_set-requires c =
@@ -20,9 +16,8 @@ get_set-requires c =
 pub individual_set-requires : goal.individual_set-requires
 individual_set-requires c =
     let a = c.args in
-    let r = c.in_default.in_default-own.rest in
     let l = kind_least a.scratch.now a.t a.c (concept_there a.store.now a.scratch.now a.t a.c c.requires.0 c.requires.1) in
-    let e : field (words a.scratch.now) a.c 0 ≡ 4 = four _ c.kind-kind.result c.kind-kind.ensures l c.requires.2 r.0.0.1 r.0.1 r.1 in
+    let e : field (words a.scratch.now) a.c 0 ≡ 4 = omega (arith, l) in
     let q = individual_there a.store.now a.scratch.now a.t a.c c.requires.0 c.requires.1 e in
     (omega (arith, q, c.number-number.ensures), c.requires.0.room)
 
@@ -45,8 +40,7 @@ returns-in-3 c =
 pub returns-in_default : goal.returns-in_default
 returns-in_default c =
     let a = c.args in
-    let r = c.in_default.in_default-own.rest in
     let l = kind_least a.scratch.now a.t a.c (concept_there a.store.now a.scratch.now a.t a.c c.requires.0 c.requires.1) in
-    let e : field (words a.scratch.now) a.c 0 ≡ 4 = four _ c.kind-kind.result c.kind-kind.ensures l c.requires.2 r.0.0.1 r.0.1 r.1 in
+    let e : field (words a.scratch.now) a.c 0 ≡ 4 = omega (arith, l) in
     is_nominal a.store.now (words a.scratch.now) a.t a.c c.requires.1 c.requires.0.room _ e
     (c.individual_set.ensures ∙ ap (λ (i : ℕ). set_at (words a.store.now) (a.t.base + i)) c.number-number.ensures)

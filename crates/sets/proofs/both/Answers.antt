@@ -1,5 +1,4 @@
 use mathlib.Core.Path.{ap₂, ◌∙◌}
-use Prim.Native.Nat.{◌-◌}
 use lib.Bits.{bit_and}
 use Rattle.states.specs.Masks.{mask_and}
 use Rattle.sets.proofs.both.Goals as goal

@@ -1,5 +1,4 @@
 use mathlib.Core.Path.{ap₂, ◌∙◌}
-use Prim.Native.Nat.{◌-◌}
 use lib.Bits.{bit_or}
 use Rattle.states.specs.Masks.{mask_or}
 use Rattle.sets.proofs.either.Goals as goal

@@ -1,5 +1,4 @@
 use mathlib.Core.Path.{ap, ◌∙◌}
-use Prim.Native.Nat.{◌-◌}
 use lib.Count.{ones}
 use Rattle.states.specs.Masks.{mask_ones}
 use Rattle.sets.proofs.size.Goals as goal

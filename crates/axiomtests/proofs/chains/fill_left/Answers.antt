@@ -23,20 +23,14 @@ pub loop-k-init : goal.loop-k-init
 loop-k-init c =
     let u = words c.args.scratch.now in
     let long : 2 * left_at + 2 ≤ length u = omega (arith, length_words c.args.scratch.now, c.requires.0.space) in
-    (refl, filled_first u _ c.args.size c.args.c c.args.x _ _ _ c.whole.ensures c.row.ensures c.without-set.ensures c.requires.1 long c.put_set.ensures (aside_left u _ 0 _ (omega arith) c.put_set.ensures))
-
-pub overflow_sub-parts : goal.overflow_sub-parts
-overflow_sub-parts c = omega (arith, c.loop-k-test.true)
-
-pub overflow_sub-parts-in-loop-k : goal.overflow_sub-parts-in-loop-k
-overflow_sub-parts-in-loop-k c = omega (arith, c.loop-k-test.true)
+    filled_first u _ c.args.size c.args.c c.args.x _ _ _ c.whole.ensures c.row.ensures c.without-set.ensures c.requires.1 long c.put_set.ensures (aside_left u _ 0 _ (omega arith) c.put_set.ensures)
 
 pub part-code-requires : goal.part-code-requires
 part-code-requires c =
     let X = c.loop-k in
     let u = words c.args.scratch.now in
     let C : ChainIn X.scratch c.args.size c.args.c =
-    chain_kept c.args.scratch.now X.scratch c.args.size c.args.c (aside_trans u _ (words X.scratch) (aside_left u _ 0 _ (omega arith) c.put_set.ensures) X.invariant.1.aside) (X.invariant.0 ∙ c.put_set.auto.s) c.requires.0 in
+    chain_kept c.args.scratch.now X.scratch c.args.size c.args.c (aside_trans u _ (words X.scratch) (aside_left u _ 0 _ (omega arith) c.put_set.ensures) X.invariant.aside) (X.auto.scratch ∙ c.put_set.auto.s) c.requires.0 in
     (C, omega (arith, c.loop-k-test.true))
 
 pub back-set-requires : goal.back-set-requires
@@ -44,7 +38,7 @@ back-set-requires c =
     let X = c.loop-k in
     let u = words c.args.scratch.now in
     let C : ChainIn X.scratch c.args.size c.args.c =
-    chain_kept c.args.scratch.now X.scratch c.args.size c.args.c (aside_trans u _ (words X.scratch) (aside_left u _ 0 _ (omega arith) c.put_set.ensures) X.invariant.1.aside) (X.invariant.0 ∙ c.put_set.auto.s) c.requires.0 in
+    chain_kept c.args.scratch.now X.scratch c.args.size c.args.c (aside_trans u _ (words X.scratch) (aside_left u _ 0 _ (omega arith) c.put_set.ensures) X.invariant.aside) (X.auto.scratch ∙ c.put_set.auto.s) c.requires.0 in
     (omega (arith, c.part-code.ensures, C.codes (c.args.c.parts - 1 - X.k) (omega (arith, c.loop-k-test.true))), c.requires.0.few, C.space)
 
 pub overflow_add-k : goal.overflow_add-k
@@ -53,41 +47,30 @@ overflow_add-k c = record { fits = omega (arith, c.loop-k-test.true, c.requires.
 pub overflow_cast-k : goal.overflow_cast-k
 overflow_cast-k c = record { fits = omega (arith, c.loop-k-test.true, c.requires.0.short) }
 
-pub overflow_add-k-in-loop-k : goal.overflow_add-k-in-loop-k
-overflow_add-k-in-loop-k c = record { fits = omega (arith, c.loop-k-test.true, c.requires.0.short) }
-
 pub put_set-requires-in-loop-k : goal.put_set-requires-in-loop-k
 put_set-requires-in-loop-k c =
     let X = c.loop-k in
     let u = words c.args.scratch.now in
     let C : ChainIn X.scratch c.args.size c.args.c =
-    chain_kept c.args.scratch.now X.scratch c.args.size c.args.c (aside_trans u _ (words X.scratch) (aside_left u _ 0 _ (omega arith) c.put_set.ensures) X.invariant.1.aside) (X.invariant.0 ∙ c.put_set.auto.s) c.requires.0 in
+    chain_kept c.args.scratch.now X.scratch c.args.size c.args.c (aside_trans u _ (words X.scratch) (aside_left u _ 0 _ (omega arith) c.put_set.ensures) X.invariant.aside) (X.auto.scratch ∙ c.put_set.auto.s) c.requires.0 in
     omega (arith, c.loop-k-test.true, c.requires.0.short, C.space)
-
-pub loop-k-smaller : goal.loop-k-smaller
-loop-k-smaller c = omega (arith, c.loop-k-test.true)
 
 pub loop-k-preserved : goal.loop-k-preserved
 loop-k-preserved c =
     let X = c.loop-k in
     let u = words c.args.scratch.now in
     let C : ChainIn X.scratch c.args.size c.args.c =
-    chain_kept c.args.scratch.now X.scratch c.args.size c.args.c (aside_trans u _ (words X.scratch) (aside_left u _ 0 _ (omega arith) c.put_set.ensures) X.invariant.1.aside) (X.invariant.0 ∙ c.put_set.auto.s) c.requires.0 in
+    chain_kept c.args.scratch.now X.scratch c.args.size c.args.c (aside_trans u _ (words X.scratch) (aside_left u _ 0 _ (omega arith) c.put_set.ensures) X.invariant.aside) (X.auto.scratch ∙ c.put_set.auto.s) c.requires.0 in
     let h = c.loop-k-test.true in
     let v = words X.scratch in
-    let long : 2 * (left_at + (X.k + 1)) + 2 ≤ length v = omega (arith, length_words X.scratch, C.space, c.requires.0.short) in (
-      c.put_set-in-loop-k.auto.s ∙ X.invariant.0,
-      filled_next _ v _ c.args.size c.args.c c.args.x X.k (X.k + 1) _ _ _ c.requires.0.among X.invariant.1 h refl c.part-code.ensures c.back-set.ensures long c.put_set-in-loop-k.ensures (aside_left v _ (X.k + 1) _ (omega (arith, c.requires.0.short)) c.put_set-in-loop-k.ensures),
-    )
-
-pub shape_of-scratch : goal.shape_of-scratch
-shape_of-scratch c = let X = c.loop-k in X.invariant.0 ∙ c.put_set.auto.s
+    let long : 2 * (left_at + (X.k + 1)) + 2 ≤ length v = omega (arith, length_words X.scratch, C.space, c.requires.0.short) in
+    filled_next _ v _ c.args.size c.args.c c.args.x X.k (X.k + 1) _ _ _ c.requires.0.among X.invariant h refl c.part-code.ensures c.back-set.ensures long c.put_set-in-loop-k.ensures (aside_left v _ (X.k + 1) _ (omega (arith, c.requires.0.short)) c.put_set-in-loop-k.ensures)
 
 pub returns : goal.returns
 returns c =
     let X = c.loop-k in
     let u = words c.args.scratch.now in
-    let F = X.invariant.1 in
+    let F = X.invariant in
     let A = aside_left u _ 0 _ (omega arith) c.put_set.ensures in
     record {
       aside = aside_trans u _ (words X.scratch) A F.aside;

@@ -1,7 +1,7 @@
 use mathlib.Core.Path.{◌≡◌, refl, sym, ap, ◌∙◌}
 use mathlib.Core.Bool.{Bool, true, false, not}
 use mathlib.Core.List.{List, ◌∷◌}
-use Prim.Native.Nat.{ℕ, suc, ◌-◌, ◌<◌}
+use Prim.Native.Nat.{ℕ, suc, ◌<◌}
 use native.Mathlib.Omega.{arith}
 use Rattle.words.specs.Words.{words}
 use Rattle.ir.specs.Roles.{role_of}
@@ -25,30 +25,22 @@ not_false true e = refl
 not_false false e = sym e
 
 pub loop-x-init : goal.loop-x-init
-loop-x-init c = (refl, omega arith, aside_refl _, λ I C y h. absurd (omega arith))
+loop-x-init c = (aside_refl _, λ I C y h. absurd (omega arith))
 
 pub fill_left-requires : goal.fill_left-requires
 fill_left-requires c =
     let X = c.loop-x in
     let a = c.args.c in
     let u = words c.args.scratch.now in
-    let C : ChainIn X.scratch c.args.size a = chain_kept c.args.scratch.now X.scratch c.args.size a X.invariant.2 X.invariant.0 c.requires in
+    let C : ChainIn X.scratch c.args.size a = chain_kept c.args.scratch.now X.scratch c.args.size a X.invariant.0 X.auto.scratch c.requires in
     (C, c.loop-x-test.true)
-
-pub overflow_cast-parts : goal.overflow_cast-parts
-overflow_cast-parts c =
-    record { fits = omega (arith, c.requires.short) }
-
-pub overflow_add-parts : goal.overflow_add-parts
-overflow_add-parts c =
-    record { fits = omega (arith, c.requires.short) }
 
 pub get_set-left-requires : goal.get_set-left-requires
 get_set-left-requires c =
     let X = c.loop-x in
     let a = c.args.c in
     let u = words c.args.scratch.now in
-    let C : ChainIn X.scratch c.args.size a = chain_kept c.args.scratch.now X.scratch c.args.size a X.invariant.2 X.invariant.0 c.requires in
+    let C : ChainIn X.scratch c.args.size a = chain_kept c.args.scratch.now X.scratch c.args.size a X.invariant.0 X.auto.scratch c.requires in
     omega (arith, c.requires.short, C.space, c.fill_left.auto.scratch)
 
 pub has-requires : goal.has-requires
@@ -61,21 +53,13 @@ walk-requires c =
     let a = c.args.c in
     let u = words c.args.scratch.now in
     let v = words c.fill_left.new.scratch in
-    let still : Aside u v = aside_trans u (words X.scratch) v X.invariant.2 c.fill_left.ensures.aside in
+    let still : Aside u v = aside_trans u (words X.scratch) v X.invariant.0 c.fill_left.ensures.aside in
     let chained : (I : Interpretation) → Chained I u c.args.size a → Chained I v c.args.size a = λ I K. chained_kept u v a still c.requires.among I c.args.size K in
-    let left : (I : Interpretation) → Chained I u c.args.size a → AllLeft I v a X.x = λ I K. c.fill_left.ensures.all_left I (chained_kept u (words X.scratch) a X.invariant.2 c.requires.among I c.args.size K) in
+    let left : (I : Interpretation) → Chained I u c.args.size a → AllLeft I v a X.x = λ I K. c.fill_left.ensures.all_left I (chained_kept u (words X.scratch) a X.invariant.0 c.requires.among I c.args.size K) in
     let told : (I : Interpretation) → Chained I u c.args.size a → c.has.result ≡ not (onward I (role_of a.sup) X.x (parts_of u a) X.x) =
     λ I K. onward_is u v c.args.size a X.x still c.requires.among c.loop-x-test.true c.has.result (λ n g l e. c.has.ensures.by_index n g l (c.get_set-left.ensures ∙ e)) I (chained I K) (left I K) in
     let P = c.requires in
-    walk_start c.args.scratch.now _ c.args.size a X.x P still (c.fill_left.auto.scratch ∙ X.invariant.0) (left P.meant P.chained) c.loop-x-test.true (not_true _ (sym (told P.meant P.chained) ∙ c.if-has.true))
-
-pub overflow_add-shown : goal.overflow_add-shown
-overflow_add-shown c =
-    record { fits = omega (arith, c.requires.short) }
-
-pub shape_of-scratch-then-has : goal.shape_of-scratch-then-has
-shape_of-scratch-then-has c =
-    c.walk.auto.scratch ∙ c.fill_left.auto.scratch ∙ c.loop-x.invariant.0
+    walk_start c.args.scratch.now _ c.args.size a X.x P still (c.fill_left.auto.scratch ∙ X.auto.scratch) (left P.meant P.chained) c.loop-x-test.true (not_true _ (sym (told P.meant P.chained) ∙ c.if-has.true))
 
 pub returns-then-has : goal.returns-then-has
 returns-then-has c =
@@ -83,9 +67,9 @@ returns-then-has c =
     let a = c.args.c in
     let u = words c.args.scratch.now in
     let v = words c.fill_left.new.scratch in
-    let still : Aside u v = aside_trans u (words X.scratch) v X.invariant.2 c.fill_left.ensures.aside in
+    let still : Aside u v = aside_trans u (words X.scratch) v X.invariant.0 c.fill_left.ensures.aside in
     let chained : (I : Interpretation) → Chained I u c.args.size a → Chained I v c.args.size a = λ I K. chained_kept u v a still c.requires.among I c.args.size K in
-    let left : (I : Interpretation) → Chained I u c.args.size a → AllLeft I v a X.x = λ I K. c.fill_left.ensures.all_left I (chained_kept u (words X.scratch) a X.invariant.2 c.requires.among I c.args.size K) in
+    let left : (I : Interpretation) → Chained I u c.args.size a → AllLeft I v a X.x = λ I K. c.fill_left.ensures.all_left I (chained_kept u (words X.scratch) a X.invariant.0 c.requires.among I c.args.size K) in
     let told : (I : Interpretation) → Chained I u c.args.size a → c.has.result ≡ not (onward I (role_of a.sup) X.x (parts_of u a) X.x) =
     λ I K. onward_is u v c.args.size a X.x still c.requires.among c.loop-x-test.true c.has.result (λ n g l e. c.has.ensures.by_index n g l (c.get_set-left.ensures ∙ e)) I (chained I K) (left I K) in
     let sup = role_of a.sup in
@@ -93,18 +77,10 @@ returns-then-has c =
       aside = aside_trans u v _ still c.walk.ensures.aside;
       result_after = λ I C.
           let l : X.x < I.size = omega (arith, c.loop-x-test.true, C.sized) in
-          path_here I sup parts X.x _ l (λ y k. X.invariant.3 I C y k) (not_true _ (sym (told I C) ∙ c.if-has.true))
+          path_here I sup parts X.x _ l (λ y k. X.invariant.1 I C y k) (not_true _ (sym (told I C) ∙ c.if-has.true))
           (c.walk.ensures.parts_after I (chained I C) (left I C) ∙ ap (λ (p : List Role). X.x ∷ walk_of I sup X.x p X.x) (parts_kept u v a still c.requires.among))
           ∙ ap (λ (k : ℕ). least_of (rises 0 I.size) (suc k) (λ l. chain_at I sup (place l 0) parts l)) (length_parts u a);
     }
-
-pub overflow_add-x : goal.overflow_add-x
-overflow_add-x c =
-    record { fits = omega (arith, c.loop-x-test.true, c.requires.few) }
-
-pub loop-x-smaller : goal.loop-x-smaller
-loop-x-smaller c =
-    omega (arith, c.loop-x-test.true)
 
 pub loop-x-preserved : goal.loop-x-preserved
 loop-x-preserved c =
@@ -112,19 +88,14 @@ loop-x-preserved c =
     let a = c.args.c in
     let u = words c.args.scratch.now in
     let v = words c.fill_left.new.scratch in
-    let still : Aside u v = aside_trans u (words X.scratch) v X.invariant.2 c.fill_left.ensures.aside in
+    let still : Aside u v = aside_trans u (words X.scratch) v X.invariant.0 c.fill_left.ensures.aside in
     let chained : (I : Interpretation) → Chained I u c.args.size a → Chained I v c.args.size a = λ I K. chained_kept u v a still c.requires.among I c.args.size K in
-    let left : (I : Interpretation) → Chained I u c.args.size a → AllLeft I v a X.x = λ I K. c.fill_left.ensures.all_left I (chained_kept u (words X.scratch) a X.invariant.2 c.requires.among I c.args.size K) in
+    let left : (I : Interpretation) → Chained I u c.args.size a → AllLeft I v a X.x = λ I K. c.fill_left.ensures.all_left I (chained_kept u (words X.scratch) a X.invariant.0 c.requires.among I c.args.size K) in
     let told : (I : Interpretation) → Chained I u c.args.size a → c.has.result ≡ not (onward I (role_of a.sup) X.x (parts_of u a) X.x) =
     λ I K. onward_is u v c.args.size a X.x still c.requires.among c.loop-x-test.true c.has.result (λ n g l e. c.has.ensures.by_index n g l (c.get_set-left.ensures ∙ e)) I (chained I K) (left I K) in (
-      c.fill_left.auto.scratch ∙ X.invariant.0,
-      omega (arith, c.loop-x-test.true),
       still,
-      tried_next u v c.args.size a X.x still c.requires.among c.loop-x-test.true X.invariant.3 (λ I C. not_false _ (sym (told I C) ∙ c.if-has.false)),
+      tried_next u v c.args.size a X.x still c.requires.among c.loop-x-test.true X.invariant.1 (λ I C. not_false _ (sym (told I C) ∙ c.if-has.false)),
     )
-
-pub shape_of-scratch : goal.shape_of-scratch
-shape_of-scratch c = c.loop-x.invariant.0
 
 pub returns : goal.returns
 returns c =
@@ -132,6 +103,6 @@ returns c =
     let u = words c.args.scratch.now in
     let sup = role_of c.args.c.sup in
     let parts = parts_of u c.args.c in record {
-      aside = X.invariant.2;
-      result_after = λ I C. path_nowhere I sup parts (λ y l. X.invariant.3 I C y (omega (arith, C.sized, c.loop-x-test.false))) ∙ ap (λ (k : ℕ). least_of (rises 0 I.size) (suc k) (λ l. chain_at I sup (place l 0) parts l)) (length_parts u c.args.c);
+      aside = X.invariant.0;
+      result_after = λ I C. path_nowhere I sup parts (λ y l. X.invariant.1 I C y (omega (arith, C.sized, c.loop-x-test.false))) ∙ ap (λ (k : ℕ). least_of (rises 0 I.size) (suc k) (λ l. chain_at I sup (place l 0) parts l)) (length_parts u c.args.c);
     }

@@ -1,4 +1,4 @@
-use mathlib.Core.Path.{◌≡◌, refl, ap, subst, ◌∙◌}
+use mathlib.Core.Path.{◌≡◌, ap, subst, ◌∙◌}
 use mathlib.Core.List.{List, ◌∷◌}
 use Prim.Native.Nat.{ℕ, suc, ◌+◌, ◌-◌, ◌<◌}
 use native.Mathlib.Omega.{arith}
@@ -33,36 +33,24 @@ pub loop-k-init : goal.loop-k-init
 loop-k-init c =
     let u = words c.args.scratch.now in
     let long : shown_at < length u = omega (arith, length_words c.args.scratch.now, c.requires.chain.space) in
-    (refl, walked_first u _ c.args.size c.args.c c.args.x c.requires.element long c.put_word.ensures)
-
-pub overflow_sub-k : goal.overflow_sub-k
-overflow_sub-k c = omega (arith, c.loop-k-test.true)
+    walked_first u _ c.args.size c.args.c c.args.x c.requires.element long c.put_word.ensures
 
 pub next-y-requires : goal.next-y-requires
 next-y-requires c =
     let u = words c.args.scratch.now in
     let X = c.loop-k in
     let W : WalkIn X.scratch c.args.size c.args.c c.args.x X.k X.y =
-    walked_in _ X.scratch c.args.size c.args.c c.args.x X.k X.y X.invariant.1
-    (walk_kept c.args.scratch.now _ c.args.size c.args.c c.args.x c.args.c.parts c.args.x c.requires (aside_shown u _ 0 _ (omega arith) c.put_word.ensures) (λ j _. shown_left u _ _ c.put_word.ensures j) c.put_word.auto.s) X.invariant.0 in
+    walked_in _ X.scratch c.args.size c.args.c c.args.x X.k X.y X.invariant
+    (walk_kept c.args.scratch.now _ c.args.size c.args.c c.args.x c.args.c.parts c.args.x c.requires (aside_shown u _ 0 _ (omega arith) c.put_word.ensures) (λ j _. shown_left u _ _ c.put_word.ensures j) c.put_word.auto.s) X.auto.scratch in
     subst (λ (k : ℕ). WalkIn X.scratch c.args.size c.args.c c.args.x k X.y) (same X.k c.loop-k-test.true) W
-
-pub overflow_sub-parts : goal.overflow_sub-parts
-overflow_sub-parts c = omega (arith, c.loop-k.invariant.1.upto)
-
-pub overflow_cast-parts : goal.overflow_cast-parts
-overflow_cast-parts c = record { fits = omega (arith, c.requires.chain.short) }
-
-pub overflow_add-parts : goal.overflow_add-parts
-overflow_add-parts c = record { fits = omega (arith, c.requires.chain.short) }
 
 pub overflow_cast-y : goal.overflow_cast-y
 overflow_cast-y c =
     let u = words c.args.scratch.now in
     let X = c.loop-k in
     let W : WalkIn X.scratch c.args.size c.args.c c.args.x X.k X.y =
-    walked_in _ X.scratch c.args.size c.args.c c.args.x X.k X.y X.invariant.1
-    (walk_kept c.args.scratch.now _ c.args.size c.args.c c.args.x c.args.c.parts c.args.x c.requires (aside_shown u _ 0 _ (omega arith) c.put_word.ensures) (λ j _. shown_left u _ _ c.put_word.ensures j) c.put_word.auto.s) X.invariant.0 in
+    walked_in _ X.scratch c.args.size c.args.c c.args.x X.k X.y X.invariant
+    (walk_kept c.args.scratch.now _ c.args.size c.args.c c.args.x c.args.c.parts c.args.x c.requires (aside_shown u _ 0 _ (omega arith) c.put_word.ensures) (λ j _. shown_left u _ _ c.put_word.ensures j) c.put_word.auto.s) X.auto.scratch in
     record { fits = omega (arith, next_small X.scratch c.args.size c.args.c c.args.x (X.k - 1) X.y _ (subst (λ (k : ℕ). WalkIn X.scratch c.args.size c.args.c c.args.x k X.y) (same X.k c.loop-k-test.true) W) c.next-y.ensures, c.requires.chain.few) }
 
 pub put_word-requires-in-loop-k : goal.put_word-requires-in-loop-k
@@ -70,32 +58,24 @@ put_word-requires-in-loop-k c =
     let u = words c.args.scratch.now in
     let X = c.loop-k in
     let W : WalkIn X.scratch c.args.size c.args.c c.args.x X.k X.y =
-    walked_in _ X.scratch c.args.size c.args.c c.args.x X.k X.y X.invariant.1
-    (walk_kept c.args.scratch.now _ c.args.size c.args.c c.args.x c.args.c.parts c.args.x c.requires (aside_shown u _ 0 _ (omega arith) c.put_word.ensures) (λ j _. shown_left u _ _ c.put_word.ensures j) c.put_word.auto.s) X.invariant.0 in
+    walked_in _ X.scratch c.args.size c.args.c c.args.x X.k X.y X.invariant
+    (walk_kept c.args.scratch.now _ c.args.size c.args.c c.args.x c.args.c.parts c.args.x c.requires (aside_shown u _ 0 _ (omega arith) c.put_word.ensures) (λ j _. shown_left u _ _ c.put_word.ensures j) c.put_word.auto.s) X.auto.scratch in
     omega (arith, c.requires.chain.short, W.chain.space)
-
-pub loop-k-smaller : goal.loop-k-smaller
-loop-k-smaller c = omega (arith, c.loop-k-test.true)
 
 pub loop-k-preserved : goal.loop-k-preserved
 loop-k-preserved c =
     let u = words c.args.scratch.now in
     let X = c.loop-k in
     let W : WalkIn X.scratch c.args.size c.args.c c.args.x X.k X.y =
-    walked_in _ X.scratch c.args.size c.args.c c.args.x X.k X.y X.invariant.1
-    (walk_kept c.args.scratch.now _ c.args.size c.args.c c.args.x c.args.c.parts c.args.x c.requires (aside_shown u _ 0 _ (omega arith) c.put_word.ensures) (λ j _. shown_left u _ _ c.put_word.ensures j) c.put_word.auto.s) X.invariant.0 in
+    walked_in _ X.scratch c.args.size c.args.c c.args.x X.k X.y X.invariant
+    (walk_kept c.args.scratch.now _ c.args.size c.args.c c.args.x c.args.c.parts c.args.x c.requires (aside_shown u _ 0 _ (omega arith) c.put_word.ensures) (λ j _. shown_left u _ _ c.put_word.ensures j) c.put_word.auto.s) X.auto.scratch in
     let v = words X.scratch in
     let w = words c.put_word.new.s in
     let few = c.requires.chain.short in
     let small = next_small X.scratch c.args.size c.args.c c.args.x (X.k - 1) X.y _ (subst (λ (k : ℕ). WalkIn X.scratch c.args.size c.args.c c.args.x k X.y) (same X.k c.loop-k-test.true) W) c.next-y.ensures in
-    let long : shown_at + (c.args.c.parts - (X.k - 1)) < length v = omega (arith, length_words X.scratch, W.chain.space) in (
-      c.put_word-in-loop-k.auto.s ∙ X.invariant.0,
-      walked_next w v _ c.args.size c.args.c c.args.x (X.k - 1) X.y _ c.requires.chain.among (omega arith) (subst (λ (k : ℕ). Walked w v c.args.size c.args.c c.args.x k X.y) (same X.k c.loop-k-test.true) X.invariant.1) c.next-y.ensures small long c.put_word-in-loop-k.ensures
-          (aside_shown v _ (c.args.c.parts - (X.k - 1)) _ (omega arith) c.put_word-in-loop-k.ensures),
-    )
-
-pub shape_of-scratch : goal.shape_of-scratch
-shape_of-scratch c = let X = c.loop-k in X.invariant.0 ∙ c.put_word.auto.s
+    let long : shown_at + (c.args.c.parts - (X.k - 1)) < length v = omega (arith, length_words X.scratch, W.chain.space) in
+    walked_next w v _ c.args.size c.args.c c.args.x (X.k - 1) X.y _ c.requires.chain.among (omega arith) (subst (λ (k : ℕ). Walked w v c.args.size c.args.c c.args.x k X.y) (same X.k c.loop-k-test.true) X.invariant) c.next-y.ensures small long c.put_word-in-loop-k.ensures
+    (aside_shown v _ (c.args.c.parts - (X.k - 1)) _ (omega arith) c.put_word-in-loop-k.ensures)
 
 pub returns : goal.returns
 returns c =
@@ -103,7 +83,7 @@ returns c =
     let u = words c.args.scratch.now in
     let a = c.args.c in
     let W = c.requires.chain.among in
-    let K = X.invariant.1 in
+    let K = X.invariant in
     let A = aside_shown u _ 0 _ (omega arith) c.put_word.ensures in record {
       aside = aside_trans u _ (words X.scratch) A K.aside;
       parts_after = λ I C L.

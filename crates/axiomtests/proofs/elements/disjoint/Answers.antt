@@ -10,8 +10,9 @@ pub clashes-requires : goal.clashes-requires
 clashes-requires c =
     let P = c.requires in
     let one = leb-true 1 c.args.count P.line.fields in
-    concepts_there c.args.scratch.now P.line P.space (c.args.at + 1) (c.args.count - 1) (omega (arith, P.line.below)) (disjoint_in P.line)
+    rw c.of_concepts-l.ensures (concepts_there c.args.scratch.now P.line P.space (c.args.at + 1) (c.args.count - 1) (omega (arith, P.line.below)) (disjoint_in P.line))
 
 pub returns : goal.returns
 returns c =
-    λ w d I L. disjoint_set L _ (c.clashes.ensures I.size (means I d.concepts) (concepts_of L (c.args.at + 1) (c.args.count - 1) (disjoint_in L)))
+    let K = rw c.of_concepts-l.ensures at c.clashes.ensures in
+    λ w d I L. disjoint_set L _ (K I.size (means I d.concepts) (concepts_of L (c.args.at + 1) (c.args.count - 1) (disjoint_in L)))

@@ -20,16 +20,18 @@ pub get_set-requires : goal.get_set-requires
 get_set-requires c = let L = c.requires.line in omega (arith, c.get_word-class.ensures, (union_in L).0, L.ready.inside.classes, c.requires.room)
 
 pub some-requires : goal.some-requires
-some-requires c = members_there _ _ _ _ _ c.requires
+some-requires c = rw c.of_concepts-l.ensures (members_there _ _ _ _ _ c.requires)
 
 pub clashes-requires : goal.clashes-requires
-clashes-requires c = members_there _ _ _ _ _ c.requires
+clashes-requires c = rw c.of_concepts-l.ensures (members_there _ _ _ _ _ c.requires)
 
 pub returns : goal.returns
 returns c =
     let from = c.args.at + 2 in
     let n = c.args.count - 2 in
     let long = length_words c.args.store.now in
+    let S = rw c.of_concepts-l.ensures at c.some.ensures in
+    let K = rw c.of_concepts-l.ensures at c.clashes.ensures in
     λ d I L.
     let M = concepts_of L from n (union_in L).1 in
-    union_set L _ _ _ _ _ _ c.get_word-class.ensures c.get_set.ensures (omega (arith, (union_in L).0, L.ready.inside.classes, c.requires.room)) (c.some.ensures I.size (means I d.concepts) M) c.differ-uncovered.ensures (c.clashes.ensures I.size (means I d.concepts) M) c.either.ensures
+    union_set L _ _ _ _ _ _ c.get_word-class.ensures c.get_set.ensures (omega (arith, (union_in L).0, L.ready.inside.classes, c.requires.room)) (S I.size (means I d.concepts) M) c.differ-uncovered.ensures (K I.size (means I d.concepts) M) c.either.ensures

@@ -9,7 +9,7 @@ pub unlike-requires : goal.unlike-requires
 unlike-requires c =
     let P = c.requires in
     let one = leb-true 1 c.args.count P.line.fields in
-    (concepts_there c.args.scratch.now P.line P.space (c.args.at + 1) (c.args.count - 1) (omega (arith, P.line.below)) (equivalent_in P.line), few_elements P.line)
+    rw c.of_concepts-l.ensures (concepts_there c.args.scratch.now P.line P.space (c.args.at + 1) (c.args.count - 1) (omega (arith, P.line.below)) (equivalent_in P.line), few_elements P.line)
 
 pub returns : goal.returns
-returns c = λ w d I L. equivalent_set L _ c.unlike.ensures
+returns c = λ w d I L. equivalent_set L _ (rw c.of_concepts-l.ensures at c.unlike.ensures)

@@ -1,10 +1,10 @@
-use Prim.Native.Nat.{ℕ, ◌+◌, ◌≤◌}
+use Rattle.std.proofs.Common.{◌≡◌, ℕ, Bool, ◌+◌, ◌≤◌}
 use Rattle.words.specs.Words.{words}
-use Rattle.axiomtests.proofs.ListLaws.{Found, clash_by}
+use Rattle.axiomtests.specs.Lists.{Members}
+use Rattle.axiomtests.proofs.ListLaws.{found_from, clash_by}
 use Rattle.axiomtests.proofs.members.clash_behind.Given as goal
 
 abbrev pub invariant-loop-k : goal.invariant-loop-k
-invariant-loop-k live = (live.j + 1 ≤ live.k) × (live.k ≤ live.l.count) × ((n : ℕ) → Found (clash_by live.always live.a) n (words live.scratch) live.l live.k live.found)
-
-abbrev pub decreases-loop-k : goal.decreases-loop-k
-decreases-loop-k l = l.k
+invariant-loop-k live =
+    (live.j + 1 ≤ live.k)
+    × ((n : ℕ) (f : ℕ → ℕ → Bool) → Members n f (words live.scratch) live.l → live.found ≡ found_from (clash_by live.always live.a) f n (words live.scratch) live.l live.k)

@@ -1,11 +1,8 @@
-use Prim.Native.Nat.{ℕ, ◌≤◌}
+use Rattle.std.proofs.Common.{◌≡◌, ℕ, Bool}
 use Rattle.words.specs.Words.{words}
-use Rattle.axiomtests.specs.Lists.{clashes_at}
-use Rattle.axiomtests.proofs.ListLaws.{Found}
+use Rattle.axiomtests.specs.Lists.{clashes_at, Members}
+use Rattle.axiomtests.proofs.ListLaws.{found_from}
 use Rattle.axiomtests.proofs.members.clashes.Given as goal
 
 abbrev pub invariant-loop-j : goal.invariant-loop-j
-invariant-loop-j live = (live.j ≤ live.l.count) × ((n : ℕ) → Found (clashes_at live.always) n (words live.scratch) live.l live.j live.found)
-
-abbrev pub decreases-loop-j : goal.decreases-loop-j
-decreases-loop-j l = l.j
+invariant-loop-j live = (n : ℕ) (f : ℕ → ℕ → Bool) → Members n f (words live.scratch) live.l → live.found ≡ found_from (clashes_at live.always) f n (words live.scratch) live.l live.j

@@ -1,6 +1,6 @@
 use mathlib.Core.Path.{◌≡◌, subst}
 use mathlib.Core.List.{List}
-use Prim.Native.Nat.{ℕ, ◌+◌, ◌-◌, ◌<◌}
+use Prim.Native.Nat.{ℕ, ◌+◌, ◌<◌}
 use native.Mathlib.Omega.{arith}
 use lib.Dec.{ltb}
 use borrow.Author.Tests.{ltb-true, ltb-false}
@@ -17,7 +17,7 @@ none_more : (v : List ℕ) (t : Trial) (kind at count x m : ℕ) → ((y : ℕ) 
 none_more v t kind at count x m F B e y h = by_truth (ltb y x) (λ q. F y (ltb-true y x q)) (λ q. let l = ltb-false y x q in let z : x ≡ y = omega arith in subst (λ (k : ℕ). Behind v t kind at count k 0) z (subst (Behind v t kind at count x) e B))
 
 pub loop-x-init : goal.loop-x-init
-loop-x-init c = (omega arith, λ y h. absurd (omega arith))
+loop-x-init c = λ y h. absurd (omega arith)
 
 pub pair_mask-m-requires : goal.pair_mask-m-requires
 pair_mask-m-requires c = (c.requires.0, c.requires.1, c.loop-x-test.true)
@@ -28,29 +28,16 @@ returns-then-m-ne0 c =
     let h = c.loop-x-test.true in
     record {
       among = h;
+      some = omega (arith, c.if-m-ne0.true);
       set = c.pair_mask-m.ensures;
-      least = λ d I w L. pair_here I.size (axiom_holds_at I d.concepts (row_axiom (words c.args.scratch.now) c.args.kind c.args.at c.args.count)) X.x _ (omega (arith, L.fits.size)) (λ y l. X.invariant.1 y l d I w L) (c.pair_mask-m.ensures d I w L) c.if-m-ne0.true;
+      least = λ d I w L. pair_here I.size (axiom_holds_at I d.concepts (row_axiom (words c.args.scratch.now) c.args.kind c.args.at c.args.count)) X.x _ (omega (arith, L.fits.size)) (λ y l. X.invariant y l d I w L) (c.pair_mask-m.ensures d I w L) c.if-m-ne0.true;
     }
-
-pub overflow_add-x : goal.overflow_add-x
-overflow_add-x c = record { fits = omega (arith, c.loop-x-test.true) }
-
-pub loop-x-smaller : goal.loop-x-smaller
-loop-x-smaller c = omega (arith, c.loop-x-test.true)
 
 pub loop-x-preserved : goal.loop-x-preserved
 loop-x-preserved c =
     let X = c.loop-x in
-    (omega (arith, c.loop-x-test.true), none_more (words c.args.scratch.now) c.args.t c.args.kind c.args.at c.args.count X.x _ X.invariant.1 c.pair_mask-m.ensures c.if-m-ne0.false)
+    none_more (words c.args.scratch.now) c.args.t c.args.kind c.args.at c.args.count X.x _ X.invariant c.pair_mask-m.ensures c.if-m-ne0.false
 
 pub returns : goal.returns
 returns c =
-    let X = c.loop-x in
-    let P = c.requires.0 in
-    let some : 0 < c.args.t.size = omega (arith, P.line.fits.size, P.line.ready.laid.some) in
-    let e : X.x ≡ c.args.t.size = omega (arith, X.invariant.0, c.loop-x-test.false) in
-    record {
-      among = some;
-      set = X.invariant.1 0 (omega arith);
-      least = λ d I w L. pair_nowhere I.size (axiom_holds_at I d.concepts (row_axiom (words c.args.scratch.now) c.args.kind c.args.at c.args.count)) L.ready.laid.some (λ y l. X.invariant.1 y (omega (arith, L.fits.size)) d I w L);
-    }
+    λ d I w L. pair_nowhere I.size (axiom_holds_at I d.concepts (row_axiom (words c.args.scratch.now) c.args.kind c.args.at c.args.count)) (λ y l. c.loop-x.invariant y (omega (arith, L.fits.size)) d I w L)

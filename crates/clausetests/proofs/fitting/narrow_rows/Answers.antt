@@ -1,4 +1,3 @@
-use Prim.Native.Nat.{◌-◌}
 use native.Mathlib.Omega.{arith}
 use Rattle.clausetests.proofs.FittingLaws.{atom_small}
 use Rattle.clausetests.proofs.RowLaws.{rows_start, rows_there, rows_next}

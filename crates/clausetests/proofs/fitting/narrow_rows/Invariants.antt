@@ -1,9 +1,5 @@
-use Prim.Native.Nat.{◌-◌}
 use Rattle.clausetests.proofs.RowLaws.{Rows}
 use Rattle.clausetests.proofs.fitting.narrow_rows.Given as goal
 
 abbrev pub invariant-loop-e : goal.invariant-loop-e
 invariant-loop-e l = Rows l.initial.scratch l.a l.at l.free l.head l.size l.scratch l.e
-
-abbrev pub decreases-loop-e : goal.decreases-loop-e
-decreases-loop-e l = l.size - l.e

@@ -1,5 +1,4 @@
 use mathlib.Core.Path.{refl}
-use Prim.Native.Nat.{◌-◌}
 use native.Mathlib.Omega.{arith}
 use Rattle.clausetests.proofs.RunLaws.{run_start, run_there, run_next, run_end}
 use Rattle.clausetests.proofs.fitting.narrow_run.Goals as goal

@@ -1,9 +1,5 @@
-use Prim.Native.Nat.{◌-◌}
 use Rattle.clausetests.proofs.RunLaws.{RunTo}
 use Rattle.clausetests.proofs.fitting.narrow_run.Given as goal
 
 abbrev pub invariant-loop-i : goal.invariant-loop-i
 invariant-loop-i l = RunTo l.text l.store l.initial.scratch l.run l.v l.head l.size l.n l.scratch l.i
-
-abbrev pub decreases-loop-i : goal.decreases-loop-i
-decreases-loop-i l = l.n - l.i

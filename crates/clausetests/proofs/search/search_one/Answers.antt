@@ -1,13 +1,10 @@
-use mathlib.Core.Path.{◌∙◌}
-use native.Mathlib.Omega.{arith}
-use Rattle.clausetests.proofs.SearchLaws.{last_none, last_some}
+use Rattle.std.proofs.Common.{[], ◌∷◌, ◌∙◌}
+use Rattle.clausetests.proofs.SearchLaws.{last_none, last_some, found_one}
 use Rattle.clausetests.proofs.search.search_one.Goals as goal
 
 pub returns-then-m-eq0 : goal.returns-then-m-eq0
-returns-then-m-eq0 c = λ n j two F h e. last_none n two j F c.args.m _ e c.if-m-eq0.true (c.nothing.ensures 1)
-
-pub overflow_cast-x : goal.overflow_cast-x
-overflow_cast-x c = omega (arith, c.least-x.ensures.upper_bound)
+returns-then-m-eq0 c = λ n two F h e. last_none n two c.args.j F c.args.m e c.if-m-eq0.true
 
 pub returns : goal.returns
-returns c = λ n j two F h e. c.alone.ensures 1 (omega arith) ∙ last_some n two j F c.args.m _ e c.if-m-eq0.false (c.least-x.ensures.by_index n (F j) h e).0
+returns c = λ n two F h e.
+    found_one c.least-last.result c.args.j (0 ∷ 0 ∷ 0 ∷ 0 ∷ []) c.requires ∙ last_some n two c.args.j F c.args.m c.least-last.result e c.if-m-eq0.false (c.least-last.ensures.by_index n (F c.args.j) h e).0

@@ -1,4 +1,6 @@
 use mathlib.Core.List.{◌++◌}
+use lib.ListN.{take}
+use Rattle.std.specs.Prelude as Code
 use Prim.Native.Nat.{◌+◌, ◌*◌}
 use native.Mathlib.Omega.{arith}
 use Rattle.words.specs.Words.{words}
@@ -21,8 +23,8 @@ clause_tables-requires c =
     here_meant A.size A.i A.text.now A.clauses.now A.atoms.now A.store.now A.scratch.now H _ _ c.clause_vars-v.result (c.body_of-body.ensures H.clause H.is.at) (c.head_of-head.ensures H.clause H.is.at)
     (c.clause_vars-v.ensures.1 (H.clause.body ++ H.clause.head) (c.atoms_of.ensures H.clause H.is.at))
 
-pub search-f-requires : goal.search-f-requires
-search-f-requires c =
+pub search-requires : goal.search-requires
+search-requires c =
     let A = c.args in
     let H = c.requires in (
       here_few A.size A.i A.text.now A.clauses.now A.atoms.now A.store.now A.scratch.now H c.clause_vars-v.result (c.clause_vars-v.ensures.1 (H.clause.body ++ H.clause.head) (c.atoms_of.ensures H.clause H.is.at)),
@@ -30,26 +32,12 @@ search-f-requires c =
       rw c.clause_tables.auto.scratch H.space,
     )
 
-pub returns-then-not-f : goal.returns-then-not-f
-returns-then-not-f c =
-    let A = c.args in
-    let H = c.requires in
-    let v = c.clause_vars-v.result in record {
-      result_after = (λ I roles x S.
-          let R = c.clause_vars-v.ensures.1 (x.body ++ x.head) (c.atoms_of.ensures x S.at) in
-          let M = clause_meant I roles A.size x A.i A.text.now (words A.clauses.now) (words A.atoms.now) (words A.store.now) (words A.scratch.now) S v R in
-          verdict_none A.i v.n c.search-f.result (clause_broken I x) c.if-not-f.true
-          (found_broken I roles A.size x A.i A.text.now (words A.clauses.now) (words A.atoms.now) (words A.store.now) (words A.scratch.now) S v R c.search-f.result
-          (c.search-f.ensures (clause_one I x) (clause_two I x) (c.clause_tables.ensures.tables I roles x (c.body_of-body.ensures x S.at) (c.head_of-head.ensures x S.at) M))));
-      changed = changed_wide (2 * vars_at) shown_at (2 * vars_at) (shown_at + 4) _ _ (omega arith) (omega arith) c.clause_tables.ensures.changed;
-    }
-
 pub put_shown-requires : goal.put_shown-requires
 put_shown-requires c =
     rw c.clause_tables.auto.scratch c.requires.space
 
-pub returns : goal.returns
-returns c =
+pub returns-in-Some : goal.returns-in-Some
+returns-in-Some c =
     let A = c.args in
     let H = c.requires in
     let v = c.clause_vars-v.result in
@@ -57,10 +45,23 @@ returns c =
       result_after = (λ I roles x S.
           let R = c.clause_vars-v.ensures.1 (x.body ++ x.head) (c.atoms_of.ensures x S.at) in
           let M = clause_meant I roles A.size x A.i A.text.now (words A.clauses.now) (words A.atoms.now) (words A.store.now) (words A.scratch.now) S v R in
-          verdict_some A.i v.n c.search-f.result (clause_broken I x) _ c.if-not-f.false
-          (found_broken I roles A.size x A.i A.text.now (words A.clauses.now) (words A.atoms.now) (words A.store.now) (words A.scratch.now) S v R c.search-f.result
-          (c.search-f.ensures (clause_one I x) (clause_two I x) (c.clause_tables.ensures.tables I roles x (c.body_of-body.ensures x S.at) (c.head_of-head.ensures x S.at) M)))
+          verdict_some A.i (clause_broken I x) (take v.n c.in-Some.found) _
+          (found_broken I roles A.size x A.i A.text.now (words A.clauses.now) (words A.atoms.now) (words A.store.now) (words A.scratch.now) S v R (Code.Some c.in-Some.found)
+          (c.in-Some.ensures (clause_one I x) (clause_two I x) (c.clause_tables.ensures.tables I roles x (c.body_of-body.ensures x S.at) (c.head_of-head.ensures x S.at) M)))
           (c.put_shown.ensures.by_index v.n l));
       changed = changed_then (2 * vars_at) (shown_at + 4) _ _ _ (changed_wide (2 * vars_at) shown_at (2 * vars_at) (shown_at + 4) _ _ (omega arith) (omega arith) c.clause_tables.ensures.changed)
           (changed_wide shown_at (shown_at + 4) (2 * vars_at) (shown_at + 4) _ _ (omega arith) (omega arith) c.put_shown.ensures.changed);
+    }
+
+pub returns : goal.returns
+returns c =
+    let A = c.args in
+    let v = c.clause_vars-v.result in record {
+      result_after = (λ I roles x S.
+          let R = c.clause_vars-v.ensures.1 (x.body ++ x.head) (c.atoms_of.ensures x S.at) in
+          let M = clause_meant I roles A.size x A.i A.text.now (words A.clauses.now) (words A.atoms.now) (words A.store.now) (words A.scratch.now) S v R in
+          verdict_none A.i (clause_broken I x)
+          (found_broken I roles A.size x A.i A.text.now (words A.clauses.now) (words A.atoms.now) (words A.store.now) (words A.scratch.now) S v R Code.None
+          (c.in_default.ensures (clause_one I x) (clause_two I x) (c.clause_tables.ensures.tables I roles x (c.body_of-body.ensures x S.at) (c.head_of-head.ensures x S.at) M))));
+      changed = changed_wide (2 * vars_at) shown_at (2 * vars_at) (shown_at + 4) _ _ (omega arith) (omega arith) c.clause_tables.ensures.changed;
     }

@@ -1,6 +1,6 @@
 use mathlib.Core.Path.{◌≡◌}
 use mathlib.Core.Bool.{Bool}
-use Prim.Native.Nat.{ℕ, ◌-◌, ◌+◌, ◌≤◌}
+use Prim.Native.Nat.{ℕ, ◌+◌}
 use Rattle.words.specs.Words.{words}
 use Rattle.rules.specs.Invariants.{Each}
 use Rattle.meaning.specs.Joints.{over}
@@ -12,9 +12,6 @@ use Rattle.sets.specs.Places.{concepts_at}
 use Rattle.extents.proofs.joint.joint_set.Given as goal
 
 abbrev pub invariant-loop-i : goal.invariant-loop-i
-invariant-loop-i l = (l.i ≤ l.count)
-    × ((k : ℕ → ℕ → Bool) → Each (λ c. set_at (words l.scratch) (concepts_at + c) ≡ mask_of l.n (k c)) (run (words l.scratch) (members_at + l.start) l.count)
-    → l.m ≡ mask_of l.n (λ x. over (joint_of l.j) (λ c. k c x) (run (words l.scratch) (members_at + l.start) l.i)))
-
-abbrev pub decreases-loop-i : goal.decreases-loop-i
-decreases-loop-i l = l.count - l.i
+invariant-loop-i l =
+    (k : ℕ → ℕ → Bool) → Each (λ c. set_at (words l.scratch) (concepts_at + c) ≡ mask_of l.n (k c)) (run (words l.scratch) (members_at + l.start) l.count)
+    → l.m ≡ mask_of l.n (λ x. over (joint_of l.j) (λ c. k c x) (run (words l.scratch) (members_at + l.start) l.i))

@@ -1,3 +1,4 @@
+use Rattle.std.proofs.Common.{◌≡◌, false, eqb, arith}
 use borrow.Author.Tests.{ne_eqb}
 use Rattle.extents.proofs.restriction.holds.Goals as goal
 
@@ -11,4 +12,9 @@ pub returns-in-11 : goal.returns-in-11
 returns-in-11 c = λ n f g e h. rw c.in-11.is (c.at_least.ensures n f g e h)
 
 pub returns-in_default : goal.returns-in_default
-returns-in_default c = λ n f g e h. let r = c.in_default.in_default-own.rest in rw (ne_eqb _ _ r.0.0.1, ne_eqb _ _ r.0.1, ne_eqb _ _ r.1) (c.at_most.ensures n f g e h)
+returns-in_default c =
+    let k = c.args.kind in
+    let a : eqb k 9 ≡ false = ne_eqb k 9 (λ e. omega arith) in
+    let b : eqb k 10 ≡ false = ne_eqb k 10 (λ e. omega arith) in
+    let d : eqb k 11 ≡ false = ne_eqb k 11 (λ e. omega arith) in
+    λ n f g e h. rw (a, b, d) (c.at_most.ensures n f g e h)

@@ -12,17 +12,17 @@ use Rattle.trials.proofs.report.put_verdict.Goals as goal
 
 pub put_broken-requires : goal.put_broken-requires
 put_broken-requires c =
-    (c.requires.0, subst Shows c.in-Broken.is c.requires.1, c.requires.2)
+    (c.requires.0, subst Shows c.in-Err.is c.requires.1, c.requires.2)
 
-pub returns-in-Holds : goal.returns-in-Holds
-returns-in-Holds c = λ l h e.
+pub returns-in-Ok : goal.returns-in-Ok
+returns-in-Ok c = λ l h e.
     let a = c.args in
-    e ∙ front_holds l h ∙ ap (λ x. padded front_words (l ++ verdict_words (verdict_in (words a.scratch.now) x))) (sym c.in-Holds.is)
+    e ∙ front_holds l h ∙ ap (λ x. padded front_words (l ++ verdict_words (verdict_in (words a.scratch.now) x))) (sym c.in-Ok.is)
 
-pub returns-in-Broken : goal.returns-in-Broken
-returns-in-Broken c = λ l h e.
+pub returns-in-Err : goal.returns-in-Err
+returns-in-Err c = λ l h e.
     let a = c.args in
     let q = c.put_broken in
     let w = words a.scratch.now in
-    q.ensures ∙ front_broken w (words a.front.now) l c.in-Broken.n c.in-Broken.k e h (subst Shows c.in-Broken.is c.requires.1) (omega (arith, length_words a.scratch.now, c.requires.2))
-    ∙ ap (λ x. padded front_words (l ++ verdict_words (verdict_in w x))) (sym c.in-Broken.is)
+    q.ensures ∙ front_broken w (words a.front.now) l c.in-Err.b e h (subst Shows c.in-Err.is c.requires.1) (omega (arith, length_words a.scratch.now, c.requires.2))
+    ∙ ap (λ x. padded front_words (l ++ verdict_words (verdict_in w x))) (sym c.in-Err.is)
