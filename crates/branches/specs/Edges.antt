@@ -1,5 +1,5 @@
 -- The edge from a root to a child, and the variables to keep.
-use Rattle.std.specs.Prelude.{◌≡◌, Bool, true, false, not, ◌&&◌, List, [], ◌∷◌, ◌++◌, ℕ, ◌+◌, ◌<◌, ◌≤◌, length, get_or, take, drop, eqb}
+use Rattle.std.specs.Prelude.{◌≡◌, Bool, true, false, not, ◌&&◌, Option, Some, None, List, [], ◌∷◌, ◌++◌, ℕ, ◌+◌, ◌<◌, ◌≤◌, length, get_or, take, drop, eqb}
 use Rattle.ir.specs.declared.atom.Atom.{Atom}
 use Rattle.ir.specs.declared.atom.Atom.TheVariants.{Equal}
 use Rattle.rules.specs.Base.{filter}
@@ -25,13 +25,16 @@ splits root t l = eqb (length (edges_of root t l)) 1 && not (mentions (root ∷ 
 abbrev pub any_atom : Atom
 any_atom = Equal 0 0
 
--- atom e is the one edge, and nothing else mentions the root; or `count`
-pub record EdgeIs (l : List Atom) (root t count e : ℕ) : Type 0 where
-  pub within : e ≤ count
-  pub none : e ≡ count → splits root t l ≡ false
-  pub one : e < count → splits root t l ≡ true
-  pub edge : e < count → edges_of root t l ≡ get_or l e any_atom ∷ []
-  pub inner : e < count → inner_of root t l ≡ take e l ++ drop (e + 1) l
+-- atom e is the one edge, and nothing else mentions the root
+pub record OneEdge (l : List Atom) (root t e : ℕ) : Type 0 where
+  pub within : e < length l
+  pub one : splits root t l ≡ true
+  pub edge : edges_of root t l ≡ get_or l e any_atom ∷ []
+  pub inner : inner_of root t l ≡ take e l ++ drop (e + 1) l
+
+abbrev pub EdgeIs : List Atom → ℕ → ℕ → Option ℕ → Type 0
+EdgeIs l root t (Some e) = OneEdge l root t e
+EdgeIs l root t None = splits root t l ≡ false
 
 -- atom e in front of the others
 abbrev pub fronted : List Atom → ℕ → List Atom

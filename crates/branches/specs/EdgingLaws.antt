@@ -1,12 +1,13 @@
 -- The one edge from a root to a child, atom by atom. Assumes nothing.
-use Rattle.std.specs.Prelude.{Bool, true, false, not, ◌&&◌, ◌||◌, ◌≡◌, refl, List, [], ◌∷◌, ◌++◌, ℕ, ◌+◌, ◌≤◌, ◌<◌, length, get_or, take, drop, eqb}
+use Rattle.std.specs.Prelude.{Bool, true, false, not, ◌&&◌, ◌||◌, ◌≡◌, refl, Option, Some, None, is_some, List, [], ◌∷◌, ◌++◌, ℕ, ◌+◌, ◌≤◌, ◌<◌, length, get_or, take, drop, eqb}
 use Rattle.std.proofs.Math.Bool.{and-false, or-true, or_assoc}
 use Rattle.std.proofs.Common.{sym, ap, ap₂, ◌∙◌, append-nil, append_assoc, arith, add-one, ne_eqb, take-append-drop, drop_of_length-le, length-take-le, take_all, take-suc, drop-cons}
+use Rattle.std.proofs.lemmas.Bool.{false≢true}
 use Rattle.std.proofs.lemmas.List.{drop-append-le}
 use Rattle.ir.specs.declared.atom.Atom.{Atom}
 use Rattle.rules.specs.Base.{any, contains, kept, filter}
 use Rattle.rules.specs.Branches.{is_edge, tree_vars, mentions}
-use Rattle.branches.specs.Edges.{any_atom, edges_of, inner_of, splits, EdgeIs}
+use Rattle.branches.specs.Edges.{any_atom, edges_of, inner_of, EdgeIs}
 
 -- ---- tests over two lists
 kept_append : (a : Atom) (l m : List Atom) (b : Bool) → kept a (l ++ m) b ≡ kept a l b ++ m
@@ -30,36 +31,25 @@ mentions_append : (v : List ℕ) (l m : List Atom) → mentions v (l ++ m) ≡ (
 mentions_append v [] m = refl
 mentions_append v (a ∷ l) m = ap (λ (b : Bool). any (contains v) (tree_vars a) || b) (mentions_append v l m) ∙ sym (or_assoc (any (contains v) (tree_vars a)) (mentions v l) (mentions v m))
 
--- ---- before atom i: e is the one edge, or `count`
-pub record Edging (l : List Atom) (root t count e i : ℕ) : Type 0 where
-  pub here : i ≤ count
-  pub within : e ≤ count
+-- ---- before atom i: e is the one edge, or there is none
+abbrev pub EdgeSoFar : List Atom → ℕ → ℕ → ℕ → Option ℕ → Type 0
+EdgeSoFar l root t i None = (edges_of root t (take i l) ≡ []) × (inner_of root t (take i l) ≡ take i l)
+EdgeSoFar l root t i (Some e) = (e < i) × (edges_of root t (take i l) ≡ get_or l e any_atom ∷ []) × (inner_of root t (take i l) ≡ take e l ++ drop (e + 1) (take i l))
+
+pub record Edging (l : List Atom) (root t : ℕ) (e : Option ℕ) (i : ℕ) : Type 0 where
+  pub here : i ≤ length l
   pub quiet : mentions (root ∷ []) (inner_of root t (take i l)) ≡ false
-  pub none : e ≡ count → (edges_of root t (take i l) ≡ []) × (inner_of root t (take i l) ≡ take i l)
-  pub early : e < count → e < i
-  pub edge : e < count → edges_of root t (take i l) ≡ get_or l e any_atom ∷ []
-  pub inner : e < count → inner_of root t (take i l) ≡ take e l ++ drop (e + 1) (take i l)
+  pub edge : EdgeSoFar l root t i e
 
-pub edging_start : (l : List Atom) (root t count : ℕ) → Edging l root t count count 0
+pub edging_start : (l : List Atom) (root t : ℕ) → Edging l root t None 0
 unfolding filter
-edging_start l root t count = record {
-  here = omega arith;
-  within = omega arith;
-  quiet = refl;
-  none = λ h. (refl, refl);
-  early = λ h. absurd (omega arith);
-  edge = λ h. absurd (omega arith);
-  inner = λ h. absurd (omega arith);
-}
+edging_start l root t = record { here = omega arith; quiet = refl; edge = (refl, refl) }
 
-no_split : (l : List Atom) (root t count : ℕ) → splits root t l ≡ false → EdgeIs l root t count count
-no_split l root t count s = record { within = omega arith; none = λ h. s; one = λ h. absurd (omega arith); edge = λ h. absurd (omega arith); inner = λ h. absurd (omega arith) }
-
-module _ (l : List Atom) (root t count e i : ℕ) (E : Edging l root t count e i) (long : count ≡ length l) where
+module _ (l : List Atom) (root t i : ℕ) where
   abbrev inn : Atom → Bool
   inn a = not (is_edge root t a)
 
-  module _ (h : i < count) where
+  module _ (h : i < length l) where
     abbrev a : Atom
     a = get_or l i any_atom
 
@@ -87,25 +77,26 @@ module _ (l : List Atom) (root t count e i : ℕ) (E : Edging l root t count e i
       inner_now : inner_of root t (take (i + 1) l) ≡ inner_of root t (take i l)
       inner_now = filter_more inn false (ap not f) ∙ append-nil (inner_of root t (take i l))
 
-      pub edging_found : count ≤ e → Edging l root t count i (i + 1)
-      edging_found n =
-          let k : e ≡ count = omega (arith, E.within) in
+      pub edging_found : (e : Option ℕ) → is_some e ≡ false → Edging l root t e i → Edging l root t (Some i) (i + 1)
+      edging_found (Some e) n E = absurd (false≢true (sym n))
+      edging_found None n E =
           let z : drop (i + 1) (take (i + 1) l) ≡ [] = drop_of_length-le (take (i + 1) l) {i = i + 1} (omega (arith, length-take-le (i + 1) l (omega arith))) in
           record {
             here = omega arith;
-            within = omega arith;
             quiet = ap (mentions (root ∷ [])) inner_now ∙ E.quiet;
-            none = λ q. absurd (omega arith);
-            early = λ q. omega arith;
-            edge = λ q. edges_now ∙ ap (λ (x : List Atom). x ++ (a ∷ [])) (E.none k).0;
-            inner = λ q. inner_now ∙ (E.none k).1 ∙ sym (append-nil (take i l)) ∙ ap (λ (x : List Atom). take i l ++ x) (sym z);
+            edge = (
+              omega arith,
+              edges_now ∙ ap (λ (x : List Atom). x ++ (a ∷ [])) E.edge.0,
+              inner_now ∙ E.edge.1 ∙ sym (append-nil (take i l)) ∙ ap (λ (x : List Atom). take i l ++ x) (sym z),
+            );
           }
 
-      pub edging_second : e < count → EdgeIs l root t count count
-      edging_second n =
-          let q : edges_of root t l ≡ get_or l e any_atom ∷ a ∷ edges_of root t (drop (i + 1) l) = filter_all (is_edge root t) true f ∙ ap (λ (x : List Atom). x ++ (a ∷ edges_of root t (drop (i + 1) l))) (E.edge n) in
+      pub edging_second : (e : Option ℕ) → is_some e ≡ true → Edging l root t e i → EdgeIs l root t None
+      edging_second (Some e) n E =
+          let q : edges_of root t l ≡ get_or l e any_atom ∷ a ∷ edges_of root t (drop (i + 1) l) = filter_all (is_edge root t) true f ∙ ap (λ (x : List Atom). x ++ (a ∷ edges_of root t (drop (i + 1) l))) E.edge.1 in
           let s : eqb (length (edges_of root t l)) 1 ≡ false = ne_eqb (length (edges_of root t l)) 1 (λ (z : length (edges_of root t l) ≡ 1). omega (arith, ap length q, z)) in
-          no_split l root t count (ap (λ (b : Bool). b && not (mentions (root ∷ []) (inner_of root t l))) s)
+          ap (λ (b : Bool). b && not (mentions (root ∷ []) (inner_of root t l))) s
+      edging_second None n E = absurd (false≢true n)
 
     module _ (f : is_edge root t a ≡ false) where
       edges_same : edges_of root t (take (i + 1) l) ≡ edges_of root t (take i l)
@@ -114,41 +105,45 @@ module _ (l : List Atom) (root t count e i : ℕ) (E : Edging l root t count e i
       inner_more : inner_of root t (take (i + 1) l) ≡ inner_of root t (take i l) ++ (a ∷ [])
       inner_more = filter_more inn true (ap not f)
 
-      pub edging_on : any (contains (root ∷ [])) (tree_vars a) ≡ false → Edging l root t count e (i + 1)
-      edging_on g =
+      so_far : (e : Option ℕ) → EdgeSoFar l root t i e → EdgeSoFar l root t (i + 1) e
+      so_far None E = (edges_same ∙ E.0, inner_more ∙ ap (λ (x : List Atom). x ++ (a ∷ [])) E.1 ∙ sym more)
+      so_far (Some e) E = (
+        omega (arith, E.0),
+        edges_same ∙ E.1,
+        inner_more ∙ ap (λ (x : List Atom). x ++ (a ∷ [])) E.2 ∙ append_assoc (take e l) (drop (e + 1) (take i l)) (a ∷ [])
+            ∙ ap (λ (x : List Atom). take e l ++ x) (sym (drop-append-le (e + 1) (take i l) (a ∷ []) (omega (arith, many, E.0))) ∙ ap (drop (e + 1)) (sym more)),
+      )
+
+      pub edging_on : (e : Option ℕ) → any (contains (root ∷ [])) (tree_vars a) ≡ false → Edging l root t e i → Edging l root t e (i + 1)
+      edging_on e g E =
           let m : mentions (root ∷ []) (a ∷ []) ≡ false = ap (λ (b : Bool). b || false) g in
           record {
             here = omega arith;
-            within = E.within;
             quiet = ap (mentions (root ∷ [])) inner_more ∙ mentions_append (root ∷ []) (inner_of root t (take i l)) (a ∷ []) ∙ ap₂ (λ (b c : Bool). b || c) E.quiet m;
-            none = λ q. (edges_same ∙ (E.none q).0, inner_more ∙ ap (λ (x : List Atom). x ++ (a ∷ [])) (E.none q).1 ∙ sym more);
-            early = λ q. omega (arith, E.early q);
-            edge = λ q. edges_same ∙ E.edge q;
-            inner = λ q.
-                inner_more ∙ ap (λ (x : List Atom). x ++ (a ∷ [])) (E.inner q) ∙ append_assoc (take e l) (drop (e + 1) (take i l)) (a ∷ [])
-                ∙ ap (λ (x : List Atom). take e l ++ x) (sym (drop-append-le (e + 1) (take i l) (a ∷ []) (omega (arith, many, E.early q))) ∙ ap (drop (e + 1)) (sym more));
+            edge = so_far e E.edge;
           }
 
-      pub edging_rooted : any (contains (root ∷ [])) (tree_vars a) ≡ true → EdgeIs l root t count count
+      pub edging_rooted : any (contains (root ∷ [])) (tree_vars a) ≡ true → EdgeIs l root t None
       edging_rooted g =
           let xs = inner_of root t (take i l) in
           let ys = inner_of root t (drop (i + 1) l) in
           let m : mentions (root ∷ []) (a ∷ ys) ≡ true = ap (λ (b : Bool). b || mentions (root ∷ []) ys) g in
           let s : mentions (root ∷ []) (inner_of root t l) ≡ true =
           ap (mentions (root ∷ [])) (filter_all inn true (ap not f)) ∙ mentions_append (root ∷ []) xs (a ∷ ys) ∙ ap (λ (b : Bool). mentions (root ∷ []) xs || b) m ∙ or-true (mentions (root ∷ []) xs) in
-          no_split l root t count (ap (λ (b : Bool). eqb (length (edges_of root t l)) 1 && not b) s ∙ and-false (eqb (length (edges_of root t l)) 1))
+          ap (λ (b : Bool). eqb (length (edges_of root t l)) 1 && not b) s ∙ and-false (eqb (length (edges_of root t l)) 1)
 
-  module _ (h : count ≤ i) where
+  module _ (h : length l ≤ i) where
     all : take i l ≡ l
     all = take_all i l (omega arith)
 
-    pub edging_end : EdgeIs l root t count e
-    edging_end =
+    pub edging_end : (e : Option ℕ) → Edging l root t e i → EdgeIs l root t e
+    edging_end None E = ap (λ (x : List Atom). eqb (length x) 1 && not (mentions (root ∷ []) (inner_of root t l))) (ap (edges_of root t) (sym all) ∙ E.edge.0)
+    edging_end (Some e) E =
         let n : mentions (root ∷ []) (inner_of root t l) ≡ false = ap (λ (x : List Atom). mentions (root ∷ []) (inner_of root t x)) (sym all) ∙ E.quiet in
+        let k : edges_of root t l ≡ get_or l e any_atom ∷ [] = ap (edges_of root t) (sym all) ∙ E.edge.1 in
         record {
-          within = E.within;
-          none = λ q. ap (λ (x : List Atom). eqb (length x) 1 && not (mentions (root ∷ []) (inner_of root t l))) (ap (edges_of root t) (sym all) ∙ (E.none q).0);
-          one = λ q. ap₂ (λ (x : List Atom) (b : Bool). eqb (length x) 1 && not b) (ap (edges_of root t) (sym all) ∙ E.edge q) n;
-          edge = λ q. ap (edges_of root t) (sym all) ∙ E.edge q;
-          inner = λ q. ap (inner_of root t) (sym all) ∙ E.inner q ∙ ap (λ (x : List Atom). take e l ++ drop (e + 1) x) all;
+          within = omega (arith, E.edge.0, E.here);
+          one = ap₂ (λ (x : List Atom) (b : Bool). eqb (length x) 1 && not b) k n;
+          edge = k;
+          inner = ap (inner_of root t) (sym all) ∙ E.edge.2 ∙ ap (λ (x : List Atom). take e l ++ drop (e + 1) x) all;
         }

@@ -1,8 +1,8 @@
 -- The filter before the search: where its word is not set no named branch is equal. Assumes nothing.
-use Rattle.std.specs.Prelude.{Bool, true, false, ◌≡◌, List, [], ◌∷◌, map, ℕ, ◌+◌, ◌*◌, ◌%◌, ◌≤◌, ◌<◌, eqb, length, get_or, set, drop}
+use Rattle.std.specs.Prelude.{Bool, true, false, ◌≡◌, None, List, [], ◌∷◌, map, ℕ, ◌+◌, ◌*◌, ◌%◌, ◌≤◌, ◌<◌, eqb, length, get_or, set, drop}
 use Rattle.std.proofs.Math.Path.{refl}
 use Rattle.std.proofs.Common.{sym, ap, subst, ◌∙◌, arith, eqb-true, get_or-set_same, get_or-set_other}
-use Rattle.std.proofs.Math.Option.{Option, none}
+use Rattle.std.proofs.Math.Option.{Option as RuleOption, none}
 use Rattle.std.proofs.lemmas.Bool.{eqb-false}
 use Rattle.std.proofs.lemmas.List.{length-map}
 use Rattle.ir.specs.declared.atom.Atom.{Atom}
@@ -72,7 +72,7 @@ hash_held r w count h body D e =
     let n : count ≡ length (map packed body) = omega (arith, D.long, length-map body packed) in
     e ∙ ap hash_of (ap (λ (j : ℕ). run w r j) n ∙ D.words)
 
-pub found_unmarked : (r : ℕ) (w : List ℕ) (s : Naming) (count h x : ℕ) → h ≡ hash_of (run w r count) → x ≡ get_or w (filter_at + h) 0 → x ≡ 0 → (body : List Atom) (z : Rules.Naming) → BodyHeld r w count body → NamedHeld w s z → Found s (memo_of z.named body) s.named
+pub found_unmarked : (r : ℕ) (w : List ℕ) (s : Naming) (count h x : ℕ) → h ≡ hash_of (run w r count) → x ≡ get_or w (filter_at + h) 0 → x ≡ 0 → (body : List Atom) (z : Rules.Naming) → BodyHeld r w count body → NamedHeld w s z → Found s (memo_of z.named body) None
 found_unmarked r w s count h x eh ex e body z D H =
     let g : get_or w (filter_at + hash_of (map packed body)) 0 ≡ 0 = ap (λ (i : ℕ). get_or w (filter_at + i) 0) (sym (hash_held r w count h body D eh)) ∙ sym ex ∙ e in
-    subst (λ (o : Option ℕ). Found s o s.named) (sym (unmarked w z.named body H.marks g)) refl
+    subst (λ (o : RuleOption ℕ). Found s o None) (sym (unmarked w z.named body H.marks g)) tt

@@ -1,6 +1,6 @@
 -- A renumbered body among the named branches.
-use Rattle.std.specs.Prelude.{◌≡◌, List, map, ℕ, ◌+◌, ◌<◌, ◌≤◌, length, drop}
-use Rattle.std.proofs.Math.Option.{Option, none, some}
+use Rattle.std.specs.Prelude.{◌≡◌, Option, Some, None, List, map, ℕ, ◌+◌, ◌<◌, ◌≤◌, length, drop}
+use Rattle.std.proofs.Math.Option.{Option as RuleOption, none, some}
 use Rattle.ir.specs.declared.atom.Atom.{Atom}
 use Rattle.rules.specs.Invariants.{Each}
 use Rattle.rules.specs.Branches.{memo_of}
@@ -15,10 +15,12 @@ pub record BodyHeld (r : ℕ) (w : List ℕ) (count : ℕ) (body : List Atom) : 
   pub packable : Each Packable body
   pub words : At w r (map packed body)
 
--- the code's answer beside the rule's: the place of the branch, or how many are named
-abbrev pub Found : Naming → Option ℕ → ℕ → Type 0
-Found s (some e) i = (i < s.named) × (e ≡ s.first + i)
-Found s none i = i ≡ s.named
+-- the code's answer, the place of the branch, beside the rule's, its name
+abbrev pub Found : Naming → RuleOption ℕ → Option ℕ → Type 0
+Found s (some e) (Some i) = (i < s.named) × (e ≡ s.first + i)
+Found s (some e) None = ⊥
+Found s none (Some i) = ⊥
+Found s none None = Unit {0}
 
 -- before branch i, whose words begin at p: it is none of those before
 pub record Searching (r : ℕ) (w : List ℕ) (s : Naming) (count p i : ℕ) : Type 0 where

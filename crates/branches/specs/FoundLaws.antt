@@ -1,8 +1,8 @@
 -- The search for a body among the named branches. Assumes nothing.
-use Rattle.std.specs.Prelude.{Bool, true, false, ◌≡◌, List, [], ◌∷◌, ◌++◌, map, ℕ, zero, suc, ◌+◌, ◌≤◌, ◌<◌, length, get_or, drop}
+use Rattle.std.specs.Prelude.{Bool, true, false, ◌≡◌, Some, None, List, [], ◌∷◌, ◌++◌, map, ℕ, ◌+◌, ◌≤◌, ◌<◌, length, get_or, drop}
 use Rattle.std.proofs.Math.Path.{refl, ap}
 use Rattle.std.proofs.Common.{sym, subst, ◌∙◌, arith, add-one, length-append, drop_of_length-le, drop-cons}
-use Rattle.std.proofs.Math.Option.{Option, none, some}
+use Rattle.std.proofs.Math.Option.{Option as RuleOption, none, some}
 use Rattle.std.proofs.lemmas.List.{length-map}
 use Rattle.ir.specs.Pick.{pick}
 use Rattle.ir.specs.Records.{same_words}
@@ -76,14 +76,14 @@ module _ (r : ℕ) (w : List ℕ) (s : Naming) (count p i : ℕ) (S : Searching 
         let b = branch_at z H h in
         C (map packed b.branch.body) (map packed body) (omega (arith, b.size, length-map b.branch.body packed)) (omega (arith, D.long, length-map body packed)) b.words D.words
 
-    pub searching_found : t ≡ true → (body : List Atom) (z : Rules.Naming) → BodyHeld r w count body → NamedHeld w s z → Found s (memo_of z.named body) i
+    pub searching_found : t ≡ true → (body : List Atom) (z : Rules.Naming) → BodyHeld r w count body → NamedHeld w s z → Found s (memo_of z.named body) (Some i)
     searching_found e body z D H =
         let b = branch_at z H h in
         let k = b.branch in
         let g : map packed k.body ≡ map packed body = same_words_lem (map packed k.body) (map packed body) (sym (compared body z D H) ∙ e) in
         let q : memo_of z.named body ≡ some k.name =
         S.left body z D H ∙ ap (λ (l : List Branch). memo_of l body) b.split ∙ memo_cons k (drop (i + 1) z.named) body true (same_packed k.body body b.packable D.packable g) in
-        subst (λ (o : Option ℕ). Found s o i) (sym q) (h, b.name)
+        subst (λ (o : RuleOption ℕ). Found s o (Some i)) (sym q) (h, b.name)
 
     pub searching_on : t ≡ false → Searching r w s count (p + (1 + n)) (i + 1)
     searching_on e = record {
@@ -101,10 +101,7 @@ module _ (r : ℕ) (w : List ℕ) (s : Naming) (count p i : ℕ) (S : Searching 
             let z : ◌≡◌ {A = ℕ} 1 0 = ap (λ (x : Bool). pick x 1 0) (sym (same_words_refl (map packed m)) ∙ g) in
             omega arith
 
-  pub searching_end : s.named ≤ i → (body : List Atom) (z : Rules.Naming) → BodyHeld r w count body → NamedHeld w s z → Found s (memo_of z.named body) s.named
+  pub searching_end : s.named ≤ i → (body : List Atom) (z : Rules.Naming) → BodyHeld r w count body → NamedHeld w s z → Found s (memo_of z.named body) None
   searching_end h body z D H =
       let e : drop i z.named ≡ [] = drop_of_length-le z.named {i = i} (omega (arith, H.many)) in
-      subst (λ (o : Option ℕ). Found s o s.named) (sym (S.left body z D H ∙ memo_nil (drop i z.named) body e)) refl
-
-pub searching_start : (r : ℕ) (w : List ℕ) (s : Naming) (count : ℕ) → Searching r w s count 0 0
-searching_start r w s count = record { here = omega arith; words = λ z H. H.words; room = λ z H. omega (arith, H.used); left = λ body z D H. refl }
+      subst (λ (o : RuleOption ℕ). Found s o None) (sym (S.left body z D H ∙ memo_nil (drop i z.named) body e)) tt

@@ -1,5 +1,5 @@
 -- One atom to the front of the others, and back. Assumes nothing.
-use Rattle.std.specs.Prelude.{◌≡◌, ℕ, ◌+◌, ◌*◌, ◌-◌, ◌≤◌, ◌<◌, length, get_or, take, drop}
+use Rattle.std.specs.Prelude.{◌≡◌, ℕ, ◌+◌, ◌*◌, ◌≤◌, ◌<◌, length, get_or, take, drop}
 use Rattle.std.proofs.Common.{sym, subst, ◌∙◌, arith, add-one, length-append, length-drop, length-take-le}
 use Rattle.std.proofs.Math.Path.{ap}
 use mathlib.Core.List.{List, [], ◌∷◌, ◌++◌}
@@ -15,7 +15,7 @@ use Rattle.branches.specs.Wide.{AtomsAre}
 use Rattle.branches.specs.Grouped.{OnlyRecords}
 use Rattle.branches.specs.Sorting.{moved, inserted}
 use Rattle.branches.specs.Edges.{any_atom, fronted}
-use Rattle.branches.specs.InsertLaws.{at_join, at_here, at_below, at_above, moves, moved_before, moved_after, inserted_by, inserted_atoms, inserted_only}
+use Rattle.branches.specs.InsertLaws.{at_join, at_here, at_below, at_above, moves, moved_before, moved_after, inserted_atoms, inserted_only}
 
 -- ---- atom e
 module _ (l : List Atom) (e : ℕ) (h : e < length l) where
@@ -29,12 +29,8 @@ module _ (l : List Atom) (e : ℕ) (h : e < length l) where
   after_long = omega (arith, length-drop (e + 1) l)
 
 -- ---- to the front
-module _ (w w1 w2 w3 : List ℕ) (base count e : ℕ) (a : w1 ≡ moved w (6 * (base + e)) (6 * copy_at) 6) (b : w2 ≡ moved w1 (6 * base) (6 * (base + 1)) (6 * e))
-    (c : w3 ≡ moved w2 (6 * copy_at) (6 * base) 6) (h : e < count) (room : base + count ≤ copy_at) where
-  is_inserted : w3 ≡ inserted w base (base + e)
-  is_inserted = let z : e ≡ base + e - base = omega arith in inserted_by w w1 w2 w3 base (base + e) a (b ∙ ap (λ (k : ℕ). moved w1 (6 * base) (6 * (base + 1)) (6 * k)) z) c
-
-  pub front_atoms : work_words ≤ length w → (l : List Atom) → AtomsAre w base count l → AtomsAre w3 base count (fronted l e)
+module _ (w w' : List ℕ) (base count e : ℕ) (i : w' ≡ inserted w base (base + e)) (h : e < count) (room : base + count ≤ copy_at) where
+  pub front_atoms : work_words ≤ length w → (l : List Atom) → AtomsAre w base count l → AtomsAre w' base count (fronted l e)
   front_atoms long l A =
       let k : e < length l = omega (arith, A.long) in
       let n = before_long l e k in
@@ -42,10 +38,10 @@ module _ (w w1 w2 w3 : List ℕ) (base count e : ℕ) (a : w1 ≡ moved w (6 * (
       let t : At w (6 * base) (flat (take e l ++ (get_or l e any_atom ∷ drop (e + 1) l))) = rw (← apart l e k) A.there in
       let f : At (inserted w base (base + e)) (6 * base) (flat (fronted l e)) =
       inserted_atoms w base base (base + e) [] (take e l) (get_or l e any_atom) (drop (e + 1) l) (omega arith) (omega arith) (omega (arith, A.long)) long t in
-      record { long = omega (arith, A.long, length-append (take e l) (drop (e + 1) l)); there = rw is_inserted f }
+      record { long = omega (arith, A.long, length-append (take e l) (drop (e + 1) l)); there = rw i f }
 
-  pub front_only : OnlyRecords base count w w3
-  front_only = rw is_inserted (inserted_only w base count base (base + e) (omega arith) (omega arith) (omega arith) room)
+  pub front_only : OnlyRecords base count w w'
+  front_only = rw i (inserted_only w base count base (base + e) (omega arith) (omega arith) (omega arith) room)
 
 -- ---- the atoms a, ys and zs become ys, a and zs
 module _ (w : List ℕ) (base e : ℕ) (ys zs : List Atom) (a : Atom) (ee : e ≡ length ys) (room : base + e + 1 + length zs ≤ copy_at) (long : work_words ≤ length w)

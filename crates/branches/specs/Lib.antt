@@ -7,6 +7,8 @@ pub mod Layout
 pub mod Trees
 pub mod FilterLaws
 pub mod Found
+pub mod Places
+pub mod PlaceLaws
 pub mod FoundLaws
 pub mod Grouped
 pub mod Memo

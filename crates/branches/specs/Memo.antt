@@ -1,20 +1,20 @@
 -- Named branches in the words of scratch, one word an atom.
-use Rattle.std.specs.Prelude.{◌≡◌, List, [], ◌∷◌, ◌++◌, map, ℕ, ◌+◌, ◌*◌, ◌<◌, ◌≤◌, length, get_or}
+use Rattle.std.specs.Prelude.{◌≡◌, Result, Ok, Err, List, [], ◌∷◌, ◌++◌, map, ℕ, ◌+◌, ◌*◌, ◌<◌, ◌≤◌, length, get_or}
 use Rattle.std.proofs.Math.Option.{none}
 use Rattle.ir.specs.Roles.{role_code}
+use Rattle.ir.specs.declared.refusal.Refusal.{Refusal}
+use Rattle.ir.specs.declared.refusal.Refusal.TheVariants.{NoRoom}
 use Rattle.ir.specs.declared.atom.Atom.{Atom}
 use Rattle.ir.specs.declared.atom.Atom.TheVariants.{Class, Exists, AtMost, AtLeast, Equal, Role as RoleAtom}
-use Rattle.rules.specs.Base.{Res, ok, refused}
+use Rattle.rules.specs.Base.{ok}
 use Rattle.rules.specs.Invariants.{Each}
 use Rattle.rules.specs.Branches.{Branch, memo_of, name_of}
 use Rattle.rules.specs.Branches as Rules
-use Rattle.branches.specs.Layout.{most_named, filter_at, named_end, body_at, met_at, keep_at, renumbered_at}
+use Rattle.branches.specs.Layout.{most_named, filter_at, named_end, met_at, keep_at, renumbered_at}
 use Rattle.tables.specs.TabledLaws.{At}
 use Rattle.branches.specs.Wide.{AtomsAre}
 use Rattle.branches.specs.Hash.{hash_of}
 use Rattle.branches.specs.declared.memo.Naming.{Naming}
-use Rattle.branches.specs.declared.memo.Name.{Name}
-use Rattle.branches.specs.declared.memo.Name.TheVariants as Names
 
 -- ---- an atom in a word
 abbrev pub packed : Atom → ℕ
@@ -82,9 +82,9 @@ pub record Named (w : List ℕ) (body : List Atom) (z : Rules.Naming) (s : Namin
   pub is : name_of body z ≡ ok e state
   pub held : NamedHeld w s state
 
-abbrev pub NamedBy : List ℕ → List Atom → Rules.Naming → Name → Type 0
-NamedBy w body z (Names.Named s e) = Named w body z s e
-NamedBy w body z (Names.Refused x) = (x ≡ 12) × (memo_of z.named body ≡ none) × (most_named < length (named_words z.named) + 1 + length body)
+abbrev pub NamedBy : List ℕ → List Atom → Rules.Naming → Result (Naming × ℕ) Refusal → Type 0
+NamedBy w body z (Ok r) = Named w body z r.0 r.1
+NamedBy w body z (Err e) = (e ≡ NoRoom) × (memo_of z.named body ≡ none) × (most_named < length (named_words z.named) + 1 + length body)
 
 -- the bodies under work, the tree and the variables to keep are as they were
 pub record OnlyMemo (w w' : List ℕ) : Type 0 where

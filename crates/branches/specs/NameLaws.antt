@@ -1,7 +1,7 @@
 -- The name of a renumbered body. Assumes nothing.
-use Rattle.std.specs.Prelude.{Bool, true, false, ◌≡◌, refl, List, [], ◌∷◌, ◌++◌, map, ℕ, ◌+◌, ◌*◌, ◌-◌, ◌≤◌, ◌<◌, length, get_or, take, drop}
+use Rattle.std.specs.Prelude.{Bool, true, false, ◌≡◌, refl, Some, None, List, [], ◌∷◌, ◌++◌, map, ℕ, ◌+◌, ◌*◌, ◌-◌, ◌≤◌, ◌<◌, length, get_or, take, drop}
 use Rattle.std.proofs.Common.{sym, ap, subst, ◌∙◌, arith, length-append, get_or-take, get_or-drop}
-use Rattle.std.proofs.Math.Option.{Option, none, some}
+use Rattle.std.proofs.Math.Option.{Option as RuleOption, none, some}
 use Rattle.ir.specs.Pick.{pick}
 use Rattle.ir.specs.Records.{six}
 use Rattle.ir.specs.RecordLaws.{six_inj}
@@ -92,17 +92,21 @@ pub there_kept : (m : ℕ) (w w' : List ℕ) (s : Naming) → take m w' ≡ take
 there_kept m w w' s e h T = record { state = T.state; held = named_kept m w w' s T.state e h T.held }
 
 -- ---- the answer
-found_some : (s : Naming) (i : ℕ) (body : List Atom) (z : Rules.Naming) (o : Option ℕ) → i < s.named → Found s o i → name_or_new body z o ≡ ok (s.first + i) z
-found_some s i body z (some e) h f = ap (λ (x : ℕ). ok x z) f.1
-found_some s i body z none h f = absurd (omega arith)
+found_some : (s : Naming) (i : ℕ) (body : List Atom) (z : Rules.Naming) (o : RuleOption ℕ) → Found s o (Some i) → name_or_new body z o ≡ ok (s.first + i) z
+found_some s i body z (some e) f = ap (λ (x : ℕ). ok x z) f.1
+found_some s i body z none f = absurd f
 
-pub named_old : (w : List ℕ) (s : Naming) (i : ℕ) (body : List Atom) (z : Rules.Naming) → i < s.named → Found s (memo_of z.named body) i → NamedHeld w s z → Named w body z s (s.first + i)
+pub named_old : (w : List ℕ) (s : Naming) (i : ℕ) (body : List Atom) (z : Rules.Naming) → Found s (memo_of z.named body) (Some i) → NamedHeld w s z → Named w body z s (s.first + i)
 unfolding name_of
-named_old w s i body z h f H = record { state = z; is = found_some s i body z (memo_of z.named body) h f; held = H }
+named_old w s i body z f H = record { state = z; is = found_some s i body z (memo_of z.named body) f; held = H }
 
-pub found_none : (s : Naming) (i : ℕ) (o : Option ℕ) → s.named ≤ i → Found s o i → o ≡ none
-found_none s i (some e) h f = absurd (let k = f.0 in omega arith)
-found_none s i none h f = refl
+pub found_below : (s : Naming) (i : ℕ) (o : RuleOption ℕ) → Found s o (Some i) → i < s.named
+found_below s i (some e) f = f.0
+found_below s i none f = absurd f
+
+pub found_none : (s : Naming) (o : RuleOption ℕ) → Found s o None → o ≡ none
+found_none s (some e) f = absurd f
+found_none s none f = refl
 
 -- ---- what is not written
 get_run : (k n : ℕ) (w : List ℕ) (j : ℕ) → k ≤ j → j < k + n → get_or (run w k n) (j - k) 0 ≡ get_or w j 0

@@ -1,6 +1,6 @@
 -- A body renumbered atom by atom. Assumes nothing.
 use Rattle.std.specs.Prelude.{◌≡◌, refl, List, [], ◌∷◌, ◌++◌, map, ℕ, zero, suc, ◌+◌, ◌*◌, ◌≤◌, ◌<◌, length, get_or, take, drop, set}
-use Rattle.std.proofs.Common.{sym, ap, subst, ◌∙◌, append-nil, arith, add-one, length-drop, length-set, drop_of_length-le, take-suc, take-take, drop-set-lt, drop-drop, get_or-drop, get_or-set_same}
+use Rattle.std.proofs.Common.{sym, ap, ◌∙◌, append-nil, arith, add-one, length-drop, length-set, drop_of_length-le, take-suc, take-take, drop-set-lt, drop-drop, get_or-drop, get_or-set_same}
 use Rattle.std.proofs.lemmas.List.{length-map, take-set-le}
 use Rattle.std.proofs.Math.Seq.{take-nil, append_snoc}
 use Rattle.ir.specs.Records.{words_of, atom_at}
@@ -8,12 +8,11 @@ use Rattle.ir.specs.RecordLaws.{read_six_lem}
 use Rattle.ir.specs.declared.role.Role.{Role}
 use Rattle.ir.specs.declared.atom.Atom.{Atom}
 use Rattle.ir.specs.declared.atom.Atom.TheVariants.{Class, Exists, AtMost, AtLeast, Equal, Role as RoleAtom}
-use Rattle.ir.specs.declared.record.Read.TheVariants.{NoAtom, Atom as ReadAtom}
+use Rattle.ir.specs.declared.record.Read.TheVariants.{Atom as ReadAtom}
 use Rattle.rules.specs.Run.{flat}
 use Rattle.rules.specs.DecodeLaws.{flat_long}
 use Rattle.rules.specs.Branches.{place_of, met_with, renumber, renumber_from}
 use Rattle.rules.proofs.BranchLaws.{renumber_length}
-use Rattle.rules.specs.Invariants.{Each}
 use Rattle.rules.specs.EachLaws.{each_drop}
 use Rattle.tables.specs.TabledLaws.{At, at_back, at_get}
 use Rattle.tables.specs.AtomLaws.{flat_drop}
@@ -21,7 +20,7 @@ use Rattle.branches.specs.AtomsLaws.{split_at}
 use Rattle.branches.specs.Wide.{AtomsAre}
 use Rattle.branches.specs.Memo.{packed, Tame, TameThere}
 use Rattle.branches.specs.Renumbered.{run, Met, Put, met_after, placed, TameAt, OnlyRenumbered, Renumbering}
-use Rattle.branches.specs.MetLaws.{place_met, place_kept, met_in_lem, run_set, run_more}
+use Rattle.branches.specs.MetLaws.{run_set, run_more}
 
 -- ---- words that stay
 drop_take : (j n : ℕ) (w : List ℕ) → drop j (take (j + n) w) ≡ take n (drop j w)
@@ -54,27 +53,21 @@ module _ (m k r : ℕ) (ek : k ≡ m + 513) (er : r ≡ k + 512) (w : List ℕ) 
         done = ap (λ (l : List ℕ). run l r i) e ∙ run_set w1 r i i x (omega arith) ∙ ap (take i) dr;
       }
 
-  pub put_class : (c v : ℕ) (w1 w2 : List ℕ) (n1 p x : ℕ) → Met m k w n v w1 n1 → p ≡ place_of (run w1 m n1) v → x ≡ packed (Class c p) → w2 ≡ set w1 (r + i) x → Put m k r w n i (Class c v) w2 n1
-  put_class c v w1 w2 n1 p x M e f g =
-      let q : p ≡ place_of (run w m n) v = e ∙ ap (λ (l : List ℕ). place_of l v) M.vars ∙ place_met (run w m n) v in
-      put_done (Class c v) w1 w2 n1 x M.vars (omega (arith, M.few)) M.long M.before M.behind g (f ∙ ap (λ (y : ℕ). packed (Class c y)) q)
+  pub put_class : (c v : ℕ) (w1 w2 : List ℕ) (n1 p x : ℕ) → Met m k w n v w1 n1 → p ≡ place_of (run w m n) v → x ≡ packed (Class c p) → w2 ≡ set w1 (r + i) x → Put m k r w n i (Class c v) w2 n1
+  put_class c v w1 w2 n1 p x M e f g = put_done (Class c v) w1 w2 n1 x M.vars (omega (arith, M.few)) M.long M.before M.behind g (f ∙ ap (λ (y : ℕ). packed (Class c y)) e)
 
-  pub put_role : (s : Role) (u v : ℕ) (w1 w2 w3 : List ℕ) (n1 n2 p q x : ℕ) → Met m k w n u w1 n1 → Met m k w1 n1 v w2 n2 → p ≡ place_of (run w2 m n2) u → q ≡ place_of (run w2 m n2) v
+  pub put_role : (s : Role) (u v : ℕ) (w1 w2 w3 : List ℕ) (n1 n2 p q x : ℕ) → Met m k w n u w1 n1 → Met m k w1 n1 v w2 n2 → p ≡ place_of (run w m n) u → q ≡ place_of (run w1 m n1) v
       → x ≡ packed (RoleAtom s p q) → w3 ≡ set w2 (r + i) x → Put m k r w n i (RoleAtom s u v) w3 n2
   put_role s u v w1 w2 w3 n1 n2 p q x M N ep eq f g =
       let met = run w m n in
       let vars : run w2 m n2 ≡ met_with (met_with met u) v = N.vars ∙ ap (λ (l : List ℕ). met_with l v) M.vars in
-      let pp : p ≡ place_of met u = ep ∙ ap (λ (l : List ℕ). place_of l u) vars ∙ place_kept (met_with met u) u v (met_in_lem met u) ∙ place_met met u in
-      let qq : q ≡ place_of (met_with met u) v = eq ∙ ap (λ (l : List ℕ). place_of l v) vars ∙ place_met (met_with met u) v in
+      let qq : q ≡ place_of (met_with met u) v = eq ∙ ap (λ (l : List ℕ). place_of l v) M.vars in
       put_done (RoleAtom s u v) w2 w3 n2 x vars (omega (arith, M.few, N.few)) (N.long ∙ M.long) (N.before ∙ M.before) (N.behind ∙ M.behind) g
-      (f ∙ ap (λ (y : ℕ). packed (RoleAtom s y q)) pp ∙ ap (λ (y : ℕ). packed (RoleAtom s (place_of met u) y)) qq)
+      (f ∙ ap (λ (y : ℕ). packed (RoleAtom s y q)) ep ∙ ap (λ (y : ℕ). packed (RoleAtom s (place_of met u) y)) qq)
 
 -- ---- the atom of a record
 pub read_same : (w : List ℕ) (at : ℕ) (a b : Atom) → atom_at w at ≡ ReadAtom a → atom_at w at ≡ ReadAtom b → a ≡ b
 read_same w at a b e f = let h : ReadAtom a ≡ ReadAtom b = sym e ∙ f in cc
-
-pub read_none : (w : List ℕ) (at : ℕ) (a : Atom) → atom_at w at ≡ NoAtom → atom_at w at ≡ ReadAtom a → ⊥
-read_none w at a e f = let h : NoAtom ≡ ReadAtom a = sym e ∙ f in let z : ◌≡◌ {A = ℕ} 0 1 = cc in omega arith
 
 atom_read : (w : List ℕ) (j : ℕ) (a : Atom) (l : List Atom) → At w (6 * j) (flat (a ∷ l)) → atom_at w j ≡ ReadAtom a
 unfolding flat

@@ -13,11 +13,6 @@ use Rattle.branches.specs.Memo.{packed, Tame}
 abbrev pub run : List ℕ → ℕ → ℕ → List ℕ
 run w m n = take n (drop m w)
 
--- a search for v among n words from m on, at i
-pub record Placing (m : ℕ) (w : List ℕ) (n v i : ℕ) : Type 0 where
-  pub here : i ≤ n
-  pub left : place_of (run w m n) v ≡ i + place_of (drop i (run w m n)) v
-
 -- one variable is met: nothing but the variables met is written
 pub record Met (m k : ℕ) (w : List ℕ) (n v : ℕ) (w' : List ℕ) (n' : ℕ) : Type 0 where
   pub vars : run w' m n' ≡ met_with (run w m n) v

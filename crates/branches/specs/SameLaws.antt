@@ -1,28 +1,21 @@
 -- Two runs of words, compared word by word. Assumes nothing.
-use Rattle.std.specs.Prelude.{Bool, true, false, ◌≡◌, refl, List, [], ◌∷◌, ℕ, ◌+◌, ◌≤◌, ◌<◌, length, get_or, drop}
+use Rattle.std.specs.Prelude.{Bool, true, false, ◌≡◌, refl, List, ◌∷◌, ℕ, ◌+◌, ◌≤◌, ◌<◌, length, get_or, drop}
 use Rattle.std.proofs.Common.{sym, ap, ◌∙◌, arith, eq-eqb, ne_eqb}
 use Rattle.ir.specs.Records.{same_words}
 use Rattle.ir.specs.RecordLaws.{same_words_lem}
-use Rattle.tables.specs.TabledLaws.{At}
 use Rattle.branches.specs.Renumbered.{run}
-use Rattle.branches.specs.MetLaws.{run_from, run_out}
+use Rattle.branches.specs.MetLaws.{run_from}
 
 -- n words from a on and from b on, before word i
 pub record Comparing (w : List ℕ) (a b n i : ℕ) : Type 0 where
   pub here : i ≤ n
   pub left : same_words (run w a n) (run w b n) ≡ same_words (drop i (run w a n)) (drop i (run w b n))
 
-pub comparing_start : (w : List ℕ) (a b n : ℕ) → Comparing w a b n 0
-comparing_start w a b n = record { here = omega arith; left = refl }
-
 equal : (l m s t : List ℕ) (x y : ℕ) → l ≡ x ∷ s → m ≡ y ∷ t → x ≡ y → same_words l m ≡ same_words s t
 equal l m s t x y e f h = rw (e, f, eq-eqb x y h) refl
 
 other : (l m s t : List ℕ) (x y : ℕ) → l ≡ x ∷ s → m ≡ y ∷ t → (x ≡ y → ⊥) → same_words l m ≡ false
 other l m s t x y e f h = rw (e, f, ne_eqb x y h) refl
-
-empty : (l m : List ℕ) → l ≡ [] → m ≡ [] → same_words l m ≡ true
-empty l m e f = rw (e, f) refl
 
 module _ (w : List ℕ) (a b n i : ℕ) (la : a + n ≤ length w) (lb : b + n ≤ length w) (C : Comparing w a b n i) where
   pub comparing_on : i < n → get_or w (a + i) 0 ≡ get_or w (b + i) 0 → Comparing w a b n (i + 1)
@@ -34,9 +27,6 @@ module _ (w : List ℕ) (a b n i : ℕ) (la : a + n ≤ length w) (lb : b + n �
   pub comparing_other : i < n → (get_or w (a + i) 0 ≡ get_or w (b + i) 0 → ⊥) → false ≡ same_words (run w a n) (run w b n)
   comparing_other h e = sym (C.left ∙ other (drop i (run w a n)) (drop i (run w b n)) (drop (i + 1) (run w a n)) (drop (i + 1) (run w b n)) (get_or w (a + i) 0) (get_or w (b + i) 0) (run_from w a n i la h) (run_from w b n i lb h) e)
 
-  pub comparing_end : n ≤ i → true ≡ same_words (run w a n) (run w b n)
-  comparing_end h = sym (C.left ∙ empty (drop i (run w a n)) (drop i (run w b n)) (run_out w a n i la h) (run_out w b n i lb h))
-
 -- ---- words that stand there
 unlike : (l m : List ℕ) → (length l ≡ length m → ⊥) → (b : Bool) → same_words l m ≡ b → false ≡ b
 unlike l m h true e = absurd (h (ap length (same_words_lem l m e)))
@@ -44,9 +34,3 @@ unlike l m h false e = refl
 
 pub same_short : (l m : List ℕ) (n k : ℕ) → n ≡ length l → k ≡ length m → (n ≡ k → ⊥) → false ≡ same_words l m
 same_short l m n k e f h = unlike l m (λ q. h (e ∙ q ∙ sym f)) (same_words l m) refl
-
-pub same_there : (w l m : List ℕ) (a b k : ℕ) (r : Bool) → k ≡ length l → k ≡ length m → At w a l → At w b m → r ≡ same_words (run w a k) (run w b k) → r ≡ same_words l m
-same_there w l m a b k r e f p q h =
-    let x : run w a k ≡ l = ap (λ (n : ℕ). run w a n) e ∙ p in
-    let y : run w b k ≡ m = ap (λ (n : ℕ). run w b n) f ∙ q in
-    h ∙ ap (λ (t : List ℕ). same_words t (run w b k)) x ∙ ap (λ (t : List ℕ). same_words l t) y

@@ -1,37 +1,17 @@
--- A search among the first of a list, one variable more, and how many they are in the end. Assumes nothing.
-use Rattle.std.specs.Prelude.{Bool, true, false, ◌||◌, ◌≡◌, refl, List, [], ◌∷◌, ◌++◌, ℕ, suc, ◌+◌, ◌≤◌, ◌<◌, length, get_or, take, drop, set, eqb}
-use Rattle.std.proofs.Common.{sym, ap, ◌∙◌, arith, add-one, eq-eqb, ne_eqb, length-append, drop_of_length-le, length-take-le, drop-cons, get_or-take, take-suc-set}
+-- The first of a list, and how many variables are seen in the end. Assumes nothing.
+use Rattle.std.specs.Prelude.{Bool, true, false, ◌||◌, ◌≡◌, refl, List, [], ◌∷◌, ◌++◌, ℕ, suc, ◌+◌, ◌≤◌, ◌<◌, length, get_or, take, drop, eqb}
+use Rattle.std.proofs.Common.{ap, ◌∙◌, arith, add-one, length-append, length-take-le, drop-cons, get_or-take}
 use Rattle.ir.specs.Pick.{pick}
 use Rattle.rules.specs.Base.{contains}
 use Rattle.rules.specs.Branches.{seen_var, distinct, met_with}
 use Rattle.branches.specs.Seen.{mets}
 
--- ---- a search among the first n, at i
+-- ---- the first n, from i on
 module _ (l : List ℕ) (n v i : ℕ) (long : n ≤ length l) where
   pub from : i < n → drop i (take n l) ≡ get_or l i 0 ∷ drop (i + 1) (take n l)
   from h =
       let k : length (take n l) ≡ n = length-take-le n l long in
       rw (add-one i) (drop-cons (take n l) i 0 (omega arith) ∙ ap (λ (x : ℕ). x ∷ drop (suc i) (take n l)) (get_or-take n l i 0 h))
-
-  pub search_found : i < n → get_or l i 0 ≡ v → contains (drop i (take n l)) v ≡ true
-  search_found h e = rw (from h, eq-eqb v (get_or l i 0) (sym e)) refl
-
-  pub search_on : i < n → (get_or l i 0 ≡ v → ⊥) → contains (drop i (take n l)) v ≡ contains (drop (i + 1) (take n l)) v
-  search_on h e = rw (from h, ne_eqb v (get_or l i 0) (λ q. e (sym q))) refl
-
-  pub search_out : n ≤ i → contains (drop i (take n l)) v ≡ false
-  search_out h =
-      let k : length (take n l) ≡ n = length-take-le n l long in
-      let z : length (take n l) ≤ i = omega arith in
-      rw (drop_of_length-le (take n l) z) refl
-
--- ---- one variable more
-module _ (l : List ℕ) (n v : ℕ) where
-  pub see_old : contains (take n l) v ≡ true → take n l ≡ met_with (take n l) v
-  see_old e = rw e refl
-
-  pub see_new : n < length l → contains (take n l) v ≡ false → take (n + 1) (set l n v) ≡ met_with (take n l) v
-  see_new h e = rw (e, add-one n) (take-suc-set l n v h)
 
 -- ---- how many they are
 met_long : (met : List ℕ) (v : ℕ) (b : Bool) → length met ≤ length (pick b met (met ++ (v ∷ [])))

@@ -1,5 +1,5 @@
 -- The tree below a root, in the words of scratch.
-use Rattle.std.specs.Prelude.{◌≡◌, Bool, true, false, List, ℕ, ◌+◌, ◌<◌, ◌≤◌, length, get_or}
+use Rattle.std.specs.Prelude.{◌≡◌, Bool, true, false, Option, Some, None, List, ℕ, ◌+◌, ◌<◌, ◌≤◌, length, get_or}
 use Rattle.ir.specs.declared.atom.Atom.{Atom}
 use Rattle.rules.specs.Base.{contains}
 use Rattle.rules.specs.Branches.{Tree, tree_of, any_disconnected, below, unbound, top_of}
@@ -14,12 +14,14 @@ pub record Treed (w : List ℕ) (root n : ℕ) (t : Tree) : Type 0 where
   pub tops : (i : ℕ) → 1 ≤ i → i < n → top_of t.parents root (get_or t.bound i 0) ≡ below (get_or w (tops_at + i) 0)
   pub others : (v : ℕ) → contains t.bound v ≡ false → top_of t.parents root v ≡ unbound
 
--- the code's answer: how many are bound, or 0 where a role atom is disconnected from the root
-abbrev pub TreeBy : List ℕ → ℕ → Tree → Bool → ℕ → Type 0
-TreeBy w root t true r = r ≡ 0
-TreeBy w root t false r = Treed w root r t × (1 ≤ r)
+-- the code's answer: how many are bound; none where a role atom is disconnected from the root
+abbrev pub TreeBy : List ℕ → ℕ → Tree → Bool → Option ℕ → Type 0
+TreeBy w root t true None = Unit {0}
+TreeBy w root t true (Some n) = ⊥
+TreeBy w root t false None = ⊥
+TreeBy w root t false (Some n) = Treed w root n t × (1 ≤ n)
 
-abbrev pub TreeIs : List ℕ → ℕ → List Atom → ℕ → Type 0
+abbrev pub TreeIs : List ℕ → ℕ → List Atom → Option ℕ → Type 0
 TreeIs w root l r = TreeBy w root (tree_of l root) (any_disconnected l (tree_of l root).placed) r
 
 -- for some tree

@@ -1,5 +1,5 @@
 // The edge from a root to a child, and the variables to keep.
-ghost use Rattle.std.specs.Prelude.{◌≡◌, List, [], ◌∷◌, ℕ, ◌+◌, ◌*◌, ◌<◌, ◌≤◌, length, get_or};
+ghost use Rattle.std.specs.Prelude.{◌≡◌, Bool, List, ℕ, ◌+◌, ◌*◌, ◌<◌, ◌≤◌, length, get_or};
 ghost use Rattle.words.specs.Words.{words};
 ghost use Rattle.ir.specs.declared.atom.Atom.{Atom};
 ghost use Rattle.rules.specs.Base.{any, contains};
@@ -9,51 +9,43 @@ ghost use Rattle.branches.specs.Wide.{AtomsAre, AtomsThere};
 ghost use Rattle.branches.specs.Memo.{TameThere};
 ghost use Rattle.branches.specs.Grouped.{OnlyRecords};
 ghost use Rattle.branches.specs.Edges.{KeepIs, EdgeIs, fronted};
-ghost use Rattle.branches.specs.AtomsLaws.{WordsAre};
 ghost use Rattle.branches.specs.Renumbered.{run};
+ghost use Rattle.branches.specs.AtomsLaws.{WordsAre};
 
+use crate::atom::{Atoms, ROLE};
 use crate::layout::{COPY, KEEP};
+use crate::place::place;
+use crate::{atom, insert};
 
 // v is one of the first n variables to keep.
 fn is_kept(scratch: &[u8], n: u32, v: u32) -> bool
     requires { (n ≤ 512) × (4 * work_words ≤ length scratch.now) }
     ensures { result ≡ contains (run (words scratch.now) keep_at n) v }
 {
-    let mut i: usize = 0;
-    while i < n as usize {
-        if words::get_word(scratch, KEEP + i) == v {
-            return true;
-        }
-        i += 1;
-    }
-    false
+    place(scratch, KEEP, n as usize, v).is_some()
 }
 
-// Atom i mentions one.
-fn is_mentioned(scratch: &[u8], n: u32, i: usize) -> bool
-    requires { (n ≤ 512) × (4 * work_words ≤ length scratch.now) × (24 * i + 24 ≤ length scratch.now) × (get_or (words scratch.now) (6 * i) 0 < 3) }
-    ensures { (a : Atom) → WordsAre (words scratch.now) (6 * i) a → result ≡ any (contains (run (words scratch.now) keep_at n)) (tree_vars a) }
+// A variable of atom i, a class or role atom, passes the test.
+fn any_var<F: Fn(u32) -> bool>(scratch: &[u8], i: usize, test: F) -> bool
+    requires callable { F.IsAlwaysCallable test }
+    requires there { (24 * i + 24 ≤ length scratch.now) × (get_or (words scratch.now) (6 * i) 0 < 3) }
+    ensures { (p : ℕ → Bool) (a : Atom) → ((x : ℕ) (b : Bool) → F.post test x b → b ≡ p x) → WordsAre (words scratch.now) (6 * i) a → result ≡ any p (tree_vars a) }
 {
-    if is_kept(scratch, n, words::get_word(scratch, 6 * i + 4)) {
+    if test(atom::var(scratch, i)) {
         return true;
     }
-    if words::get_word(scratch, 6 * i) != 2 {
-        return false;
-    }
-    is_kept(scratch, n, words::get_word(scratch, 6 * i + 5))
+    atom::kind(scratch, i) == ROLE && test(atom::other(scratch, i))
 }
 
-// One of the `count` atoms from record `base` on mentions one.
-pub fn mentions_kept(scratch: &[u8], keep: u32, base: usize, count: u32) -> bool
-    requires { TameThere (words scratch.now) base count × (keep ≤ 512) × (4 * work_words ≤ length scratch.now) }
-    ensures { (l : List Atom) (kept : List ℕ) → AtomsAre (words scratch.now) base count l → KeepIs (words scratch.now) keep kept → result ≡ mentions kept l }
+// One of the atoms mentions one of the `keep` variables to keep.
+pub fn mentions_kept(scratch: &[u8], atoms: Atoms, keep: u32) -> bool
+    requires { TameThere (words scratch.now) atoms.base atoms.count × (keep ≤ 512) × (4 * work_words ≤ length scratch.now) }
+    ensures { (l : List Atom) (kept : List ℕ) → AtomsAre (words scratch.now) atoms.base atoms.count l → KeepIs (words scratch.now) keep kept → result ≡ mentions kept l }
 {
-    let mut i: usize = 0;
-    while i < count as usize {
-        if is_mentioned(scratch, keep, base + i) {
+    for i in 0..atoms.count as usize {
+        if any_var(scratch, atoms.base + i, |v| is_kept(scratch, keep, v)) {
             return true;
         }
-        i += 1;
     }
     false
 }
@@ -63,69 +55,50 @@ fn is_edge(scratch: &[u8], i: usize, root: u32, t: u32) -> bool
     requires { 24 * i + 24 ≤ length scratch.now }
     ensures { (a : Atom) → WordsAre (words scratch.now) (6 * i) a → result ≡ is_edge root t a }
 {
-    if words::get_word(scratch, 6 * i) != 2 {
-        return false;
-    }
-    if words::get_word(scratch, 6 * i + 4) != root {
-        return false;
-    }
-    words::get_word(scratch, 6 * i + 5) == t
+    atom::kind(scratch, i) == ROLE && atom::var(scratch, i) == root && atom::other(scratch, i) == t
 }
 
-// Atom i mentions the root.
-fn is_rooted(scratch: &[u8], i: usize, root: u32) -> bool
-    requires { (24 * i + 24 ≤ length scratch.now) × (get_or (words scratch.now) (6 * i) 0 < 3) }
-    ensures { (a : Atom) → WordsAre (words scratch.now) (6 * i) a → result ≡ any (contains (root ∷ [])) (tree_vars a) }
+// The one edge from the root to t, if nothing else mentions the root.
+pub fn only_edge(scratch: &[u8], atoms: Atoms, root: u32, t: u32) -> Option<u32>
+    requires { TameThere (words scratch.now) atoms.base atoms.count × (atoms.base + atoms.count ≤ copy_at) × (4 * work_words ≤ length scratch.now) }
+    ensures { (l : List Atom) → AtomsAre (words scratch.now) atoms.base atoms.count l → EdgeIs l root t result }
 {
-    if words::get_word(scratch, 6 * i + 4) == root {
-        return true;
-    }
-    if words::get_word(scratch, 6 * i) != 2 {
-        return false;
-    }
-    words::get_word(scratch, 6 * i + 5) == root
-}
-
-// The one edge from the root to t, if nothing else mentions the root; or `count`.
-pub fn only_edge(scratch: &[u8], base: usize, count: u32, root: u32, t: u32) -> u32
-    requires { TameThere (words scratch.now) base count × (base + count ≤ copy_at) × (4 * work_words ≤ length scratch.now) }
-    ensures { (l : List Atom) → AtomsAre (words scratch.now) base count l → EdgeIs l root t count result }
-{
-    let mut found = count;
-    let mut i: u32 = 0;
-    while i < count {
-        let at = base + i as usize;
+    let mut found = None;
+    for i in 0..atoms.count {
+        let at = atoms.base + i as usize;
         if is_edge(scratch, at, root, t) {
-            if found < count {
-                return count;
+            if found.is_some() {
+                return None;
             }
-            found = i;
-        } else if is_rooted(scratch, at, root) {
-            return count;
+            found = Some(i);
+        } else if any_var(scratch, at, |v| v == root) {
+            return None;
         }
-        i += 1;
     }
     found
 }
 
 // Atom e comes first; the others keep their order.
-pub fn to_front(scratch: &mut [u8], base: usize, count: u32, e: u32)
-    requires { AtomsThere (words scratch.old) base count × (e < count) × (base + count ≤ copy_at) × (4 * work_words ≤ length scratch.old) }
-    ensures atoms_are { (l : List Atom) → AtomsAre (words scratch.old) base count l → AtomsAre (words scratch.new) base count (fronted l e) }
-    ensures only_records { OnlyRecords base count (words scratch.old) (words scratch.new) }
+pub fn to_front(scratch: &mut [u8], atoms: Atoms, e: u32)
+    requires { AtomsThere (words scratch.old) atoms.base atoms.count × (e < atoms.count) × (atoms.base + atoms.count ≤ copy_at) × (4 * work_words ≤ length scratch.old) }
+    ensures atoms_are { (l : List Atom) → AtomsAre (words scratch.old) atoms.base atoms.count l → AtomsAre (words scratch.new) atoms.base atoms.count (fronted l e) }
+    ensures only_records { OnlyRecords atoms.base atoms.count (words scratch.old) (words scratch.new) }
 {
-    words::move_words(scratch, 6 * (base + e as usize), 6 * COPY, 6);
-    words::move_words(scratch, 6 * base, 6 * (base + 1), 6 * (e as usize));
-    words::move_words(scratch, 6 * COPY, 6 * base, 6);
+    insert::insert(scratch, atoms.base, atoms.base + e as usize);
 }
 
 // And back.
-pub fn from_front(scratch: &mut [u8], base: usize, count: u32, e: u32)
-    requires { AtomsThere (words scratch.old) base count × (e < count) × (base + count ≤ copy_at) × (4 * work_words ≤ length scratch.old) }
-    ensures atoms_are { (l : List Atom) → length l ≡ count → AtomsAre (words scratch.old) base count (fronted l e) → AtomsAre (words scratch.new) base count l }
-    ensures only_records { OnlyRecords base count (words scratch.old) (words scratch.new) }
+pub fn from_front(scratch: &mut [u8], atoms: Atoms, e: u32)
+    requires { AtomsThere (words scratch.old) atoms.base atoms.count × (e < atoms.count) × (atoms.base + atoms.count ≤ copy_at) × (4 * work_words ≤ length scratch.old) }
+    ensures atoms_are { (l : List Atom) → length l ≡ atoms.count → AtomsAre (words scratch.old) atoms.base atoms.count (fronted l e) → AtomsAre (words scratch.new) atoms.base atoms.count l }
+    ensures only_records { OnlyRecords atoms.base atoms.count (words scratch.old) (words scratch.new) }
 {
-    words::move_words(scratch, 6 * base, 6 * COPY, 6);
-    words::move_words(scratch, 6 * (base + 1), 6 * base, 6 * (e as usize));
-    words::move_words(scratch, 6 * COPY, 6 * (base + e as usize), 6);
+    insert::copy_record(scratch, COPY, atoms.base);
+    words::move_words(
+        scratch,
+        6 * (atoms.base + 1),
+        6 * atoms.base,
+        6 * (e as usize),
+    );
+    insert::copy_record(scratch, atoms.base + e as usize, COPY);
 }

@@ -22,11 +22,9 @@ pub fn hash(scratch: &[u8], count: u32) -> usize
     ensures { (result ≡ hash_of (run (words scratch.now) renumbered_at count)) × (result < 32768) }
 {
     let mut h: usize = 0;
-    let mut i: usize = 0;
-    while i < count as usize {
+    for i in 0..count as usize {
         let w = words::get_word(scratch, RENUMBERED + i) as usize;
         h = 1937098319 * (h + w) % 4294967291;
-        i += 1;
     }
     h / 131072
 }

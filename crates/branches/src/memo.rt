@@ -14,8 +14,10 @@ ghost use Rattle.branches.specs.Hash.{hash_of};
 ghost use Rattle.branches.specs.Renumbered.{run};
 ghost use Rattle.branches.specs.Found.{BodyHeld, Found};
 
+use crate::atom::Atoms;
 use crate::layout::{FILTER, MOST_NAMED, NAMED, RENUMBERED};
 use crate::{filter, renumber};
+use ir::refusal::Refusal;
 
 // How many branches are named, the words they take, and the first name.
 #[derive(Clone, Copy)]
@@ -25,22 +27,14 @@ pub struct Naming {
     pub used: u32,
 }
 
-#[derive(Clone, Copy)]
-pub enum Name {
-    Named(Naming, u32),
-    Refused(u32),
-}
-
 fn same_words(scratch: &[u8], a: usize, b: usize, count: u32) -> bool
     requires { (4 * (a + count) ≤ length scratch.now) × (4 * (b + count) ≤ length scratch.now) }
     ensures { result ≡ same_words (run (words scratch.now) a count) (run (words scratch.now) b count) }
 {
-    let mut i: usize = 0;
-    while i < count as usize {
+    for i in 0..count as usize {
         if words::get_word(scratch, a + i) != words::get_word(scratch, b + i) {
             return false;
         }
-        i += 1;
     }
     true
 }
@@ -50,49 +44,44 @@ fn is_body(scratch: &[u8], p: usize, n: u32, count: u32) -> bool
     requires { (p + n < most_named) × (count ≤ 256) × (4 * work_words ≤ length scratch.now) }
     ensures { (l m : List ℕ) → n ≡ length l → count ≡ length m → At (words scratch.now) (p + 1) l → At (words scratch.now) renumbered_at m → result ≡ same_words l m }
 {
-    if n != count {
-        return false;
-    }
-    same_words(scratch, p + 1, RENUMBERED, count)
+    n == count && same_words(scratch, p + 1, RENUMBERED, count)
 }
 
-// The place of the branch whose body is the `count` renumbered words, or how many are named.
-fn scan(scratch: &[u8], s: Naming, count: u32) -> u32
+// The place of the branch whose body is the `count` renumbered words.
+fn scan(scratch: &[u8], s: Naming, count: u32) -> Option<u32>
     requires { NamedThere (words scratch.now) s × (count ≤ 256) × (4 * work_words ≤ length scratch.now) }
     ensures { (body : List Atom) (z : Rules.Naming) → BodyHeld renumbered_at (words scratch.now) count body → NamedHeld (words scratch.now) s z → Found s (memo_of z.named body) result }
 {
     let mut p: usize = NAMED;
-    let mut i: u32 = 0;
-    while i < s.named {
+    for i in 0..s.named {
         let n = words::get_word(scratch, p);
         if is_body(scratch, p, n, count) {
-            return i;
+            return Some(i);
         }
         p += 1 + n as usize;
-        i += 1;
     }
-    s.named
+    None
 }
 
 // The same, the words' hash being h: no branch is equal where the filter's word is not set.
-fn memo(scratch: &[u8], s: Naming, count: u32, h: usize) -> u32
+fn memo(scratch: &[u8], s: Naming, count: u32, h: usize) -> Option<u32>
     requires { NamedThere (words scratch.now) s × (count ≤ 256) × (4 * work_words ≤ length scratch.now) × (h ≡ hash_of (run (words scratch.now) renumbered_at count)) × (h < 32768) }
     ensures { (body : List Atom) (z : Rules.Naming) → BodyHeld renumbered_at (words scratch.now) count body → NamedHeld (words scratch.now) s z → Found s (memo_of z.named body) result }
 {
     if words::get_word(scratch, FILTER + h) == 0 {
-        return s.named;
+        return None;
     }
     scan(scratch, s, count)
 }
 
-// One branch more, of the `count` renumbered words, whose hash is h.
-fn name_new(scratch: &mut [u8], s: Naming, count: u32, h: usize) -> Name
+// One branch more, and its name: of the `count` renumbered words, whose hash is h.
+fn name_new(scratch: &mut [u8], s: Naming, count: u32, h: usize) -> Result<(Naming, u32), Refusal>
     requires { NamedThere (words scratch.old) s × (count ≤ 256) × (s.first + s.named < 2097151) × (4 * work_words ≤ length scratch.old) × (h ≡ hash_of (run (words scratch.old) renumbered_at count)) × (h < 32768) }
     ensures named_by { (body : List Atom) (z : Rules.Naming) → BodyHeld renumbered_at (words scratch.old) count body → NamedHeld (words scratch.old) s z → memo_of z.named body ≡ none → NamedBy (words scratch.new) body z result }
     ensures by_index { (j : ℕ) → named_end ≤ j → get_or (words scratch.new) j 0 ≡ get_or (words scratch.old) j 0 }
 {
     if MOST_NAMED < s.used as usize + 1 + count as usize {
-        return Name::Refused(12);
+        return Err(Refusal::NoRoom);
     }
     let at = NAMED + s.used as usize;
     words::put_word(scratch, at, count);
@@ -103,20 +92,24 @@ fn name_new(scratch: &mut [u8], s: Naming, count: u32, h: usize) -> Name
         named: s.named + 1,
         used: s.used + 1 + count,
     };
-    Name::Named(more, s.first + s.named)
+    Ok((more, s.first + s.named))
 }
 
-// The name of the `count` atoms from record `base` on, below the root.
-pub fn name_of(scratch: &mut [u8], s: Naming, base: usize, count: u32, root: u32) -> Name
-    requires { TameThere (words scratch.old) base count × (count ≤ 256) × (named_end ≤ 6 * base) × (6 * (base + count) ≤ bound_at) × NamedThere (words scratch.old) s × (s.first + s.named < 2097151) × (4 * work_words ≤ length scratch.old) }
-    ensures named_by { (l : List Atom) (z : Rules.Naming) → AtomsAre (words scratch.old) base count l → NamedHeld (words scratch.old) s z → NamedBy (words scratch.new) (renumber l root) z result }
+// The numbers then, and the name of the atoms, below the root.
+pub fn name_of(
+    scratch: &mut [u8],
+    s: Naming,
+    atoms: Atoms,
+    root: u32,
+) -> Result<(Naming, u32), Refusal>
+    requires { TameThere (words scratch.old) atoms.base atoms.count × (atoms.count ≤ 256) × (named_end ≤ 6 * atoms.base) × (6 * (atoms.base + atoms.count) ≤ bound_at) × NamedThere (words scratch.old) s × (s.first + s.named < 2097151) × (4 * work_words ≤ length scratch.old) }
+    ensures named_by { (l : List Atom) (z : Rules.Naming) → AtomsAre (words scratch.old) atoms.base atoms.count l → NamedHeld (words scratch.old) s z → NamedBy (words scratch.new) (renumber l root) z result }
     ensures only_memo { OnlyMemo (words scratch.old) (words scratch.new) }
 {
-    renumber::renumber(scratch, base, count, root);
-    let h = filter::hash(scratch, count);
-    let i = memo(scratch, s, count, h);
-    if i < s.named {
-        return Name::Named(s, s.first + i);
+    renumber::renumber(scratch, atoms, root);
+    let h = filter::hash(scratch, atoms.count);
+    match memo(scratch, s, atoms.count, h) {
+        Some(i) => Ok((s, s.first + i)),
+        None => name_new(scratch, s, atoms.count, h),
     }
-    name_new(scratch, s, count, h)
 }

@@ -14,39 +14,28 @@ ghost use Rattle.branches.specs.Wide.{AtomsAre};
 ghost use Rattle.branches.specs.Memo.{packed, Tame, TameThere};
 ghost use Rattle.branches.specs.Renumbered.{run, Met, Put, OnlyRenumbered, TameAt};
 
+use crate::atom::Atoms;
 use crate::layout::{MET, RENUMBERED};
 use crate::pack;
+use crate::place::place;
 use ir::atom::Atom;
 use ir::record;
 use ir::record::Read;
 use ir::role::Role;
 
-// The place of v among the n variables met, or n.
-fn place(scratch: &[u8], n: usize, v: u32) -> usize
-    requires { (n ≤ 513) × (4 * work_words ≤ length scratch.now) }
-    ensures { result ≡ place_of (run (words scratch.now) met_at n) v }
-{
-    let mut i: usize = 0;
-    while i < n {
-        if words::get_word(scratch, MET + i) == v {
-            return i;
-        }
-        i += 1;
-    }
-    n
-}
-
-// v is met: where it is new, it is the last of n + 1.
-fn meet(scratch: &mut [u8], n: usize, v: u32) -> usize
+// v is met: how many variables are met then, and its place among them, the last where it is new.
+fn meet(scratch: &mut [u8], n: usize, v: u32) -> (usize, u32)
     requires { (n < 513) × (4 * work_words ≤ length scratch.old) }
-    ensures { Met met_at keep_at (words scratch.old) n v (words scratch.new) result }
+    ensures met { Met met_at keep_at (words scratch.old) n v (words scratch.new) result.0 }
+    ensures place { (result.1 ≡ place_of (run (words scratch.old) met_at n) v) × (result.1 ≤ n) }
 {
-    let i = place(scratch, n, v);
-    if i == n {
-        words::put_word(scratch, MET + n, v);
-        return n + 1;
+    match place(scratch, MET, n, v) {
+        Some(i) => (n, i as u32),
+        None => {
+            words::put_word(scratch, MET + n, v);
+            (n + 1, n as u32)
+        }
     }
-    n
 }
 
 // Word i of the renumbered body, for a class atom.
@@ -54,8 +43,7 @@ fn put_class(scratch: &mut [u8], n: usize, i: usize, k: u32, v: u32) -> usize
     requires { (n + 2 ≤ 513) × (i < 256) × (4 * work_words ≤ length scratch.old) × (k < 2097152) }
     ensures { Put met_at keep_at renumbered_at (words scratch.old) n i (Class k v) (words scratch.new) result }
 {
-    let m = meet(scratch, n, v);
-    let p = place(scratch, m, v) as u32;
+    let (m, p) = meet(scratch, n, v);
     let w = pack::pack(Atom::Class(k, p));
     words::put_word(scratch, RENUMBERED + i, w);
     m
@@ -66,10 +54,8 @@ fn put_role(scratch: &mut [u8], n: usize, i: usize, r: Role, u: u32, v: u32) -> 
     requires { (n + 2 ≤ 513) × (i < 256) × (4 * work_words ≤ length scratch.old) × (role_code r < 2048) }
     ensures { Put met_at keep_at renumbered_at (words scratch.old) n i (RoleAtom r u v) (words scratch.new) result }
 {
-    let l = meet(scratch, n, u);
-    let m = meet(scratch, l, v);
-    let p = place(scratch, m, u) as u32;
-    let q = place(scratch, m, v) as u32;
+    let (l, p) = meet(scratch, n, u);
+    let (m, q) = meet(scratch, l, v);
     let w = pack::pack(Atom::Role(r, p, q));
     words::put_word(scratch, RENUMBERED + i, w);
     m
@@ -97,17 +83,15 @@ fn put_record(scratch: &mut [u8], n: usize, i: usize, at: usize) -> usize
     }
 }
 
-// The `count` atoms from record `base` on, renumbered from the root.
-pub fn renumber(scratch: &mut [u8], base: usize, count: u32, root: u32)
-    requires { TameThere (words scratch.old) base count × (count ≤ 256) × (6 * (base + count) ≤ bound_at) × (4 * work_words ≤ length scratch.old) }
-    ensures at { (l : List Atom) → AtomsAre (words scratch.old) base count l → At (words scratch.new) renumbered_at (map packed (Rules.renumber l root)) }
+// The atoms renumbered from the root.
+pub fn renumber(scratch: &mut [u8], atoms: Atoms, root: u32)
+    requires { TameThere (words scratch.old) atoms.base atoms.count × (atoms.count ≤ 256) × (6 * (atoms.base + atoms.count) ≤ bound_at) × (4 * work_words ≤ length scratch.old) }
+    ensures at { (l : List Atom) → AtomsAre (words scratch.old) atoms.base atoms.count l → At (words scratch.new) renumbered_at (map packed (Rules.renumber l root)) }
     ensures only_renumbered { OnlyRenumbered met_at keep_at (words scratch.old) (words scratch.new) }
 {
     words::put_word(scratch, MET, root);
     let mut n: usize = 1;
-    let mut i: usize = 0;
-    while i < count as usize {
-        n = put_record(scratch, n, i, base + i);
-        i += 1;
+    for i in 0..atoms.count as usize {
+        n = put_record(scratch, n, i, atoms.base + i);
     }
 }

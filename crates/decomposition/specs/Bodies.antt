@@ -1,5 +1,5 @@
 -- One clause's body: what the pass makes of it, beside the rule.
-use Rattle.std.specs.Prelude.{◌≡◌, Bool, true, false, List, ℕ, ◌<◌, ◌≤◌, length, get_or}
+use Rattle.std.specs.Prelude.{◌≡◌, Some, None, Ok, Err, Bool, true, false, List, ℕ, ◌<◌, ◌≤◌, length, get_or}
 use Rattle.std.proofs.Math.Option.{Option, none, some}
 use Rattle.ir.specs.declared.atom.Atom.{Atom}
 use Rattle.rules.specs.Base.{Res, ok, refused, return}
@@ -9,12 +9,10 @@ use Rattle.rules.specs.Branches.{W, stays_whole, name_branches, head_vars}
 use Rattle.rules.specs.Branches as Rules
 use Rattle.rules.specs.Invariants.{Bounds, ClauseIn}
 use Rattle.tables.specs.Tabled.{Run}
-use Rattle.branches.specs.Layout.{most_named, body_at, keep_at, renumbered_at}
-use Rattle.branches.specs.Memo.{named_words, NamedHeld}
-use Rattle.naming.specs.Names.{To}
+use Rattle.branches.specs.Layout.{body_at, keep_at, renumbered_at}
+use Rattle.branches.specs.Memo.{NamedHeld}
+use Rattle.naming.specs.Names.{To, Reduced, Full}
 use Rattle.branches.specs.declared.memo.Naming.{Naming}
-use Rattle.naming.specs.declared.name.Reduced.{Reduced}
-use Rattle.naming.specs.declared.name.Reduced.TheVariants as Reduceds
 
 -- ---- the rule
 abbrev pub reduction : Clause → Bool → W (Option (List Atom))
@@ -40,11 +38,11 @@ pub record PartsThere (body head : List ℕ) : Type 0 where
 
 -- ---- the code's answer beside the rule's; the new body stands from record BODY on
 abbrev pub OneBy : List ℕ → Naming → Clause → Res Rules.Naming (Option (List Atom)) → Reduced → Type 0
-OneBy w s x (ok (some b) z) (Reduceds.To m n) = To w body_at (length x.body) b z s m n
-OneBy w s x (ok (some b) z) Reduceds.None = ⊥
-OneBy w s x (ok none z) (Reduceds.To m n) = ⊥
-OneBy w s x (ok none z) Reduceds.None = NamedHeld w s z
-OneBy w s x (ok o z) (Reduceds.Refused e) = (e ≡ 12) × (most_named < length (named_words z.named))
+OneBy w s x (ok (some b) z) (Ok (Some r)) = To w body_at (length x.body) b z s r.0 r.1
+OneBy w s x (ok (some b) z) (Ok None) = ⊥
+OneBy w s x (ok none z) (Ok (Some r)) = ⊥
+OneBy w s x (ok none z) (Ok None) = NamedHeld w s z
+OneBy w s x (ok o z) (Err e) = Full e z
 OneBy w s x (refused k) r = ⊥
 
 -- only the variables to keep were written

@@ -1,7 +1,7 @@
 -- The head's variables among those to keep, atom by atom. Assumes nothing.
 use Rattle.std.specs.Prelude.{Bool, true, false, ◌||◌, ◌≡◌, refl, List, [], ◌∷◌, ◌++◌, ℕ, ◌+◌, ◌*◌, ◌/◌, ◌≤◌, ◌<◌, length, get_or, drop, set, eqb}
 use Rattle.std.proofs.Math.Bool.{or-true}
-use Rattle.std.proofs.Common.{sym, ap, ◌∙◌, arith, ne_eqb, length-append, drop_of_length-le, get_or-set_other}
+use Rattle.std.proofs.Common.{sym, ap, ◌∙◌, arith, ne_eqb, length-append, drop_of_length-le}
 use Rattle.words.specs.Words.{words}
 use Rattle.ir.specs.Pick.{pick}
 use Rattle.ir.specs.Records.{words_of}
@@ -37,16 +37,16 @@ keep_same w n kept vars e K = record { long = K.long ∙ ap length (sym e); few 
 pub keep_x : (w : List ℕ) (n v : ℕ) → v ≡ 0 → (kept : List ℕ) → KeepIs w n kept → KeepIs w n (add_var kept v)
 keep_x w n v e kept K = keep_same w n kept (add_var kept v) (add_x kept v e) K
 
-pub keep_old : (w : List ℕ) (n v : ℕ) → true ≡ contains (run w keep_at n) v → (kept : List ℕ) → KeepIs w n kept → KeepIs w n (add_var kept v)
-keep_old w n v e kept K = keep_same w n kept (add_var kept v) (add_old kept v (ap (λ (l : List ℕ). contains l v) (sym K.are) ∙ sym e)) K
+pub keep_old : (w : List ℕ) (n v : ℕ) → contains (run w keep_at n) v ≡ true → (kept : List ℕ) → KeepIs w n kept → KeepIs w n (add_var kept v)
+keep_old w n v e kept K = keep_same w n kept (add_var kept v) (add_old kept v (ap (λ (l : List ℕ). contains l v) (sym K.are) ∙ e)) K
 
 more_long : (n v : ℕ) (kept vars : List ℕ) → n ≡ length kept → vars ≡ kept ++ (v ∷ []) → n + 1 ≡ length vars
 more_long n v kept vars e f = omega (arith, ap length f, length-append kept (v ∷ []))
 
-pub keep_new : (w w' : List ℕ) (n v : ℕ) → keep_at + n < length w → n + 1 ≤ 512 → (v ≡ 0 → ⊥) → false ≡ contains (run w keep_at n) v → w' ≡ set w (keep_at + n) v
+pub keep_new : (w w' : List ℕ) (n v : ℕ) → keep_at + n < length w → n + 1 ≤ 512 → (v ≡ 0 → ⊥) → contains (run w keep_at n) v ≡ false → w' ≡ set w (keep_at + n) v
     → (kept : List ℕ) → KeepIs w n kept → KeepIs w' (n + 1) (add_var kept v)
 keep_new w w' n v h few f e g kept K =
-    let q : add_var kept v ≡ kept ++ (v ∷ []) = add_new kept v f (ap (λ (l : List ℕ). contains l v) (sym K.are) ∙ sym e) in
+    let q : add_var kept v ≡ kept ++ (v ∷ []) = add_new kept v f (ap (λ (l : List ℕ). contains l v) (sym K.are) ∙ e) in
     record {
       long = more_long n v kept (add_var kept v) K.long q;
       few = few;
@@ -59,12 +59,6 @@ only_none w = record { before = λ j h. refl; behind = λ j h. refl }
 
 pub only_then : (w w1 w2 : List ℕ) → OnlyKeep w w1 → OnlyKeep w1 w2 → OnlyKeep w w2
 only_then w w1 w2 A B = record { before = λ j h. B.before j h ∙ A.before j h; behind = λ j h. B.behind j h ∙ A.behind j h }
-
-pub only_new : (w w' : List ℕ) (n v : ℕ) → n < 512 → w' ≡ set w (keep_at + n) v → OnlyKeep w w'
-only_new w w' n v few e = record {
-  before = λ j h. ap (λ (l : List ℕ). get_or l j 0) e ∙ get_or-set_other w (keep_at + n) j v 0 (λ (q : j ≡ keep_at + n). absurd (omega arith));
-  behind = λ j h. ap (λ (l : List ℕ). get_or l j 0) e ∙ get_or-set_other w (keep_at + n) j v 0 (λ (q : j ≡ keep_at + n). absurd (omega arith));
-}
 
 -- ---- an atom's variables are its last two words, or one of them with X
 atom_vars_lem : (vars : List ℕ) (a : Atom) → add_vars vars (atom_vars a) ≡ add_var (add_var vars (words_of a).4) (words_of a).5

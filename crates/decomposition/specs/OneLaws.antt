@@ -1,5 +1,5 @@
 -- One clause's body: whether it stays whole, and what the names make of it. Assumes nothing.
-use Rattle.std.specs.Prelude.{Bool, true, false, not, ◌||◌, ◌≡◌, List, ℕ, length, ltb, leb}
+use Rattle.std.specs.Prelude.{Bool, true, false, not, ◌||◌, ◌≡◌, Some, None, Ok, Err, List, ℕ, length, ltb, leb}
 use Rattle.std.proofs.Math.Bool.{or-true}
 use Rattle.std.proofs.Common.{sym, ap, ap₂, subst, ◌∙◌, arith, ltb-true, ltb-false, le-leb}
 use Rattle.std.proofs.Math.Option.{Option, none, some}
@@ -12,10 +12,8 @@ use Rattle.rules.specs.Branches as Rules
 use Rattle.branches.specs.Layout.{body_at}
 use Rattle.branches.specs.WideLaws.{count_root}
 use Rattle.branches.specs.Memo.{NamedHeld}
-use Rattle.naming.specs.Names.{ReducedBy}
+use Rattle.naming.specs.Names.{Reduced, ReducedBy}
 use Rattle.branches.specs.declared.memo.Naming.{Naming}
-use Rattle.naming.specs.declared.name.Reduced.{Reduced}
-use Rattle.naming.specs.declared.name.Reduced.TheVariants as Reduceds
 use Rattle.decomposition.specs.Bodies.{reduction, reduced, OneBy}
 use Rattle.decomposition.specs.PlainLaws.{other}
 
@@ -31,22 +29,22 @@ stays_not l e f = ap₂ (λ (a b : Bool). a || b) (lt-leb (body_var_count l) 8 (
 
 -- ---- the answer
 module _ (w : List ℕ) (s : Naming) (x : Clause) (z : Rules.Naming) where
-  whole : stays_whole x.body ≡ true → NamedHeld w s z → OneBy w s x (reduced x z) Reduceds.None
-  whole e H = subst (λ (b : Bool). OneBy w s x (reduction x b z) Reduceds.None) (sym e) H
+  whole : stays_whole x.body ≡ true → NamedHeld w s z → OneBy w s x (reduced x z) (Ok None)
+  whole e H = subst (λ (b : Bool). OneBy w s x (reduction x b z) (Ok None)) (sym e) H
 
-  pub one_narrow : false ≡ ltb max_body_vars (body_var_count_from x.body 0) → NamedHeld w s z → OneBy w s x (reduced x z) Reduceds.None
+  pub one_narrow : false ≡ ltb max_body_vars (body_var_count_from x.body 0) → NamedHeld w s z → OneBy w s x (reduced x z) (Ok None)
   one_narrow e H = whole (stays_narrow x.body (sym e)) H
 
-  pub one_other : false ≡ not (other x.body) → NamedHeld w s z → OneBy w s x (reduced x z) Reduceds.None
+  pub one_other : false ≡ not (other x.body) → NamedHeld w s z → OneBy w s x (reduced x z) (Ok None)
   one_other e H = whole (stays_other x.body (not-false (other x.body) (sym e))) H
 
   answer : (l : List Atom) (kept : List ℕ) (o : Res Rules.Naming (Option (List Atom))) (r : Reduced) → ReducedBy w body_at (length x.body) l kept s o r → OneBy w s x o r
-  answer l kept (ok (some b) y) (Reduceds.To m n) t = t
-  answer l kept (ok (some b) y) Reduceds.None t = t
-  answer l kept (ok (some b) y) (Reduceds.Refused k) t = t
-  answer l kept (ok none y) (Reduceds.To m n) t = t
-  answer l kept (ok none y) Reduceds.None t = t.held
-  answer l kept (ok none y) (Reduceds.Refused k) t = t
+  answer l kept (ok (some b) y) (Ok (Some m)) t = t
+  answer l kept (ok (some b) y) (Ok None) t = t
+  answer l kept (ok (some b) y) (Err k) t = t
+  answer l kept (ok none y) (Ok (Some m)) t = t
+  answer l kept (ok none y) (Ok None) t = t.held
+  answer l kept (ok none y) (Err k) t = t
   answer l kept (refused k) r t = t
 
   pub one_named : (nb : ℕ) (r : Reduced) → nb ≡ length x.body → true ≡ ltb max_body_vars (body_var_count_from x.body 0) → other x.body ≡ false

@@ -3,7 +3,6 @@ use Rattle.std.specs.Prelude.{◌≡◌, List, map, ℕ, ◌*◌, ◌≤◌, len
 use Rattle.std.proofs.lemmas.List.Edits.{sets}
 use Rattle.rules.specs.State.{Clause, total}
 use Rattle.rules.specs.Branches.{Branch, branch_clause}
-use Rattle.rules.specs.Branches as Rules
 use Rattle.rules.specs.Run.{clause_words, clause_records, atom_records}
 
 -- n words from `from` on, at `to`

@@ -1,5 +1,5 @@
 -- One clause more of the pass. Assumes nothing.
-use Rattle.std.specs.Prelude.{◌≡◌, refl, List, ◌++◌, ℕ, suc, ◌+◌, ◌*◌, ◌≤◌, length, take, drop}
+use Rattle.std.specs.Prelude.{◌≡◌, refl, Some, None, Ok, Err, List, ◌++◌, ℕ, suc, ◌+◌, ◌*◌, ◌≤◌, length, take, drop}
 use Rattle.std.proofs.Common.{ap, ◌∙◌, arith, length-append}
 use Rattle.std.proofs.Math.Option.{Option, none, some}
 use Rattle.std.proofs.lemmas.List.Edits.{sets}
@@ -14,7 +14,8 @@ use Rattle.tables.specs.ClauseLaws.{first_put_lem, body_put_lem}
 use Rattle.branches.specs.Layout.{most_named, body_at}
 use Rattle.naming.specs.GoesLaws.{Goes}
 use Rattle.branches.specs.declared.memo.Naming.{Naming}
-use Rattle.naming.specs.declared.name.Reduced.TheVariants as Reduceds
+use Rattle.ir.specs.declared.refusal.Refusal.{Refusal}
+use Rattle.ir.specs.declared.refusal.Refusal.TheVariants.{NoRoom}
 use Rattle.decomposition.specs.Bodies.{reduced, PartsThere, OneBy}
 use Rattle.decomposition.specs.Placing.{moved}
 use Rattle.decomposition.specs.Turning.{no_clause, no_name, Passed, TurnThere}
@@ -24,7 +25,7 @@ use Rattle.decomposition.specs.RestLaws.{from_next, from_goes}
 use Rattle.decomposition.specs.RowLaws.{run_moved, run_new, atoms_words}
 
 -- a new body is no longer than the old
-to_short : (w : List ℕ) (s m : Naming) (x : Clause) (k : ℕ) (r : Res Rules.Naming (Option (List Atom))) → OneBy w s x r (Reduceds.To m k) → k ≤ length x.body
+to_short : (w : List ℕ) (s m : Naming) (x : Clause) (k : ℕ) (r : Res Rules.Naming (Option (List Atom))) → OneBy w s x r (Ok (Some (m, k))) → k ≤ length x.body
 to_short w s m x k (ok (some b) z) T = T.shorter
 to_short w s m x k (ok none z) T = absurd T
 to_short w s m x k (refused e) T = absurd T
@@ -36,10 +37,10 @@ module _ (l : List Clause) (fresh : ℕ) (c a w c' a' : List ℕ) (s : Naming) (
       P.same ∙ ap (λ (t : List Clause). decompose_from P.done t P.state) K.split ∙ from_next P.done K.clause (drop (i + 1) l) P.state o y e
 
   -- its branches have no room
-  pub turn_full : (w' : List ℕ) (e : ℕ) → OneBy w' s K.clause (reduced K.clause P.state) (Reduceds.Refused e) → (e ≡ 12) × Goes (suc most_named) (decompose_from no_clause l (no_name fresh))
+  pub turn_full : (w' : List ℕ) (e : Refusal) → OneBy w' s K.clause (reduced K.clause P.state) (Err e) → (e ≡ NoRoom) × Goes (suc most_named) (decompose_from no_clause l (no_name fresh))
   turn_full w' e o = go (reduced K.clause P.state) refl o
     where
-      go : (r : Res Rules.Naming (Option (List Atom))) → reduced K.clause P.state ≡ r → OneBy w' s K.clause r (Reduceds.Refused e) → (e ≡ 12) × Goes (suc most_named) (decompose_from no_clause l (no_name fresh))
+      go : (r : Res Rules.Naming (Option (List Atom))) → reduced K.clause P.state ≡ r → OneBy w' s K.clause r (Err e) → (e ≡ NoRoom) × Goes (suc most_named) (decompose_from no_clause l (no_name fresh))
       go (ok none y) q f = (f.0, rw (next_same none y q) (from_goes (rewrite P.done K.clause none) (drop (i + 1) l) y (suc most_named) f.1))
       go (ok (some b) y) q f = (f.0, rw (next_same (some b) y q) (from_goes (rewrite P.done K.clause (some b)) (drop (i + 1) l) y (suc most_named) f.1))
       go (refused k) q f = absurd f
@@ -49,11 +50,11 @@ module _ (l : List Clause) (fresh : ℕ) (c a w c' a' : List ℕ) (s : Naming) (
     long = run_long l c' a' i K first nb nh ef eb eh
 
     -- it stays whole
-    pub turn_whole : (w' c'' a'' : List ℕ) (t : ℕ) → OneBy w' s K.clause (reduced K.clause P.state) Reduceds.None → c'' ≡ first_put c' i to → a'' ≡ moved a' (6 * first) (6 * to) (6 * (nb + nh)) → t ≡ to + (nb + nh)
+    pub turn_whole : (w' c'' a'' : List ℕ) (t : ℕ) → OneBy w' s K.clause (reduced K.clause P.state) (Ok None) → c'' ≡ first_put c' i to → a'' ≡ moved a' (6 * first) (6 * to) (6 * (nb + nh)) → t ≡ to + (nb + nh)
         → Passed l fresh c a w' c'' a'' s (i + 1) t n
     turn_whole w' c'' a'' t o ec ea et = go (reduced K.clause P.state) refl o
       where
-        go : (r : Res Rules.Naming (Option (List Atom))) → reduced K.clause P.state ≡ r → OneBy w' s K.clause r Reduceds.None → Passed l fresh c a w' c'' a'' s (i + 1) t n
+        go : (r : Res Rules.Naming (Option (List Atom))) → reduced K.clause P.state ≡ r → OneBy w' s K.clause r (Ok None) → Passed l fresh c a w' c'' a'' s (i + 1) t n
         go (ok none y) q f = record {
           done = rewrite P.done K.clause none;
           state = y;
@@ -71,11 +72,11 @@ module _ (l : List Clause) (fresh : ℕ) (c a w c' a' : List ℕ) (s : Naming) (
         go (refused k) q f = absurd f
 
     -- it has a new body
-    pub turn_rewritten : (w' c'' a'' : List ℕ) (m : Naming) (k t : ℕ) → OneBy w' s K.clause (reduced K.clause P.state) (Reduceds.To m k) → to ≤ first → c'' ≡ body_put (first_put c' i to) i k
+    pub turn_rewritten : (w' c'' a'' : List ℕ) (m : Naming) (k t : ℕ) → OneBy w' s K.clause (reduced K.clause P.state) (Ok (Some (m, k))) → to ≤ first → c'' ≡ body_put (first_put c' i to) i k
         → a'' ≡ moved (sets a' (6 * to) (take (6 * k) (drop (6 * body_at) w'))) (6 * (first + nb)) (6 * (to + k)) (6 * nh) → t ≡ to + k + nh → Passed l fresh c a w' c'' a'' m (i + 1) t (n + 1)
     turn_rewritten w' c'' a'' m k t o low ec ea et = go (reduced K.clause P.state) refl o
       where
-        go : (r : Res Rules.Naming (Option (List Atom))) → reduced K.clause P.state ≡ r → OneBy w' s K.clause r (Reduceds.To m k) → Passed l fresh c a w' c'' a'' m (i + 1) t (n + 1)
+        go : (r : Res Rules.Naming (Option (List Atom))) → reduced K.clause P.state ≡ r → OneBy w' s K.clause r (Ok (Some (m, k))) → Passed l fresh c a w' c'' a'' m (i + 1) t (n + 1)
         go (ok (some b) y) q f =
             let head : List Atom = K.clause.head in
             let nh_is : nh ≡ length head = eh ∙ K.is.head in
@@ -125,5 +126,5 @@ module _ {w c' a' : List ℕ} {s : Naming} {i to n : ℕ} (T : TurnThere w c' a'
   }
 
   -- a new body of k atoms is no longer than the old
-  pub there_shorter : (w' : List ℕ) (m : Naming) (k : ℕ) → OneBy w' s (there T).clause (reduced (there T).clause T.passed.state) (Reduceds.To m k) → k ≤ nb
+  pub there_shorter : (w' : List ℕ) (m : Naming) (k : ℕ) → OneBy w' s (there T).clause (reduced (there T).clause T.passed.state) (Ok (Some (m, k))) → k ≤ nb
   there_shorter w' m k o = omega (arith, to_short w' s m (there T).clause k (reduced (there T).clause T.passed.state) o, eb, (there T).is.body)

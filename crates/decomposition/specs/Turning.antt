@@ -1,6 +1,8 @@
 -- The pass over the clauses of a list: what stands in the tables before it, and after its first i clauses.
-use Rattle.std.specs.Prelude.{◌≡◌, List, [], ℕ, suc, ◌+◌, ◌<◌, ◌≤◌, length, drop}
+use Rattle.std.specs.Prelude.{◌≡◌, Result, Ok, Err, List, [], ℕ, suc, ◌+◌, ◌<◌, ◌≤◌, length, drop}
 use Rattle.ir.specs.declared.counters.Counters.{Counters}
+use Rattle.ir.specs.declared.refusal.Refusal.{Refusal}
+use Rattle.ir.specs.declared.refusal.Refusal.TheVariants.{NoRoom}
 use Rattle.rules.specs.Deck.{most_roles}
 use Rattle.rules.specs.State.{Clause}
 use Rattle.rules.specs.Branches.{Rewritten, decompose_from}
@@ -13,8 +15,7 @@ use Rattle.naming.specs.GoesLaws.{Goes}
 use Rattle.branches.specs.declared.memo.Naming.{Naming}
 use Rattle.decomposition.specs.Placing.{Half}
 use Rattle.decomposition.specs.Decomposing.{Decomposing}
-use Rattle.decomposition.specs.declared.turn.Turned.{Turned}
-use Rattle.decomposition.specs.declared.turn.Turned.TheVariants as Turneds
+use Rattle.decomposition.specs.declared.turn.Progress.{Progress}
 
 -- no clause yet, and no branch
 abbrev pub no_clause : Rewritten
@@ -54,9 +55,9 @@ pub record TurnThere (w c' a' : List ℕ) (s : Naming) (i to n : ℕ) : Type 0 w
   pub passed : Passed list fresh c a w c' a' s i to n
 
 -- the code's answer for clause i: a refusal where the rule names more than there is room for
-abbrev pub TurnedBy : List Clause → ℕ → (c a w c' a' : List ℕ) → ℕ → Turned → Type 0
-TurnedBy l fresh c a w c' a' i (Turneds.On s to n) = Passed l fresh c a w c' a' s (i + 1) to n
-TurnedBy l fresh c a w c' a' i (Turneds.Refused e) = (e ≡ 12) × Goes (suc most_named) (decompose_from no_clause l (no_name fresh))
+abbrev pub TurnedBy : List Clause → ℕ → (c a w c' a' : List ℕ) → ℕ → Result Progress Refusal → Type 0
+TurnedBy l fresh c a w c' a' i (Ok p) = Passed l fresh c a w c' a' p.naming (i + 1) p.atoms p.rewritten
+TurnedBy l fresh c a w c' a' i (Err e) = (e ≡ NoRoom) × Goes (suc most_named) (decompose_from no_clause l (no_name fresh))
 
 -- the same of a drawn state's clauses; after all of them
 abbrev pub DrawnPassed : (k : Counters) (c a : List ℕ) → Decomposing k c a → (w c' a' : List ℕ) → Naming → (i to n : ℕ) → Type 0

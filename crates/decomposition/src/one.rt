@@ -12,24 +12,23 @@ ghost use Rattle.branches.specs.Memo.{NamedHeld, NamedThere};
 ghost use Rattle.branches.specs.Edges.{KeepIs};
 ghost use Rattle.decomposition.specs.Bodies.{reduced, PartsThere, OneBy, OnlyKeep};
 
+use branches::atom::{Atoms, ROLE};
 use branches::layout::{BODY, KEEP};
 use branches::memo::Naming;
-use branches::vars;
+use branches::place::place;
+use branches::{atom, vars};
+use ir::refusal::Refusal;
 use naming::name;
-use naming::name::Reduced;
 use tables::read;
 
 // All atoms of a body are class and role atoms.
 fn is_plain(body: &[u8]) -> bool
     ensures { (l : List Atom) → Run body.now l → result ≡ not (any (λ a. not (is_tree_atom a)) l) }
 {
-    let count = read::atom_room(body);
-    let mut i: usize = 0;
-    while i < count {
-        if 2 < words::get_word(body, 6 * i) {
+    for i in 0..read::atom_room(body) {
+        if ROLE < atom::kind(body, i) {
             return false;
         }
-        i += 1;
     }
     true
 }
@@ -40,15 +39,8 @@ fn keep_var(scratch: &mut [u8], n: u32, v: u32) -> u32
     ensures by_index { (kept : List ℕ) → KeepIs (words scratch.old) n kept → KeepIs (words scratch.new) result (add_var kept v) }
     ensures upper_bound { (result ≤ n + 1) × OnlyKeep (words scratch.old) (words scratch.new) }
 {
-    if v == 0 {
+    if v == 0 || place(scratch, KEEP, n as usize, v).is_some() {
         return n;
-    }
-    let mut i: u32 = 0;
-    while i < n {
-        if words::get_word(scratch, KEEP + i as usize) == v {
-            return n;
-        }
-        i += 1;
     }
     words::put_word(scratch, KEEP + n as usize, v);
     n + 1
@@ -60,30 +52,34 @@ fn head_vars(scratch: &mut [u8], head: &[u8]) -> u32
     ensures keep_is { (l : List Atom) → Run head.now l → KeepIs (words scratch.new) result (head_vars l) }
     ensures upper_bound { (result ≤ 512) × OnlyKeep (words scratch.old) (words scratch.new) }
 {
-    let count = read::atom_room(head);
     let mut n: u32 = 0;
-    let mut i: usize = 0;
-    while i < count {
-        n = keep_var(scratch, n, words::get_word(head, 6 * i + 4));
-        n = keep_var(scratch, n, words::get_word(head, 6 * i + 5));
-        i += 1;
+    for i in 0..read::atom_room(head) {
+        n = keep_var(scratch, n, atom::var(head, i));
+        n = keep_var(scratch, n, atom::other(head, i));
     }
     n
 }
 
-// The clause of this body and this head: its new body, from record BODY on, if something in it is named.
-pub fn decompose_one(scratch: &mut [u8], body: &[u8], head: &[u8], s: Naming) -> Reduced
+// The clause of this body and this head: the numbers then, and how many atoms its new body has, from record BODY on, if something
+// in it is named.
+pub fn decompose_one(
+    scratch: &mut [u8],
+    body: &[u8],
+    head: &[u8],
+    s: Naming,
+) -> Result<Option<(Naming, u32)>, Refusal>
     requires { PartsThere body.now head.now × NamedThere (words scratch.old) s × (s.first ≤ 1100000) × (4 * work_words ≤ length scratch.old) }
     ensures { (x : Clause) (z : Rules.Naming) → Run body.now x.body → Run head.now x.head → NamedHeld (words scratch.old) s z → OneBy (words scratch.new) s x (reduced x z) result }
 {
     if !vars::is_wide(body, 0) {
-        return Reduced::None;
+        return Ok(None);
     }
     if !is_plain(body) {
-        return Reduced::None;
+        return Ok(None);
     }
     let keep = head_vars(scratch, head);
     words::copy_words(scratch, 6 * BODY, body);
     let count = read::atom_room(body) as u32;
-    name::name_branches(scratch, s, BODY, count, 0, keep)
+    let base = BODY;
+    name::name_branches(scratch, s, Atoms { base, count }, 0, keep)
 }

@@ -60,10 +60,8 @@ fn put_branch(scratch: &[u8], atoms: &mut [u8], p: usize, n: u32, at: usize, nam
     requires { (4 * (p + n) ≤ length scratch.now) × (24 * (at + n + 1) ≤ length atoms.old) × ((l : List Atom) × Each Packable l × (n ≡ length l) × At (words scratch.now) p (map packed l)) × (name < 2097152) }
     ensures { (l : List Atom) → Each Packable l → n ≡ length l → At (words scratch.now) p (map packed l) → words atoms.new ≡ sets (words atoms.old) (6 * at) (flat (l ++ (Class name 0 ∷ []))) }
 {
-    let mut j: usize = 0;
-    while j < n as usize {
+    for j in 0..n as usize {
         record::put_atom(atoms, at + j, pack::unpack(words::get_word(scratch, p + j)));
-        j += 1;
     }
     record::put_atom(atoms, at + n as usize, Atom::Class(name, 0));
 }
@@ -76,13 +74,11 @@ pub fn put_named(scratch: &[u8], clauses: &mut [u8], atoms: &mut [u8], s: Naming
 {
     let mut p: usize = NAMED;
     let mut a = to;
-    let mut i: u32 = 0;
-    while i < s.named {
+    for i in 0..s.named {
         let n = words::get_word(scratch, p);
         write::put_clause(clauses, (c + i) as usize, a, n, 1);
         put_branch(scratch, atoms, p + 1, n, a as usize, s.first + i);
         a += n + 1;
         p += n as usize + 1;
-        i += 1;
     }
 }

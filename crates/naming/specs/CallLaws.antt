@@ -1,9 +1,10 @@
 -- The name of a child: the rule's, below 2^21, and the first name stays. Assumes nothing.
-use Rattle.std.specs.Prelude.{Bool, true, false, ◌≡◌, refl, List, [], ◌∷◌, ◌++◌, map, ℕ, suc, ◌+◌, ◌≤◌, ◌<◌, length, get_or}
+use Rattle.std.specs.Prelude.{Bool, true, false, Result, Ok, Err, ◌≡◌, refl, List, [], ◌∷◌, ◌++◌, map, ℕ, suc, ◌+◌, ◌≤◌, ◌<◌, length, get_or}
 use Rattle.std.proofs.Common.{subst, ◌∙◌, arith, length-append}
 use Rattle.std.proofs.Math.Option.{Option, none, some}
 use Rattle.std.proofs.lemmas.List.{length-map}
 use Rattle.ir.specs.declared.atom.Atom.{Atom}
+use Rattle.ir.specs.declared.refusal.Refusal.{Refusal}
 use Rattle.ir.specs.declared.atom.Atom.TheVariants.{Class}
 use Rattle.rules.specs.Base.{Res, ok, refused, then}
 use Rattle.rules.specs.Reflexive.{same_atoms}
@@ -11,14 +12,11 @@ use Rattle.rules.specs.Branches.{Branch, branch_name, memo_of, name_or_new, name
 use Rattle.rules.specs.Branches as Rules
 use Rattle.branches.specs.Layout.{most_named, body_at, copy_at}
 use Rattle.branches.specs.Wide.{AtomsAre}
-use Rattle.branches.specs.Memo.{packed, TameThere, named_words, no_branch, NamedHeld, NamedThere, Named, NamedBy, OnlyMemo}
+use Rattle.branches.specs.Memo.{packed, TameThere, named_words, no_branch, NamedHeld, NamedThere, NamedBy, OnlyMemo}
 use Rattle.naming.specs.Names.{To, OnlyNames}
 use Rattle.naming.specs.Splits.{split_rule, group_rule, SplitBy, CalledBy}
 use Rattle.naming.specs.GoesLaws.{Goes, name_goes}
 use Rattle.branches.specs.declared.memo.Naming.{Naming}
-use Rattle.branches.specs.declared.memo.Name.{Name}
-use Rattle.branches.specs.declared.memo.Name.TheVariants as Names
-use Rattle.naming.specs.declared.name.Reduced.TheVariants as Reduceds
 
 -- ---- how much is named
 named_least : (l : List Branch) → length l ≤ length (named_words l)
@@ -65,12 +63,14 @@ name_next body y st e f h = go (memo_of y.named body) refl h
         subst (λ (v : Rules.Naming). Next y v e) b (record { fresh = omega (arith, length-append y.named (new ∷ [])); small = omega arith })
 
 -- ---- the answer
-module _ (w1 w2 : List ℕ) (base count root : ℕ) (s m : Naming) (n : ℕ) (r : Name) (first : s.first ≤ 1100000)
+module _ (w1 w2 : List ℕ) (base count root : ℕ) (s m : Naming) (n : ℕ) (r : Result (Naming × ℕ) Refusal) (first : s.first ≤ 1100000)
     (N : (l : List Atom) (z : Rules.Naming) → AtomsAre w1 base n l → NamedHeld w1 m z → NamedBy w2 (renumber l root) z r) where
-  called_go : (b : List Atom) (y : Rules.Naming) → To w1 base count b y s m n → (q : Name) → NamedBy w2 (renumber b root) y q
+  called_go : (b : List Atom) (y : Rules.Naming) → To w1 base count b y s m n → (q : Result (Naming × ℕ) Refusal) → NamedBy w2 (renumber b root) y q
       → CalledBy w2 root s (then (name_of (renumber b root) y) (λ e x. ok (Class e root) x)) q
   unfolding name_of
-  called_go b y T (Names.Named t e) D =
+  called_go b y T (Ok q) D =
+      let t = q.0 in
+      let e = q.1 in
       let H = T.held in
       let K = D.held in
       let X = name_next (renumber b root) y D.state e (λ i h. omega (arith, H.names i (omega (arith, H.many)), H.next, H.many)) D.is in
@@ -81,35 +81,28 @@ module _ (w1 w2 : List ℕ) (base count root : ℕ) (s m : Naming) (n : ℕ) (r 
         first = fi ∙ T.first;
         small = omega (arith, X.small, K.next, fi, T.first, named_few w2 t D.state K);
       })
-  called_go b y T (Names.Refused x) D =
+  called_go b y T (Err x) D =
       rw D.1 (D.0, omega (arith, D.2, named_one y.named (record { body = renumber b root; name = y.next_fresh })))
 
-  called_by : (o : Res Rules.Naming (List Atom)) → SplitBy w1 base count s o (Reduceds.To m n)
+  called_by : (o : Res Rules.Naming (List Atom)) → SplitBy w1 base count s o (Ok (m, n))
       → CalledBy w2 root s (then o (λ sub y. then (name_of (renumber sub root) y) (λ e x. ok (Class e root) x))) r
   called_by (ok b y) T = called_go b y T r (N b y T.atoms T.held)
   called_by (refused k) T = absurd T
 
-  pub call_name : (f : ℕ) (l : List Atom) (t : ℕ) (z : Rules.Naming) → SplitBy w1 base count s (split_rule f l root t z) (Reduceds.To m n) → CalledBy w2 root s (group_rule f l root t z) r
+  pub call_name : (f : ℕ) (l : List Atom) (t : ℕ) (z : Rules.Naming) → SplitBy w1 base count s (split_rule f l root t z) (Ok (m, n)) → CalledBy w2 root s (group_rule f l root t z) r
   unfolding group_rule split_rule
   call_name f l t z T = called_by (split_rule f l root t z) T
 
-pub call_none : (w1 w2 : List ℕ) (base count root : ℕ) (s : Naming) (f : ℕ) (l : List Atom) (t : ℕ) (z : Rules.Naming) (r : Name) → SplitBy w1 base count s (split_rule f l root t z) Reduceds.None → CalledBy w2 root s (group_rule f l root t z) r
-call_none w1 w2 base count root s f l t z r T = go (split_rule f l root t z) T
-  where
-    go : (o : Res Rules.Naming (List Atom)) → SplitBy w1 base count s o Reduceds.None → CalledBy w2 root s (group_rule f l root t z) r
-    go (ok b y) D = absurd D
-    go (refused k) D = absurd D
-
-full_then : (w1 w2 : List ℕ) (base count root : ℕ) (s : Naming) (x : ℕ) (o : Res Rules.Naming (List Atom)) → SplitBy w1 base count s o (Reduceds.Refused x)
-    → CalledBy w2 root s (then o (λ sub y. then (name_of (renumber sub root) y) (λ e z. ok (Class e root) z))) (Names.Refused x)
+full_then : (w1 w2 : List ℕ) (base count root : ℕ) (s : Naming) (x : Refusal) (o : Res Rules.Naming (List Atom)) → SplitBy w1 base count s o (Err x)
+    → CalledBy w2 root s (then o (λ sub y. then (name_of (renumber sub root) y) (λ e z. ok (Class e root) z))) (Err x)
 full_then w1 w2 base count root s x (ok b y) D = go (name_of (renumber b root) y) (name_goes (renumber b root) y (length (named_words y.named)) (omega arith))
   where
-    go : (o : Res Rules.Naming ℕ) → Goes (length (named_words y.named)) o → CalledBy w2 root s (then o (λ e z. ok (Class e root) z)) (Names.Refused x)
+    go : (o : Res Rules.Naming ℕ) → Goes (length (named_words y.named)) o → CalledBy w2 root s (then o (λ e z. ok (Class e root) z)) (Err x)
     go (ok e z) g = (D.0, omega (arith, D.1, g))
     go (refused k) g = absurd g
 full_then w1 w2 base count root s x (refused k) D = absurd D
 
-pub call_full : (w1 w2 : List ℕ) (base count root : ℕ) (s : Naming) (f : ℕ) (l : List Atom) (t : ℕ) (z : Rules.Naming) (x : ℕ) → SplitBy w1 base count s (split_rule f l root t z) (Reduceds.Refused x) → CalledBy w2 root s (group_rule f l root t z) (Names.Refused x)
+pub call_full : (w1 w2 : List ℕ) (base count root : ℕ) (s : Naming) (f : ℕ) (l : List Atom) (t : ℕ) (z : Rules.Naming) (x : Refusal) → SplitBy w1 base count s (split_rule f l root t z) (Err x) → CalledBy w2 root s (group_rule f l root t z) (Err x)
 unfolding group_rule split_rule
 call_full w1 w2 base count root s f l t z x T = full_then w1 w2 base count root s x (split_rule f l root t z) T
 
@@ -121,7 +114,7 @@ pub record SplitThere (w : List ℕ) (base count : ℕ) (s m : Naming) (n : ℕ)
   pub first : m.first ≡ s.first
   pub few : m.named ≤ most_named
 
-pub split_there : (w : List ℕ) (base count : ℕ) (s m : Naming) (n : ℕ) (o : Res Rules.Naming (List Atom)) → SplitBy w base count s o (Reduceds.To m n) → SplitThere w base count s m n
+pub split_there : (w : List ℕ) (base count : ℕ) (s m : Naming) (n : ℕ) (o : Res Rules.Naming (List Atom)) → SplitBy w base count s o (Ok (m, n)) → SplitThere w base count s m n
 split_there w base count s m n (ok b y) T = record {
   tame = record { list = b; are = T.atoms; tame = T.tame };
   named = record { state = y; held = T.held };

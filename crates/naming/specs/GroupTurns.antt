@@ -1,5 +1,5 @@
 -- The root's children one after the other. Assumes nothing.
-use Rattle.std.specs.Prelude.{Bool, false, ◌≡◌, ℕ, zero, suc, ◌+◌, ◌*◌, ◌-◌, ◌≤◌, ◌<◌, get_or, take, drop}
+use Rattle.std.specs.Prelude.{Bool, false, Some, None, Ok, Err, ◌≡◌, ℕ, zero, suc, ◌+◌, ◌*◌, ◌-◌, ◌≤◌, ◌<◌, get_or, take, drop}
 use Rattle.std.proofs.Math.Bool.{true}
 use Rattle.std.proofs.Math.Path.{refl, sym, ap, subst}
 use Rattle.std.proofs.Common.{◌∙◌, arith, length-drop, drop_of_length-le, length-take-le}
@@ -7,6 +7,7 @@ use mathlib.Core.List.{List, [], ◌∷◌, ◌++◌, append-nil, append_assoc}
 use Rattle.std.proofs.Math.Option.{Option, none, some}
 use Rattle.std.proofs.Math.ListN.{length, length-append}
 use Rattle.ir.specs.declared.atom.Atom.{Atom}
+use Rattle.ir.specs.declared.refusal.Refusal.{Refusal}
 use Rattle.rules.specs.Base.{Res, ok, refused, then}
 use Rattle.rules.specs.Run.{flat}
 use Rattle.rules.specs.DecodeLaws.{flat_long, flat_append}
@@ -20,14 +21,11 @@ use Rattle.branches.specs.Memo.{Tame, named_words, NamedHeld, NamedThere}
 use Rattle.branches.specs.Edges.{KeepIs}
 use Rattle.branches.specs.Grouped.{no_group, all_of}
 use Rattle.branches.specs.Sorting.{sum}
-use Rattle.naming.specs.Names.{ReducedBy, OnlyNames}
-use Rattle.naming.specs.Splits.{Full, group_rule, child_of, groups_rule, Standing, StandingThere, TurnedBy, Filled, Laid, LaidThere}
+use Rattle.naming.specs.Names.{Full, ReducedBy, OnlyNames}
+use Rattle.naming.specs.Splits.{Turned, group_rule, child_of, groups_rule, Standing, StandingThere, TurnedBy, Filled, Laid, LaidThere}
 use Rattle.naming.specs.GoesLaws.{Goes, rest_goes}
 use Rattle.naming.specs.AgreeLaws.{keep_stay}
 use Rattle.branches.specs.declared.memo.Naming.{Naming}
-use Rattle.naming.specs.declared.name.Reduced.TheVariants as Reduceds
-use Rattle.naming.specs.declared.name.Turned.{Turned}
-use Rattle.naming.specs.declared.name.Turned.TheVariants as Turneds
 
 -- ---- the sizes
 pub sum_all : (l : List (ℕ × List Atom)) (cs : List ℕ) (r : ℕ) → r ≡ length l → r ≤ length cs → ((i : ℕ) → i < r → get_or cs i 0 ≡ length (get_or l i no_group).1) → sum (take r cs) ≡ length (all_of l)
@@ -206,7 +204,7 @@ module _ (w₀ tops counts : List ℕ) (base count r root keep : ℕ) (s : Namin
           -- after it
           module _ (w' : List ℕ) where
             next_go : (n : Naming) (q' : ℕ) (b : Bool) (o : Res Rules.Naming (List Atom × Bool)) → child_of f root t child.1 any (mentions kept child.1) D.state ≡ o
-                → TurnedBy w' base q (p + c) D.result (all_of after) m o (Turneds.On n q' b) → Left base count root f (i + 1) kept g z s w' n b (p + c) q'
+                → TurnedBy w' base q (p + c) D.result (all_of after) m o (Ok (n, q', b)) → Left base count root f (i + 1) kept g z s w' n b (p + c) q'
             next_go n q' b (ok o y) e T = record {
               result = D.result ++ o.0;
               state = y;
@@ -227,25 +225,25 @@ module _ (w₀ tops counts : List ℕ) (base count r root keep : ℕ) (s : Namin
             }
             next_go n q' b (refused k) e T = absurd T
 
-            pub left_next : (n : Naming) (q' : ℕ) (b : Bool) → TurnedBy w' base q (p + c) D.result (all_of after) m (child_of f root t child.1 any (mentions kept child.1) D.state) (Turneds.On n q' b)
+            pub left_next : (n : Naming) (q' : ℕ) (b : Bool) → TurnedBy w' base q (p + c) D.result (all_of after) m (child_of f root t child.1 any (mentions kept child.1) D.state) (Ok (n, q', b))
                 → Left base count root f (i + 1) kept g z s w' n b (p + c) q'
             left_next n q' b T = next_go n q' b (child_of f root t child.1 any (mentions kept child.1) D.state) refl T
 
             -- no room: the rule goes on, and takes nothing back
-            stop_goes : (x : ℕ) (y : Rules.Naming) (o : Res Rules.Naming (Option (List Atom))) → Full x y → Goes (length (named_words y.named)) o → (l : List Atom) → ReducedBy w' base count l kept s o (Reduceds.Refused x)
+            stop_goes : (x : Refusal) (y : Rules.Naming) (o : Res Rules.Naming (Option (List Atom))) → Full x y → Goes (length (named_words y.named)) o → (l : List Atom) → ReducedBy w' base count l kept s o (Err x)
             stop_goes x y (ok (some b) v) F G l = (F.0, omega (arith, F.1, G))
             stop_goes x y (ok none v) F G l = (F.0, omega (arith, F.1, G))
             stop_goes x y (refused k) F G l = absurd G
 
-            stop_go : (x : ℕ) (o : Res Rules.Naming (List Atom × Bool)) → count ≤ f → TurnedBy w' base q (p + c) D.result (all_of after) m o (Turneds.Refused x)
-                → (l : List Atom) → ReducedBy w' base count l kept s (then o (λ o y. rest f root kept after (D.result ++ o.0) o.1 y)) (Reduceds.Refused x)
+            stop_go : (x : Refusal) (o : Res Rules.Naming (List Atom × Bool)) → count ≤ f → TurnedBy w' base q (p + c) D.result (all_of after) m o (Err x)
+                → (l : List Atom) → ReducedBy w' base count l kept s (then o (λ o y. rest f root kept after (D.result ++ o.0) o.1 y)) (Err x)
             stop_go x (ok o y) k F l =
                 stop_goes x y (rest f root kept after (D.result ++ o.0) o.1 y) F
                 (rest_goes f root kept after (D.result ++ o.0) o.1 y (length (named_words y.named)) (omega (arith, standing.all, standing.below, standing.here)) (omega arith)) l
             stop_go x (refused j) k F l = absurd F
 
-            pub left_stop : (x : ℕ) → count ≤ f → TurnedBy w' base q (p + c) D.result (all_of after) m (child_of f root t child.1 any (mentions kept child.1) D.state) (Turneds.Refused x)
-                → (l : List Atom) → ReducedBy w' base count l kept s (groups_rule f root kept g z) (Reduceds.Refused x)
+            pub left_stop : (x : Refusal) → count ≤ f → TurnedBy w' base q (p + c) D.result (all_of after) m (child_of f root t child.1 any (mentions kept child.1) D.state) (Err x)
+                → (l : List Atom) → ReducedBy w' base count l kept s (groups_rule f root kept g z) (Err x)
             left_stop x k F l = rw rule_on (stop_go x (child_of f root t child.1 any (mentions kept child.1) D.state) k F l)
 
     -- the end
@@ -261,7 +259,7 @@ module _ (w₀ tops counts : List ℕ) (base count r root keep : ℕ) (s : Namin
       unfolding all_of
       all_end = let n : length (all_of (drop i g.groups)) ≡ 0 = ap (λ (x : List (ℕ × List Atom)). length (all_of x)) out in omega (arith, n, D.all)
 
-      pub left_some : any ≡ true → ReducedBy w base count (g.root_atoms ++ all_of g.groups) kept s (groups_rule f root kept g z) (Reduceds.To m (q - base))
+      pub left_some : any ≡ true → ReducedBy w base count (g.root_atoms ++ all_of g.groups) kept s (groups_rule f root kept g z) (Ok (Some (m, q - base)))
       left_some e = rw (rule_end, e) (record {
         atoms = record { long = omega (arith, D.place); there = D.done };
         tame = D.tame;
@@ -274,7 +272,7 @@ module _ (w₀ tops counts : List ℕ) (base count r root keep : ℕ) (s : Namin
       unfolding all_of
       result_is e = sym (append-nil D.result) ∙ ap (λ (x : List (ℕ × List Atom)). D.result ++ all_of x) (sym out) ∙ D.same e
 
-      pub left_none : any ≡ false → ReducedBy w base count (g.root_atoms ++ all_of g.groups) kept s (groups_rule f root kept g z) Reduceds.None
+      pub left_none : any ≡ false → ReducedBy w base count (g.root_atoms ++ all_of g.groups) kept s (groups_rule f root kept g z) (Ok None)
       left_none e = rw (rule_end, e) (record {
         atoms = λ k. record { long = L.arranged.atoms.long; there = subst (λ (x : List Atom). At w (6 * base) (flat x)) (result_is e) D.done };
         held = subst (λ (x : Naming). NamedHeld w x D.state) (D.quiet e) D.held;
@@ -346,11 +344,11 @@ module _ (w₀ tops counts : List ℕ) (base count r root keep : ℕ) (s : Namin
           (keep_stay w₀ w same keep kept Y.only.keep K)
           (omega (arith, k, child_most))
 
-      most_go : (n : Naming) (q' : ℕ) (b : Bool) (result rest : List Atom) (o : Res Rules.Naming (List Atom × Bool)) → TurnedBy w' base q (p + c) result rest m o (Turneds.On n q' b) → q' ≤ p + c
+      most_go : (n : Naming) (q' : ℕ) (b : Bool) (result rest : List Atom) (o : Res Rules.Naming (List Atom × Bool)) → TurnedBy w' base q (p + c) result rest m o (Ok (n, q', b)) → q' ≤ p + c
       most_go n q' b result rest (ok o y) D = D.below
       most_go n q' b result rest (refused k) D = absurd D
 
-      pub walk_next : (n : Naming) (q' : ℕ) (b : Bool) → z ≡ Turneds.On n q' b → Walk w₀ tops counts base count r root keep s w' n b (p + c) q' (i + 1)
+      pub walk_next : (n : Naming) (q' : ℕ) (b : Bool) → z ≡ Ok (n, q', b) → Walk w₀ tops counts base count r root keep s w' n b (p + c) q' (i + 1)
       walk_next n q' b e = record {
         here = omega (arith, h);
         below = most_go n q' b some_left.result (all_of (drop (i + 1) G.groups.groups)) (child_of count root t (get_or G.groups.groups i no_group).1 any (mentions some_kept (get_or G.groups.groups i no_group).1) some_left.state)
@@ -361,8 +359,8 @@ module _ (w₀ tops counts : List ℕ) (base count r root keep : ℕ) (s : Namin
             left_next w₀ tops counts base count r root keep s w m any p q i Y g L low high few fi h c t ec et x kept f D w' n q' b (rw e at (turned g L x kept f K k D));
       }
 
-      pub walk_stop : (x : ℕ) → z ≡ Turneds.Refused x → (g : Groups) (y : Rules.Naming) (kept : List ℕ) (f : ℕ) → Laid w₀ tops counts base count g r → NamedHeld w₀ s y → KeepIs w₀ keep kept → count ≤ f
-          → ReducedBy w' base count (g.root_atoms ++ all_of g.groups) kept s (groups_rule f root kept g y) (Reduceds.Refused x)
+      pub walk_stop : (x : Refusal) → z ≡ Err x → (g : Groups) (y : Rules.Naming) (kept : List ℕ) (f : ℕ) → Laid w₀ tops counts base count g r → NamedHeld w₀ s y → KeepIs w₀ keep kept → count ≤ f
+          → ReducedBy w' base count (g.root_atoms ++ all_of g.groups) kept s (groups_rule f root kept g y) (Err x)
       walk_stop x e g y kept f L H K k =
           let D = Y.left g y kept f L H K k in
           left_stop w₀ tops counts base count r root keep s w m any p q i Y g L low high few fi h c t ec et y kept f D w' x k (rw e at (turned g L y kept f K k D)) (g.root_atoms ++ all_of g.groups)

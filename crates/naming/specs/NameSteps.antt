@@ -1,5 +1,5 @@
 -- name_branches: the tree, the groups, and the children named. Assumes nothing.
-use Rattle.std.specs.Prelude.{Bool, false, refl, length}
+use Rattle.std.specs.Prelude.{Bool, false, Some, None, Ok, Err, refl, length}
 use Rattle.std.proofs.Math.Bool.{true}
 use Rattle.std.proofs.Math.Path.{◌≡◌}
 use Rattle.std.proofs.Common.{ap, subst, ◌∙◌, length-append}
@@ -19,13 +19,11 @@ use Rattle.branches.specs.Memo.{Tame, NamedHeld, NamedThere}
 use Rattle.branches.specs.Edges.{KeepIs}
 use Rattle.branches.specs.Trees.{Treed, TreeBy, TreeIs, OnlyTree}
 use Rattle.branches.specs.Grouped.{all_of, nothing, ArrangedBy, OnlyRecords}
-use Rattle.naming.specs.Names.{ReducedBy, OnlyNames}
+use Rattle.naming.specs.Names.{Reduced, ReducedBy, OnlyNames}
 use Rattle.naming.specs.Splits.{groups_rule, Laid}
 use Rattle.naming.specs.GroupLaws.{WellBy, grouped_well, grouped_alone, filled_few}
 use Rattle.naming.specs.AgreeLaws.{atoms_stay, named_stay, keep_stay}
 use Rattle.branches.specs.declared.memo.Naming.{Naming}
-use Rattle.naming.specs.declared.name.Reduced.{Reduced}
-use Rattle.naming.specs.declared.name.Reduced.TheVariants as Reduceds
 
 -- ---- a role atom is disconnected
 module _ (w w1 : List ℕ) (base count root : ℕ) (s : Naming) (long1 : length w1 ≡ length w) (low : body_at ≤ base) (high : base + count ≤ copy_at) (O1 : OnlyTree w w1) where
@@ -43,23 +41,23 @@ module _ (w w1 : List ℕ) (base count root : ℕ) (s : Naming) (long1 : length 
   }
 
   none_go : (again : List Atom → ℕ → List ℕ → W (Option (List Atom))) (l : List Atom) (z : Rules.Naming) (kept : List ℕ) → AtomsAre w base count l → NamedHeld w s z
-      → (t : Tree) (b : Bool) → TreeBy w1 root t b 0 → ReducedBy w1 base count l kept s (name_tree again l root kept t b z) Reduceds.None
+      → (t : Tree) (b : Bool) → TreeBy w1 root t b None → ReducedBy w1 base count l kept s (name_tree again l root kept t b z) (Ok None)
   none_go again l z kept A H t true e = record { atoms = λ k. tree_atoms l A; held = tree_held z H }
-  none_go again l z kept A H t false e = absurd (omega (arith, e.1))
+  none_go again l z kept A H t false e = absurd e
 
-  pub tree_none : (r : ℕ) → r ≡ 0 → (l : List Atom) (z : Rules.Naming) (kept : List ℕ) (f : ℕ) → AtomsAre w base count l → NamedHeld w s z → count < f → TreeIs w1 root l r
-      → ReducedBy w1 base count l kept s (name_by f l root kept z) Reduceds.None
+  pub tree_none : (l : List Atom) (z : Rules.Naming) (kept : List ℕ) (f : ℕ) → AtomsAre w base count l → NamedHeld w s z → count < f → TreeIs w1 root l None
+      → ReducedBy w1 base count l kept s (name_by f l root kept z) (Ok None)
   unfolding name_by name_step
-  tree_none r e l z kept zero A H k T = absurd (omega arith)
-  tree_none r e l z kept (suc f) A H k T = none_go (λ a b c. name_by f a b c) l z kept A H (tree_of l root) (any_disconnected l (tree_of l root).placed) (rw e at T)
+  tree_none l z kept zero A H k T = absurd (omega arith)
+  tree_none l z kept (suc f) A H k T = none_go (λ a b c. name_by f a b c) l z kept A H (tree_of l root) (any_disconnected l (tree_of l root).placed) T
 
 -- ---- the tree
-connected_go : (w : List ℕ) (root : ℕ) (t : Tree) (b : Bool) (r : ℕ) → (r ≡ 0 → ⊥) → TreeBy w root t b r → (b ≡ false) × Treed w root r t
-connected_go w root t true r h e = absurd (h e)
-connected_go w root t false r h e = (refl, e.0)
+connected_go : (w : List ℕ) (root : ℕ) (t : Tree) (b : Bool) (r : ℕ) → TreeBy w root t b (Some r) → (b ≡ false) × Treed w root r t
+connected_go w root t true r e = absurd e
+connected_go w root t false r e = (refl, e.0)
 
-pub connected : (w : List ℕ) (root : ℕ) (l : List Atom) (r : ℕ) → (r ≡ 0 → ⊥) → TreeIs w root l r → (any_disconnected l (tree_of l root).placed ≡ false) × Treed w root r (tree_of l root)
-connected w root l r h T = connected_go w root (tree_of l root) (any_disconnected l (tree_of l root).placed) r h T
+pub connected : (w : List ℕ) (root : ℕ) (l : List Atom) (r : ℕ) → TreeIs w root l (Some r) → (any_disconnected l (tree_of l root).placed ≡ false) × Treed w root r (tree_of l root)
+connected w root l r T = connected_go w root (tree_of l root) (any_disconnected l (tree_of l root).placed) r T
 
 -- ---- the groups, or all atoms the root's own where one is homeless
 abbrev pub groups_for : List Atom → Option Groups → Groups
@@ -67,16 +65,11 @@ groups_for l none = record { root_atoms = l; groups = [] }
 groups_for l (some g) = g
 
 module _ (w tops counts : List ℕ) (base count r : ℕ) (l : List Atom) (p : Each Tame l) where
-  laid_go : (o : Option Groups) → ArrangedBy w tops counts base count l o r → WellBy Tame (length l) o → Laid w tops counts base count (groups_for l o) r
-  unfolding all_of
-  laid_go none A G = record {
-    arranged = record { many = A.0; atoms = rw (append-nil l) A.1; children = λ i h. absurd (omega (arith, A.0)); sizes = λ i h. absurd (omega (arith, A.0)) };
-    tame = rw (append-nil l) p;
-    filled = tt;
-  }
+  laid_go : (o : Option Groups) → ArrangedBy w tops counts base count l o (Some r) → WellBy Tame (length l) o → Laid w tops counts base count (groups_for l o) r
+  laid_go none A G = absurd A
   laid_go (some g) A G = record { arranged = A; tame = each_append Tame g.root_atoms (all_of g.groups) G.own G.others; filled = G.filled }
 
-  pub laid_by : (root : ℕ) (parents : List (ℕ × ℕ)) → ArrangedBy w tops counts base count l (grouped parents root nothing l) r → Laid w tops counts base count (groups_for l (grouped parents root nothing l)) r
+  pub laid_by : (root : ℕ) (parents : List (ℕ × ℕ)) → ArrangedBy w tops counts base count l (grouped parents root nothing l) (Some r) → Laid w tops counts base count (groups_for l (grouped parents root nothing l)) r
   laid_by root parents A = laid_go (grouped parents root nothing l) A (grouped_well Tame parents root l p)
 
 pub laid_few : (w tops counts : List ℕ) (base count r : ℕ) (g : Groups) → Laid w tops counts base count g r → r ≤ count
@@ -93,6 +86,18 @@ step_is : (f root : ℕ) (kept : List ℕ) (l : List Atom) (z : Rules.Naming) �
     → name_by (suc f) l root kept z ≡ groups_rule f root kept (groups_for l (grouped (tree_of l root).parents root nothing l)) z
 unfolding name_by name_step
 step_is f root kept l z e = rw e (step_go f root kept l z (grouped (tree_of l root).parents root nothing l))
+
+-- an atom is homeless
+homeless_go : (w tops counts : List ℕ) (base count root : ℕ) (s : Naming) (l : List Atom) (kept : List ℕ) (f : ℕ) (z : Rules.Naming) (o : Option Groups) → ArrangedBy w tops counts base count l o None → NamedHeld w s z
+    → ReducedBy w base count l kept s (groups_rule f root kept (groups_for l o) z) (Ok None)
+unfolding groups_rule name_groups
+homeless_go w tops counts base count root s l kept f z none A H = record { atoms = λ k. A; held = H }
+homeless_go w tops counts base count root s l kept f z (some g) A H = absurd A
+
+pub homeless_none : (w tops counts : List ℕ) (base count root : ℕ) (s : Naming) (l : List Atom) (kept : List ℕ) (f : ℕ) (z : Rules.Naming) → any_disconnected l (tree_of l root).placed ≡ false → count < f
+    → ArrangedBy w tops counts base count l (grouped (tree_of l root).parents root nothing l) None → NamedHeld w s z → ReducedBy w base count l kept s (name_by f l root kept z) (Ok None)
+homeless_none w tops counts base count root s l kept zero z e h A H = absurd (omega arith)
+homeless_none w tops counts base count root s l kept (suc f) z e h A H = rw (step_is f root kept l z e) (homeless_go w tops counts base count root s l kept f z (grouped (tree_of l root).parents root nothing l) A H)
 
 -- ---- without variables to keep, nothing is named only where there is no group
 none_met : (vars : List ℕ) → any (contains []) vars ≡ false
@@ -152,12 +157,12 @@ module _ (w3 : List ℕ) (base count root : ℕ) (s : Naming) (l : List Atom) (k
   not_go y h e = own_go f root l parents z y (grouped parents root nothing l) refl (rw e at h)
 
   answer_go : (r : Reduced) (o : Res Rules.Naming (Option (List Atom))) → groups_rule f root kept made z ≡ o → ReducedBy w3 base count whole kept s o r → ReducedBy w3 base count l kept s o r
-  answer_go (Reduceds.To m n) (ok (some b) y) e R = R
-  answer_go (Reduceds.To m n) (ok none y) e R = absurd R
-  answer_go Reduceds.None (ok (some b) y) e R = absurd R
-  answer_go Reduceds.None (ok none y) e R = record { atoms = λ k. subst (AtomsAre w3 base count) (not_go y e k) (R.atoms k); held = R.held }
-  answer_go (Reduceds.Refused x) (ok (some b) y) e R = R
-  answer_go (Reduceds.Refused x) (ok none y) e R = R
+  answer_go (Ok (Some m)) (ok (some b) y) e R = R
+  answer_go (Ok (Some m)) (ok none y) e R = absurd R
+  answer_go (Ok None) (ok (some b) y) e R = absurd R
+  answer_go (Ok None) (ok none y) e R = record { atoms = λ k. subst (AtomsAre w3 base count) (not_go y e k) (R.atoms k); held = R.held }
+  answer_go (Err x) (ok (some b) y) e R = R
+  answer_go (Err x) (ok none y) e R = R
   answer_go r (refused k) e R = absurd R
 
   pub answer : (r : Reduced) → ReducedBy w3 base count whole kept s (groups_rule f root kept made z) r → ReducedBy w3 base count l kept s (groups_rule f root kept made z) r

@@ -1,16 +1,16 @@
 -- name_branches: the code's answer beside the rule's.
-use Rattle.std.specs.Prelude.{◌≡◌, List, [], ℕ, ◌+◌, ◌*◌, ◌<◌, ◌≤◌, length, get_or}
-use Rattle.std.proofs.Math.Option.{Option, none, some}
+use Rattle.std.specs.Prelude.{◌≡◌, Option, Some, None, Result, Ok, Err, List, [], ℕ, ◌+◌, ◌*◌, ◌<◌, ◌≤◌, length, get_or}
+use Rattle.std.proofs.Math.Option.{Option as RuleOption, none, some}
 use Rattle.ir.specs.declared.atom.Atom.{Atom}
+use Rattle.ir.specs.declared.refusal.Refusal.{Refusal}
+use Rattle.ir.specs.declared.refusal.Refusal.TheVariants.{NoRoom}
 use Rattle.rules.specs.Base.{Res, ok, refused}
 use Rattle.rules.specs.Branches as Rules
 use Rattle.rules.specs.Invariants.{Each}
-use Rattle.branches.specs.Layout.{most_named, named_end, body_at, copy_at, keep_at, renumbered_at}
+use Rattle.branches.specs.Layout.{most_named, named_end, copy_at, keep_at, renumbered_at}
 use Rattle.branches.specs.Wide.{AtomsAre}
 use Rattle.branches.specs.Memo.{Tame, named_words, NamedHeld}
 use Rattle.branches.specs.declared.memo.Naming.{Naming}
-use Rattle.naming.specs.declared.name.Reduced.{Reduced}
-use Rattle.naming.specs.declared.name.Reduced.TheVariants as Reduceds
 
 -- a reduced body
 pub record To (w : List ℕ) (base count : ℕ) (b : List Atom) (z : Rules.Naming) (s₀ s : Naming) (n : ℕ) : Type 0 where
@@ -25,13 +25,21 @@ pub record Not (w : List ℕ) (base count : ℕ) (l : List Atom) (kept : List �
   pub atoms : kept ≡ [] → AtomsAre w base count l
   pub held : NamedHeld w s z
 
+-- no room for the branches of the rule's state
+abbrev pub Full : Refusal → Rules.Naming → Type 0
+Full x z = (x ≡ NoRoom) × (most_named < length (named_words z.named))
+
+-- the numbers then, and how many atoms are left; or nothing is named
+abbrev pub Reduced : Type 0
+Reduced = Result (Option (Naming × ℕ)) Refusal
+
 -- the code's answer from the numbers s, beside the rule's
-abbrev pub ReducedBy : (w : List ℕ) → (base count : ℕ) → List Atom → List ℕ → Naming → Res Rules.Naming (Option (List Atom)) → Reduced → Type 0
-ReducedBy w base count l kept s (ok (some b) z) (Reduceds.To m n) = To w base count b z s m n
-ReducedBy w base count l kept s (ok (some b) z) Reduceds.None = ⊥
-ReducedBy w base count l kept s (ok none z) (Reduceds.To m n) = ⊥
-ReducedBy w base count l kept s (ok none z) Reduceds.None = Not w base count l kept z s
-ReducedBy w base count l kept s (ok o z) (Reduceds.Refused x) = (x ≡ 12) × (most_named < length (named_words z.named))
+abbrev pub ReducedBy : (w : List ℕ) → (base count : ℕ) → List Atom → List ℕ → Naming → Res Rules.Naming (RuleOption (List Atom)) → Reduced → Type 0
+ReducedBy w base count l kept s (ok (some b) z) (Ok (Some r)) = To w base count b z s r.0 r.1
+ReducedBy w base count l kept s (ok (some b) z) (Ok None) = ⊥
+ReducedBy w base count l kept s (ok none z) (Ok (Some r)) = ⊥
+ReducedBy w base count l kept s (ok none z) (Ok None) = Not w base count l kept z s
+ReducedBy w base count l kept s (ok o z) (Err x) = Full x z
 ReducedBy w base count l kept s (refused k) r = ⊥
 
 -- the atoms beside these, and the variables to keep, are as they were

@@ -1,10 +1,11 @@
 -- A child split one level down: its edge in front, and what is below it named. Assumes nothing.
-use Rattle.std.specs.Prelude.{true, false, ◌≡◌, refl, List, [], ◌∷◌, ◌++◌, ℕ, zero, suc, ◌+◌, ◌*◌, ◌-◌, ◌≤◌, ◌<◌, length, get_or, take, drop, ltb}
-use Rattle.std.proofs.Common.{ap, subst, ◌∙◌, arith}
+use Rattle.std.specs.Prelude.{true, false, Some, None, Ok, Err, ◌≡◌, refl, List, [], ◌∷◌, ◌++◌, ℕ, zero, suc, ◌+◌, ◌*◌, ◌-◌, ◌≤◌, ◌<◌, length, get_or, take, drop, ltb}
+use Rattle.std.proofs.Common.{subst, ◌∙◌, arith}
 use Rattle.std.proofs.Math.Option.{Option, none, some}
 use Rattle.words.specs.Words.{words}
 use Rattle.ir.specs.Records.{six}
 use Rattle.ir.specs.declared.atom.Atom.{Atom}
+use Rattle.ir.specs.declared.refusal.Refusal.{Refusal}
 use Rattle.rules.specs.Base.{Res, ok, refused, then}
 use Rattle.rules.specs.Run.{flat}
 use Rattle.rules.specs.Invariants.{Each}
@@ -16,7 +17,7 @@ use Rattle.tables.specs.AtomLaws.{part_run}
 use Rattle.branches.specs.Layout.{body_at, copy_at, work_words}
 use Rattle.branches.specs.Wide.{AtomsAre, AtomsThere}
 use Rattle.branches.specs.Memo.{Tame, TameThere, NamedHeld, NamedThere}
-use Rattle.branches.specs.Edges.{KeepIs, EdgeIs, any_atom, fronted, splits}
+use Rattle.branches.specs.Edges.{KeepIs, OneEdge, any_atom, fronted, splits}
 use Rattle.branches.specs.Grouped.{OnlyRecords}
 use Rattle.branches.specs.NameLaws.{atoms_same}
 use Rattle.branches.specs.InsertLaws.{at_join}
@@ -24,7 +25,6 @@ use Rattle.branches.specs.declared.memo.Naming.{Naming}
 use Rattle.naming.specs.Names.{To, ReducedBy, OnlyNames}
 use Rattle.naming.specs.Splits.{split_rule, SplitBy}
 use Rattle.naming.specs.AgreeLaws.{at_stay, named_stay, named_there_stay}
-use Rattle.naming.specs.declared.name.Reduced.TheVariants as Reduceds
 
 pub keep_none : (w : List ℕ) → KeepIs w 0 []
 keep_none w = record { long = refl; few = omega arith; are = refl }
@@ -45,11 +45,11 @@ module _ (w : List ℕ) (base count : ℕ) (s : Naming) (l : List Atom) (root t 
   pub whole : To w base count l z s s count
   whole = record { atoms = A; tame = p; shorter = omega arith; held = H; first = refl }
 
-  pub split_narrow : ltb max_body_vars (body_var_count_from l root) ≡ false → SplitBy w base count s (split_rule f l root t z) (Reduceds.To s count)
+  pub split_narrow : ltb max_body_vars (body_var_count_from l root) ≡ false → SplitBy w base count s (split_rule f l root t z) (Ok (s, count))
   unfolding split_rule
   split_narrow e = rw e whole
 
-  pub split_none : ltb max_body_vars (body_var_count_from l root) ≡ true → splits root t l ≡ false → SplitBy w base count s (split_rule f l root t z) (Reduceds.To s count)
+  pub split_none : ltb max_body_vars (body_var_count_from l root) ≡ true → splits root t l ≡ false → SplitBy w base count s (split_rule f l root t z) (Ok (s, count))
   unfolding split_rule
   split_none e h = rw (e, h) whole
 
@@ -57,10 +57,10 @@ module _ (w : List ℕ) (base count : ℕ) (s : Naming) (l : List Atom) (root t 
 abbrev pub inner_at : List Atom → ℕ → List Atom
 inner_at l e = take e l ++ drop (e + 1) l
 
-split_rule_lem : (l : List Atom) (root t count e f : ℕ) (z : Rules.Naming) → ltb max_body_vars (body_var_count_from l root) ≡ true → EdgeIs l root t count e → e < count
+split_rule_lem : (l : List Atom) (root t e f : ℕ) (z : Rules.Naming) → ltb max_body_vars (body_var_count_from l root) ≡ true → OneEdge l root t e
     → split_rule f l root t z ≡ then (name_by f (inner_at l e) t [] z) (λ o. reduced_to (λ a b c. name_by f a b c) l (get_or l e any_atom ∷ []) o)
 unfolding split_rule
-split_rule_lem l root t count e f z h E k = rw (h, E.one k, E.edge k, E.inner k) refl
+split_rule_lem l root t e f z h E = rw (h, E.one, E.edge, E.inner) refl
 
 tame_pick : (l : List Atom) (e : ℕ) → e < length l → Each Tame l → Tame (get_or l e any_atom) × Each Tame (inner_at l e)
 tame_pick [] e h p = absurd (omega arith)
@@ -113,19 +113,19 @@ module _ (w w1 w2 : List ℕ) (base count e root t : ℕ) (s : Naming) (long1 : 
 
       -- the atoms as they were put in front, where nothing was named
       module _ (f : ℕ) (z : Rules.Naming) where
-        none_are : (o : Res Rules.Naming (Option (List Atom))) → ReducedBy w2 (base + 1) (count - 1) (inner_at l e) [] s o Reduceds.None → AtomsAre w2 base count (fronted l e)
+        none_are : (o : Res Rules.Naming (Option (List Atom))) → ReducedBy w2 (base + 1) (count - 1) (inner_at l e) [] s o (Ok None) → AtomsAre w2 base count (fronted l e)
         none_are (ok none y) N =
             let c : count - 1 + 1 ≡ count = omega arith in
             subst (λ (n : ℕ). AtomsAre w2 base n (fronted l e)) c (with_front w2 base (count - 1) (get_or l e any_atom) (inner_at l e) edge_stays (N.atoms refl))
         none_are (ok (some b) y) N = absurd N
         none_are (refused k) N = absurd N
 
-        pub fronted_again : ReducedBy w2 (base + 1) (count - 1) (inner_at l e) [] s (name_by f (inner_at l e) t [] z) Reduceds.None → AtomsAre w2 base count (fronted l e)
+        pub fronted_again : ReducedBy w2 (base + 1) (count - 1) (inner_at l e) [] s (name_by f (inner_at l e) t [] z) (Ok None) → AtomsAre w2 base count (fronted l e)
         fronted_again N = none_are (name_by f (inner_at l e) t [] z) N
 
-        module _ (g : ltb max_body_vars (body_var_count_from l root) ≡ true) (E : EdgeIs l root t count e) where
-          to_go : (m : Naming) (n : ℕ) (o : Res Rules.Naming (Option (List Atom))) → ReducedBy w2 (base + 1) (count - 1) (inner_at l e) [] s o (Reduceds.To m n)
-              → SplitBy w2 base count s (then o (λ x. reduced_to (λ a b c. name_by f a b c) l (get_or l e any_atom ∷ []) x)) (Reduceds.To m (n + 1))
+        module _ (g : ltb max_body_vars (body_var_count_from l root) ≡ true) (E : OneEdge l root t e) where
+          to_go : (m : Naming) (n : ℕ) (o : Res Rules.Naming (Option (List Atom))) → ReducedBy w2 (base + 1) (count - 1) (inner_at l e) [] s o (Ok (Some (m, n)))
+              → SplitBy w2 base count s (then o (λ x. reduced_to (λ a b c. name_by f a b c) l (get_or l e any_atom ∷ []) x)) (Ok (m, n + 1))
           to_go m n (ok (some b) y) T = record {
             atoms = with_front w2 base n (get_or l e any_atom) b edge_stays T.atoms;
             tame = (edge_tame, T.tame);
@@ -136,29 +136,29 @@ module _ (w w1 w2 : List ℕ) (base count e root t : ℕ) (s : Naming) (long1 : 
           to_go m n (ok none y) T = absurd T
           to_go m n (refused k) T = absurd T
 
-          pub split_to : (m : Naming) (n : ℕ) → ReducedBy w2 (base + 1) (count - 1) (inner_at l e) [] s (name_by f (inner_at l e) t [] z) (Reduceds.To m n)
-              → SplitBy w2 base count s (split_rule f l root t z) (Reduceds.To m (n + 1))
-          split_to m n T = rw (split_rule_lem l root t count e f z g E h) (to_go m n (name_by f (inner_at l e) t [] z) T)
+          pub split_to : (m : Naming) (n : ℕ) → ReducedBy w2 (base + 1) (count - 1) (inner_at l e) [] s (name_by f (inner_at l e) t [] z) (Ok (Some (m, n)))
+              → SplitBy w2 base count s (split_rule f l root t z) (Ok (m, n + 1))
+          split_to m n T = rw (split_rule_lem l root t e f z g E) (to_go m n (name_by f (inner_at l e) t [] z) T)
 
-          full_go : (x : ℕ) (o : Res Rules.Naming (Option (List Atom))) → ReducedBy w2 (base + 1) (count - 1) (inner_at l e) [] s o (Reduceds.Refused x)
-              → SplitBy w2 base count s (then o (λ x. reduced_to (λ a b c. name_by f a b c) l (get_or l e any_atom ∷ []) x)) (Reduceds.Refused x)
+          full_go : (x : Refusal) (o : Res Rules.Naming (Option (List Atom))) → ReducedBy w2 (base + 1) (count - 1) (inner_at l e) [] s o (Err x)
+              → SplitBy w2 base count s (then o (λ x. reduced_to (λ a b c. name_by f a b c) l (get_or l e any_atom ∷ []) x)) (Err x)
           full_go x (ok (some b) y) T = T
           full_go x (ok none y) T = T
           full_go x (refused k) T = absurd T
 
-          pub split_full : (x : ℕ) → ReducedBy w2 (base + 1) (count - 1) (inner_at l e) [] s (name_by f (inner_at l e) t [] z) (Reduceds.Refused x)
-              → SplitBy w2 base count s (split_rule f l root t z) (Reduceds.Refused x)
-          split_full x T = rw (split_rule_lem l root t count e f z g E h) (full_go x (name_by f (inner_at l e) t [] z) T)
+          pub split_full : (x : Refusal) → ReducedBy w2 (base + 1) (count - 1) (inner_at l e) [] s (name_by f (inner_at l e) t [] z) (Err x)
+              → SplitBy w2 base count s (split_rule f l root t z) (Err x)
+          split_full x T = rw (split_rule_lem l root t e f z g E) (full_go x (name_by f (inner_at l e) t [] z) T)
 
           module _ (w3 : List ℕ) (long3 : length w3 ≡ length w2) (O3 : OnlyRecords base count w2 w3) (B : AtomsAre w3 base count l) where
-            back_go : (o : Res Rules.Naming (Option (List Atom))) → ReducedBy w2 (base + 1) (count - 1) (inner_at l e) [] s o Reduceds.None
-                → SplitBy w3 base count s (then o (λ x. reduced_to (λ a b c. name_by f a b c) l (get_or l e any_atom ∷ []) x)) (Reduceds.To s count)
+            back_go : (o : Res Rules.Naming (Option (List Atom))) → ReducedBy w2 (base + 1) (count - 1) (inner_at l e) [] s o (Ok None)
+                → SplitBy w3 base count s (then o (λ x. reduced_to (λ a b c. name_by f a b c) l (get_or l e any_atom ∷ []) x)) (Ok (s, count))
             back_go (ok none y) N = whole w3 base count s l root t y f B p (named_stay w2 w3 long3 s y (λ j k. O3.before j (omega arith)) N.held)
             back_go (ok (some b) y) N = absurd N
             back_go (refused k) N = absurd N
 
-            pub split_back : ReducedBy w2 (base + 1) (count - 1) (inner_at l e) [] s (name_by f (inner_at l e) t [] z) Reduceds.None → SplitBy w3 base count s (split_rule f l root t z) (Reduceds.To s count)
-            split_back N = rw (split_rule_lem l root t count e f z g E h) (back_go (name_by f (inner_at l e) t [] z) N)
+            pub split_back : ReducedBy w2 (base + 1) (count - 1) (inner_at l e) [] s (name_by f (inner_at l e) t [] z) (Ok None) → SplitBy w3 base count s (split_rule f l root t z) (Ok (s, count))
+            split_back N = rw (split_rule_lem l root t e f z g E) (back_go (name_by f (inner_at l e) t [] z) N)
 
   pub split_only : OnlyNames (base + 1) (count - 1) w1 w2 → OnlyNames base count w w2
   split_only O2 = record {
@@ -177,13 +177,7 @@ only_back base count w w2 w3 O P = record {
 pub names_none : (base count : ℕ) (w : List ℕ) → OnlyNames base count w w
 names_none base count w = record { before = λ j a b. refl; between = λ j a b. refl; keep = λ j a b. refl }
 
-pub below : (e c : ℕ) → e ≤ c → (e ≡ c → ⊥) → e < c
-below zero zero h n = absurd (n refl)
-below zero (suc c) h n = omega arith
-below (suc e) zero h n = absurd (omega arith)
-below (suc e) (suc c) h n = let k = below e c (omega arith) (λ (q : e ≡ c). n (ap suc q)) in omega arith
-
-pub reduced_short : (w : List ℕ) (base count : ℕ) (l : List Atom) (kept : List ℕ) (s : Naming) (o : Res Rules.Naming (Option (List Atom))) (m : Naming) (n : ℕ) → ReducedBy w base count l kept s o (Reduceds.To m n) → n ≤ count
+pub reduced_short : (w : List ℕ) (base count : ℕ) (l : List Atom) (kept : List ℕ) (s : Naming) (o : Res Rules.Naming (Option (List Atom))) (m : Naming) (n : ℕ) → ReducedBy w base count l kept s o (Ok (Some (m, n))) → n ≤ count
 reduced_short w base count l kept s (ok (some b) y) m n T = T.shorter
 reduced_short w base count l kept s (ok none y) m n T = absurd T
 reduced_short w base count l kept s (refused k) m n T = absurd T

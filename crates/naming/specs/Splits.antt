@@ -1,7 +1,8 @@
 -- A child split and named, and the root's children one after the other: the code's answers beside the rule's.
-use Rattle.std.specs.Prelude.{◌≡◌, Bool, true, false, List, [], ◌∷◌, ◌++◌, ℕ, ◌+◌, ◌*◌, ◌<◌, ◌≤◌, length, ltb}
+use Rattle.std.specs.Prelude.{◌≡◌, Result, Ok, Err, Bool, true, false, List, [], ◌∷◌, ◌++◌, ℕ, ◌+◌, ◌*◌, ◌<◌, ◌≤◌, length, ltb}
 use Rattle.std.proofs.Math.Option.{Option}
 use Rattle.ir.specs.declared.atom.Atom.{Atom}
+use Rattle.ir.specs.declared.refusal.Refusal.{Refusal}
 use Rattle.ir.specs.declared.atom.Atom.TheVariants.{Class}
 use Rattle.rules.specs.Base.{Res, ok, refused, ◌>>=◌, return}
 use Rattle.rules.specs.Branches.{Groups, W, max_body_vars, body_var_count_from, split_group, name_group, name_groups, name_by}
@@ -9,31 +10,20 @@ use Rattle.rules.specs.Branches as Rules
 use Rattle.rules.specs.Run.{flat}
 use Rattle.rules.specs.Invariants.{Each}
 use Rattle.tables.specs.TabledLaws.{At}
-use Rattle.branches.specs.Layout.{most_named, body_at, copy_at}
-use Rattle.branches.specs.Memo.{Tame, named_words, NamedHeld}
+use Rattle.branches.specs.Layout.{body_at, copy_at}
+use Rattle.branches.specs.Memo.{Tame, NamedHeld}
 use Rattle.branches.specs.Edges.{edges_of, inner_of}
 use Rattle.branches.specs.Grouped.{Arranged, all_of}
-use Rattle.naming.specs.Names.{To}
+use Rattle.naming.specs.Names.{To, Full}
 use Rattle.branches.specs.declared.memo.Naming.{Naming}
-use Rattle.branches.specs.declared.memo.Name.{Name}
-use Rattle.branches.specs.declared.memo.Name.TheVariants as Names
-use Rattle.naming.specs.declared.name.Reduced.{Reduced}
-use Rattle.naming.specs.declared.name.Reduced.TheVariants as Reduceds
-use Rattle.naming.specs.declared.name.Turned.{Turned}
-use Rattle.naming.specs.declared.name.Turned.TheVariants as Turneds
-
--- no room for the branches of the rule's state
-abbrev pub Full : ℕ → Rules.Naming → Type 0
-Full x z = (x ≡ 12) × (most_named < length (named_words z.named))
 
 -- ---- a child split one level down
 unfoldable pub split_rule : ℕ → List Atom → ℕ → ℕ → W (List Atom)
 split_rule f l root t = split_group (λ a b c. name_by f a b c) l (edges_of root t l) (inner_of root t l) root t (ltb max_body_vars (body_var_count_from l root))
 
-abbrev pub SplitBy : (w : List ℕ) → (base count : ℕ) → Naming → Res Rules.Naming (List Atom) → Reduced → Type 0
-SplitBy w base count s (ok b z) (Reduceds.To m n) = To w base count b z s m n
-SplitBy w base count s (ok b z) Reduceds.None = ⊥
-SplitBy w base count s (ok b z) (Reduceds.Refused x) = Full x z
+abbrev pub SplitBy : (w : List ℕ) → (base count : ℕ) → Naming → Res Rules.Naming (List Atom) → Result (Naming × ℕ) Refusal → Type 0
+SplitBy w base count s (ok b z) (Ok r) = To w base count b z s r.0 r.1
+SplitBy w base count s (ok b z) (Err x) = Full x z
 SplitBy w base count s (refused k) r = ⊥
 
 -- ---- a child's name
@@ -46,9 +36,9 @@ pub record Called (w : List ℕ) (root : ℕ) (s : Naming) (a : Atom) (z : Rules
   pub first : m.first ≡ s.first
   pub small : e < 2097152
 
-abbrev pub CalledBy : (w : List ℕ) → (root : ℕ) → Naming → Res Rules.Naming Atom → Name → Type 0
-CalledBy w root s (ok a z) (Names.Named m e) = Called w root s a z m e
-CalledBy w root s (ok a z) (Names.Refused x) = Full x z
+abbrev pub CalledBy : (w : List ℕ) → (root : ℕ) → Naming → Res Rules.Naming Atom → Result (Naming × ℕ) Refusal → Type 0
+CalledBy w root s (ok a z) (Ok r) = Called w root s a z r.0 r.1
+CalledBy w root s (ok a z) (Err x) = Full x z
 CalledBy w root s (refused k) r = ⊥
 
 -- ---- one child: the atoms that it becomes, and whether one is named then
@@ -96,9 +86,13 @@ pub record Onward (w : List ℕ) (base q p : ℕ) (result rest : List Atom) (s :
   pub first : m.first ≡ s.first
   pub quiet : b ≡ false → m ≡ s
 
+-- the numbers then, where the result ends, and whether a child is named
+abbrev pub Turned : Type 0
+Turned = Result (Naming × ℕ × Bool) Refusal
+
 abbrev pub TurnedBy : (w : List ℕ) → (base q p : ℕ) → (result rest : List Atom) → Naming → Res Rules.Naming (List Atom × Bool) → Turned → Type 0
-TurnedBy w base q p result rest s (ok o z) (Turneds.On m r b) = Onward w base q p result rest s o.0 o.1 z m r b
-TurnedBy w base q p result rest s (ok o z) (Turneds.Refused x) = Full x z
+TurnedBy w base q p result rest s (ok o z) (Ok r) = Onward w base q p result rest s o.0 o.1 z r.0 r.1 r.2
+TurnedBy w base q p result rest s (ok o z) (Err x) = Full x z
 TurnedBy w base q p result rest s (refused k) r = ⊥
 
 -- ---- the children

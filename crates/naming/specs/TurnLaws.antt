@@ -1,11 +1,12 @@
 -- One child of the root: its atoms stay, or its name stands for them. Assumes nothing.
-use Rattle.std.specs.Prelude.{Bool, true, false, ◌≡◌, refl, List, [], ◌∷◌, ◌++◌, ℕ, ◌+◌, ◌*◌, ◌≤◌, ◌<◌, length, get_or, take, drop}
+use Rattle.std.specs.Prelude.{Bool, true, false, Ok, Err, ◌≡◌, refl, List, [], ◌∷◌, ◌++◌, ℕ, ◌+◌, ◌*◌, ◌≤◌, ◌<◌, length, get_or, take, drop}
 use Rattle.std.proofs.Common.{ap, ◌∙◌, arith}
 use Rattle.std.proofs.lemmas.List.Edits.{sets}
 use Rattle.std.proofs.Math.Seq.{length-sets}
 use Rattle.words.specs.Runs.{get_d_sets_after, get_d_sets_before}
 use Rattle.ir.specs.Records.{six}
 use Rattle.ir.specs.declared.atom.Atom.{Atom}
+use Rattle.ir.specs.declared.refusal.Refusal.{Refusal}
 use Rattle.ir.specs.declared.atom.Atom.TheVariants.{Class}
 use Rattle.rules.specs.Base.{Res, ok, refused, then}
 use Rattle.rules.specs.Run.{flat}
@@ -22,8 +23,6 @@ use Rattle.naming.specs.Splits.{group_rule, Called, CalledBy, child_of, Standing
 use Rattle.branches.specs.InsertLaws.{at_join, at_here, at_below, at_above}
 use Rattle.naming.specs.AgreeLaws.{flat_stay, named_stay}
 use Rattle.branches.specs.declared.memo.Naming.{Naming}
-use Rattle.branches.specs.declared.memo.Name.TheVariants as Names
-use Rattle.naming.specs.declared.name.Turned.TheVariants as Turneds
 
 -- ---- what a child's name is asked of
 module _ (w : List ℕ) (base count q p c : ℕ) (result group rest : List Atom) (s : Naming) (z : Rules.Naming) (D : Standing w base count q p c result group rest s z) where
@@ -96,7 +95,7 @@ module _ (w w' : List ℕ) (base count q p c : ℕ) (result group rest : List At
   stay_only = put_only w w' base count q (p + c) result group rest stay_put D.here fit_stay D.all D.low D.high long
 
   pub stay_turned : (f root t : ℕ) (any : Bool) (kept : List ℕ) → mentions kept group ≡ true
-      → TurnedBy w' base q (p + c) result rest s (child_of f root t group any (mentions kept group) z) (Turneds.On s (q + c) any)
+      → TurnedBy w' base q (p + c) result rest s (child_of f root t group any (mentions kept group) z) (Ok (s, q + c, any))
   stay_turned f root t any kept h = rw h (record {
     here = omega (arith, D.many);
     below = omega (arith, D.below);
@@ -123,11 +122,11 @@ module _ (w w1 : List ℕ) (base count q p c : ℕ) (result group rest : List At
     keep = O.keep;
   }
 
-  pub turn_full : (f root t : ℕ) (any : Bool) (kept : List ℕ) (x : ℕ) → mentions kept group ≡ false → CalledBy w1 root s (group_rule f group root t z) (Names.Refused x)
-      → TurnedBy w1 base q (p + c) result rest s (child_of f root t group any (mentions kept group) z) (Turneds.Refused x)
+  pub turn_full : (f root t : ℕ) (any : Bool) (kept : List ℕ) (x : Refusal) → mentions kept group ≡ false → CalledBy w1 root s (group_rule f group root t z) (Err x)
+      → TurnedBy w1 base q (p + c) result rest s (child_of f root t group any (mentions kept group) z) (Err x)
   turn_full f root t any kept x h C = rw h (go (group_rule f group root t z) C)
     where
-      go : (o : Res Rules.Naming Atom) → CalledBy w1 root s o (Names.Refused x) → TurnedBy w1 base q (p + c) result rest s (then o (λ a y. ok (a ∷ [], true) y)) (Turneds.Refused x)
+      go : (o : Res Rules.Naming Atom) → CalledBy w1 root s o (Err x) → TurnedBy w1 base q (p + c) result rest s (then o (λ a y. ok (a ∷ [], true) y)) (Err x)
       go (ok a y) F = F
       go (refused k) F = absurd F
 
@@ -157,8 +156,8 @@ module _ (w w1 : List ℕ) (base count q p c : ℕ) (result group rest : List At
     left_call : At w1 (6 * (p + c)) (flat rest)
     left_call = flat_stay w w1 long1 (p + c) rest (λ j a b. O.between j a (omega (arith, D.all, D.high))) D.left
 
-    pub call_turned : (f t : ℕ) (any : Bool) (kept : List ℕ) → mentions kept group ≡ false → CalledBy w1 root s (group_rule f group root t z) (Names.Named m e)
-        → TurnedBy w' base q (p + c) result rest s (child_of f root t group any (mentions kept group) z) (Turneds.On m (q + 1) true)
+    pub call_turned : (f t : ℕ) (any : Bool) (kept : List ℕ) → mentions kept group ≡ false → CalledBy w1 root s (group_rule f group root t z) (Ok (m, e))
+        → TurnedBy w' base q (p + c) result rest s (child_of f root t group any (mentions kept group) z) (Ok (m, q + 1, true))
     call_turned f t any kept h C = rw h (go (group_rule f group root t z) C)
       where
         named : (y : Rules.Naming) (a : Atom) → a ≡ Class e root → Called w1 root s a y m e → Onward w' base q (p + c) result rest s (a ∷ []) true y m (q + 1) true
@@ -174,10 +173,10 @@ module _ (w w1 : List ℕ) (base count q p c : ℕ) (result group rest : List At
           quiet = λ (b : true ≡ false). absurd (let k : ◌≡◌ {A = ℕ} 0 1 = cc in omega arith);
         })
 
-        go : (o : Res Rules.Naming Atom) → CalledBy w1 root s o (Names.Named m e) → TurnedBy w' base q (p + c) result rest s (then o (λ a y. ok (a ∷ [], true) y)) (Turneds.On m (q + 1) true)
+        go : (o : Res Rules.Naming Atom) → CalledBy w1 root s o (Ok (m, e)) → TurnedBy w' base q (p + c) result rest s (then o (λ a y. ok (a ∷ [], true) y)) (Ok (m, q + 1, true))
         go (ok a y) K = named y a K.is K
         go (refused k) K = absurd K
 
-pub called_small : (w : List ℕ) (root : ℕ) (s : Naming) (o : Res Rules.Naming Atom) (m : Naming) (e : ℕ) → CalledBy w root s o (Names.Named m e) → e < 2097152
+pub called_small : (w : List ℕ) (root : ℕ) (s : Naming) (o : Res Rules.Naming Atom) (m : Naming) (e : ℕ) → CalledBy w root s o (Ok (m, e)) → e < 2097152
 called_small w root s (ok a y) m e K = K.small
 called_small w root s (refused k) m e K = absurd K

@@ -1,16 +1,16 @@
 -- A variable more. Assumes nothing.
 use Rattle.std.specs.Prelude.{Bool, true, false, ◌≡◌, refl, List, [], ◌∷◌, ◌++◌, ℕ, ◌+◌, ◌≤◌, ◌<◌, length, get_or, drop, set, eqb, ltb}
-use Rattle.std.proofs.Common.{sym, ap, ◌∙◌, arith, add-one, ltb-true, ltb-false, eqb-true, eq-eqb, ne_eqb, length-append, length-drop, length-set, get_or-set_same, get_or-set_other, drop-set-lt, take-suc-set}
+use Rattle.std.proofs.Common.{sym, ap, ◌∙◌, arith, add-one, ltb-true, ltb-false, eqb-true, length-append, length-drop, length-set, get_or-set_same, get_or-set_other, drop-set-lt, take-suc-set}
 use Rattle.std.proofs.lemmas.Bool.{eqb-false}
 use Rattle.std.proofs.Math.ListN.{get_or-append}
 use Rattle.std.proofs.lemmas.List.{get_or_at, take-set-le, drop-set-add}
 use Rattle.ir.specs.Pick.{pick}
 use Rattle.rules.specs.Base.{contains}
-use Rattle.rules.specs.Branches.{below, top_of, place_of}
+use Rattle.rules.specs.Branches.{below, top_of}
 use Rattle.branches.specs.Layout.{bound_at, tops_at, met_at, work_words}
 use Rattle.trees.specs.Growth.{bound_of, top_for, bind_of, Kept, Growing}
 use Rattle.trees.specs.TopLaws.{parent_other, top_kept, top_child, top_under_lem}
-use Rattle.trees.specs.PlaceLaws.{eqb_sym, place_in_lem, place_out, not_first, not_more, bound_long}
+use Rattle.trees.specs.PlaceLaws.{eqb_sym, not_first, not_more}
 
 module _ (w : List ℕ) (n i v : ℕ) (few : n ≤ 256) (long : work_words ≤ length w) where
   -- ---- the words
@@ -69,18 +69,3 @@ module _ (w : List ℕ) (n i v : ℕ) (few : n ≤ 256) (long : work_words ≤ l
       tops = λ j g k. tops_more j g k (ltb j n) refl;
       alone = λ x q. let k = not_more vs v x q in parent_other parents u v x (eqb_sym v x ∙ k.1) (G.alone x k.0);
     }
-
--- ---- what the code does
-pub top_root : (w : List ℕ) (i v : ℕ) → i ≡ 0 → top_for w i v ≡ v
-top_root w i v e = rw (eq-eqb i 0 e) refl
-
-pub top_up : (w : List ℕ) (i v : ℕ) → (i ≡ 0 → ⊥) → top_for w i v ≡ get_or w (tops_at + i) 0
-top_up w i v e = rw (ne_eqb i 0 e) refl
-
-module _ (w : List ℕ) (n i v : ℕ) (few : n ≤ 256) (long : work_words ≤ length w) (p : ℕ) (e : p ≡ place_of (bound_of w n) v) where
-  pub bind_old : p < n → (n ≡ pick (contains (bound_of w n) v) n (n + 1)) × (w ≡ bind_of w n i v (contains (bound_of w n) v))
-  bind_old h = rw (place_in_lem (bound_of w n) v (omega (arith, bound_long w n (omega arith) long))).0 (refl, refl)
-
-  pub bind_new : n ≤ p → (x : List ℕ) → x ≡ set w (bound_at + n) v → (top : ℕ) → top ≡ top_for w i v → (y : List ℕ) → y ≡ set x (tops_at + n) top
-      → (n + 1 ≡ pick (contains (bound_of w n) v) n (n + 1)) × (y ≡ bind_of w n i v (contains (bound_of w n) v))
-  bind_new h x ex top et y ey = rw (place_out (bound_of w n) v (omega (arith, bound_long w n (omega arith) long))) (refl, rw (ey, ex, et) refl)

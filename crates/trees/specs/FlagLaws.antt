@@ -2,7 +2,7 @@
 use Rattle.std.specs.Prelude.{Bool, true, false, ◌≡◌, refl, List, [], ◌∷◌, ◌++◌, ℕ, zero, suc, ◌+◌, ◌-◌, ◌≤◌, ◌<◌, length, get_or, take, drop, set, replicate}
 use Rattle.std.proofs.Common.{ap, ◌∙◌, arith, add-one, length-take-le, take-suc, take-suc-set, drop-cons, get_or-take, drop-set-lt}
 use Rattle.std.proofs.Math.Seq.{take-nil}
-use Rattle.trees.specs.Growth.{one, trues}
+use Rattle.trees.specs.Growth.{trues}
 
 pub trues_most : (n : ℕ) (l : List Bool) → trues (take n l) ≤ n
 unfolding trues

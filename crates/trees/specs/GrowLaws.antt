@@ -88,8 +88,8 @@ module _ (w0 : List ℕ) (base count : ℕ) (w : List ℕ) (flags : List Bool) (
     }
 
     -- what is left falls
-    pub rising_less : one more' + (count - trues (take count flags')) < one more + (count - trues (take count flags))
-    rising_less = omega (arith, R.up, ap one on, trues_most count flags, trues_most count flags')
+    pub rising_less : more' ≡ true → count - trues (take count flags') < count - trues (take count flags)
+    rising_less e = omega (arith, R.up, ap one e, trues_most count flags')
 
   pub rising_end : more ≡ false → count ≤ 256 → Grown w0 base count n w flags
   rising_end off h = record {

@@ -1,5 +1,5 @@
 -- The tree as it grows, in the words of scratch and the flags of the atoms.
-use Rattle.std.specs.Prelude.{◌≡◌, Bool, true, false, List, [], ◌∷◌, ℕ, ◌+◌, ◌<◌, ◌≤◌, length, get_or, take, drop, set, eqb}
+use Rattle.std.specs.Prelude.{◌≡◌, Bool, true, false, Option, Some, None, List, [], ◌∷◌, ℕ, ◌+◌, ◌<◌, ◌≤◌, length, get_or, take, drop, set, eqb}
 use Rattle.std.proofs.Math.Option.{none}
 use Rattle.ir.specs.Pick.{pick}
 use Rattle.ir.specs.declared.atom.Atom.{Atom}
@@ -58,6 +58,11 @@ pub record Visited (w : List ℕ) (flags : List Bool) (at j n : ℕ) (more : Boo
   pub fewer : n' ≤ n + gained
   pub moved : one more' ≤ one more + gained
   pub counted : (m : ℕ) → j < m → trues (take m flags') ≡ trues (take m flags) + gained
+
+-- how many are bound then, if the atom is placed
+abbrev pub VisitedBy : List ℕ → List Bool → (at j n : ℕ) → List ℕ → List Bool → Option ℕ → Type 0
+VisitedBy w flags at j n w' flags' (Some m) = (more : Bool) → Visited w flags at j n more m true w' flags'
+VisitedBy w flags at j n w' flags' None = (more : Bool) → Visited w flags at j n more n more w' flags'
 
 -- a round
 pub record Rounded (w : List ℕ) (flags : List Bool) (base count n n' : ℕ) (more : Bool) (w' : List ℕ) (flags' : List Bool) : Type 0 where

@@ -1,5 +1,5 @@
 -- The tree of a root, from its first words to the answer. Assumes nothing.
-use Rattle.std.specs.Prelude.{Bool, true, false, ◌&&◌, ◌||◌, not, ◌≡◌, ℕ, ◌+◌, ◌*◌, ◌-◌, ◌≤◌, ◌<◌, length, get_or, take, set}
+use Rattle.std.specs.Prelude.{Bool, true, false, ◌&&◌, ◌||◌, not, ◌≡◌, Some, None, ℕ, ◌+◌, ◌*◌, ◌-◌, ◌≤◌, ◌<◌, length, get_or, take, set}
 use Rattle.std.proofs.Math.Path.{refl, sym}
 use Rattle.std.proofs.Common.{ap, ◌∙◌, arith, length-drop, get_or-take, get_or-drop, drop-set-lt, take-suc-set}
 use mathlib.Core.List.{List, [], ◌∷◌}
@@ -45,9 +45,6 @@ and_false false = refl
 pub record Loose (w : List ℕ) (flags : List Bool) (base count j : ℕ) : Type 0 where
   pub here : j ≤ count
   pub left : (l : List Atom) → AtomsAre w base count l → any_disconnected l (take count flags) ≡ any_disconnected (drop j l) (drop j (take count flags))
-
-pub loose_start : (w : List ℕ) (flags : List Bool) (base count : ℕ) → Loose w flags base count 0
-loose_start w flags base count = record { here = omega arith; left = λ l A. refl }
 
 module _ (w : List ℕ) (flags : List Bool) (base count j : ℕ) (L : Loose w flags base count j) where
   module _ (h : j < count) (long : count ≤ length flags) where
@@ -141,8 +138,8 @@ module _ (w x w' : List ℕ) (flags' : List Bool) (base count root n : ℕ) (lon
     loose_is : b ≡ any_disconnected l (tree_of l root).placed
     loose_is = rw tree_is.1 (d l (atoms_kept w w' base count l (kept_then (rooted_kept w root long) G.kept) inside A))
 
-    pub tree_none : b ≡ true → TreeIs w' root l 0
-    tree_none h = rw (← loose_is, h) refl
+    pub tree_none : b ≡ true → TreeIs w' root l None
+    tree_none h = rw (← loose_is, h) tt
 
-    pub tree_some : b ≡ false → TreeIs w' root l n
+    pub tree_some : b ≡ false → TreeIs w' root l (Some n)
     tree_some h = rw (← loose_is, h) (growing_treed w' root n (tree_of l root) G.few tree_is.0, tree_is.0.filled)

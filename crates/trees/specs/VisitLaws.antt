@@ -1,16 +1,17 @@
 -- An atom of a round. Assumes nothing.
-use Rattle.std.specs.Prelude.{Bool, true, false, ◌≡◌, refl, List, [], ◌∷◌, ◌++◌, ℕ, ◌+◌, ◌≤◌, ◌<◌, length, get_or, set}
+use Rattle.std.specs.Prelude.{Bool, true, false, ◌≡◌, refl, Some, None, List, [], ◌∷◌, ◌++◌, ℕ, ◌+◌, ◌≤◌, ◌<◌, length, get_or, set}
 use Rattle.std.proofs.Common.{sym, ap, ◌∙◌, arith}
 use Rattle.ir.specs.Pick.{pick}
 use Rattle.ir.specs.Records.{words_of}
 use Rattle.ir.specs.declared.atom.Atom.{Atom}
 use Rattle.ir.specs.declared.atom.Atom.TheVariants.{Class, Exists, AtMost, AtLeast, Equal, Role as RoleAtom}
 use Rattle.rules.specs.Base.{contains}
-use Rattle.rules.specs.Branches.{Tree, place_of, passed, bound_by, edge_unless, scan_atom}
+use Rattle.rules.specs.Branches.{Tree, passed, bound_by, edge_unless, scan_atom}
 use Rattle.branches.specs.Layout.{work_words}
 use Rattle.branches.specs.AtomsLaws.{WordsAre}
+use Rattle.branches.specs.Places.{PlaceIs}
 use Rattle.trees.specs.Growth.{one, bound_of, bind_of, Midway, Visited}
-use Rattle.trees.specs.PlaceLaws.{place_in_lem, place_out, bound_long}
+use Rattle.trees.specs.PlaceLaws.{place_in_lem, bound_long}
 use Rattle.trees.specs.FlagLaws.{trues_set, flags_next, flags_set, flags_rest}
 use Rattle.trees.specs.BindLaws.{bind_kept, bind_growing}
 
@@ -65,17 +66,17 @@ module _ (w : List ℕ) (flags : List Bool) (at j n : ℕ) (more : Bool) (inside
   pub visited_other : (get_or w at 0 ≡ 2 → ⊥) → Visited w flags at j n more n more w flags
   visited_other e = visited_pass (λ t a k b. scan_other t a (get_or flags j false) (λ q. e (k.kind ∙ q)))
 
-  module _ (i x : ℕ) (free : get_or flags j false ≡ false) (role : get_or w at 0 ≡ 2) (ex : x ≡ get_or w (at + 4) 0) (ei : i ≡ place_of (bound_of w n) x) (few : n ≤ 256) (long : work_words ≤ length w) where
-    size : length (bound_of w n) ≡ n
-    size = bound_long w n (omega arith) long
-
-    pub visited_loose : n ≤ i → Visited w flags at j n more n more w flags
+  module _ (x : ℕ) (free : get_or flags j false ≡ false) (role : get_or w at 0 ≡ 2) (ex : x ≡ get_or w (at + 4) 0) where
+    pub visited_loose : PlaceIs (bound_of w n) x None → Visited w flags at j n more n more w flags
     visited_loose h = visited_pass (λ t a k b.
-        let o : contains t.bound (words_of a).4 ≡ false = rw (← b, ← k.var, ← ex) (place_out (bound_of w n) x (omega (arith, size))) in
+        let o : contains t.bound (words_of a).4 ≡ false = rw (← b, ← k.var, ← ex) h in
         scan_role t a (get_or flags j false) (sym k.kind ∙ role) ∙ rw (free, o) refl)
 
     -- ---- the atom is placed
-    module _ (v : ℕ) (h : i < n) (ev : v ≡ get_or w (at + 5) 0) where
+    module _ (i v : ℕ) (P : PlaceIs (bound_of w n) x (Some i)) (ev : v ≡ get_or w (at + 5) 0) (few : n ≤ 256) (long : work_words ≤ length w) where
+      size : length (bound_of w n) ≡ n
+      size = bound_long w n (omega arith) long
+
       place_midway : (root : ℕ) (t : Tree) → Midway w flags root j n more t → (b : Bool) → contains t.bound v ≡ b
           → Midway (bind_of w n i v b) (set flags j true) root (j + 1) (pick b n (n + 1)) true (bound_by t x v b)
       place_midway root t M true e = record {
@@ -84,15 +85,15 @@ module _ (w : List ℕ) (flags : List Bool) (at j n : ℕ) (more : Bool) (inside
         progressed = refl;
       }
       place_midway root t M false e = record {
-        growing = bind_growing w n i v few long root x t.bound t.parents M.growing h
-            (rw (← M.growing.vars, ei) (place_in_lem (bound_of w n) x (omega (arith, size))).1) e;
+        growing = bind_growing w n i v few long root x t.bound t.parents M.growing (omega (arith, P.0, size))
+            (rw (← M.growing.vars, P.1) (place_in_lem (bound_of w n) x (omega (arith, P.0, P.1))).1) e;
         placed = ap (λ (l : List Bool). l ++ (true ∷ [])) M.placed ∙ sym (flags_set flags j inside);
         progressed = refl;
       }
 
       scan_bound : (t : Tree) (a : Atom) → WordsAre w at a → bound_of w n ≡ t.bound → scan_atom t a (get_or flags j false) ≡ bound_by t x v (contains t.bound v)
       scan_bound t a k b =
-          let o : contains t.bound x ≡ true = rw (← b) (place_in_lem (bound_of w n) x (omega (arith, size))).0 in
+          let o : contains t.bound x ≡ true = rw (← b) P.2 in
           let p : (words_of a).4 ≡ x = sym k.var ∙ sym ex in
           let q : (words_of a).5 ≡ v = sym k.other ∙ sym ev in
           scan_role t a (get_or flags j false) (sym k.kind ∙ role) ∙ rw (free, p, q, o) refl

@@ -1,5 +1,5 @@
 use mathlib.Core.Path.{◌≡◌}
-use Prim.Native.Nat.{◌-◌, ◌<◌}
+use Prim.Native.Nat.{◌<◌}
 use lib.ListN.{drop}
 use Rattle.words.specs.Words.{words}
 use Rattle.branches.specs.Layout.{renumbered_at}
@@ -9,6 +9,3 @@ use Rattle.branches.proofs.filter.hash.Given as goal
 
 abbrev pub invariant-loop-i : goal.invariant-loop-i
 invariant-loop-i l = (l.h < 4294967291) × (hash_by l.h (drop l.i (run (words l.scratch) renumbered_at l.count)) ≡ hash_by 0 (run (words l.scratch) renumbered_at l.count))
-
-abbrev pub decreases-loop-i : goal.decreases-loop-i
-decreases-loop-i l = l.count - l.i

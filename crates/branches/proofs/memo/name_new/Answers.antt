@@ -1,17 +1,10 @@
 use Prim.Native.Nat.{◌+◌}
-use mathlib.Core.Path.{refl}
 use native.Mathlib.Omega.{arith}
 use Rattle.words.specs.Words.{words}
 use Rattle.words.specs.Laws.{length_words}
 use Rattle.branches.specs.Layout.{renumbered_at}
 use Rattle.branches.specs.NewLaws.{new_named, new_stays}
 use Rattle.branches.proofs.memo.name_new.Goals as goal
-
-pub returns-then-s-count-gt-MOST_NAMED : goal.returns-then-s-count-gt-MOST_NAMED
-returns-then-s-count-gt-MOST_NAMED c = record {
-  named_by = λ body z D H e. (refl, e, omega (arith, H.used, D.long, c.if-s-count-gt-MOST_NAMED.true));
-  by_index = λ j h. refl;
-}
 
 pub returns : goal.returns
 returns c =

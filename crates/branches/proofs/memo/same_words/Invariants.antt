@@ -1,10 +1,6 @@
-use Prim.Native.Nat.{◌-◌}
 use Rattle.words.specs.Words.{words}
 use Rattle.branches.specs.SameLaws.{Comparing}
 use Rattle.branches.proofs.memo.same_words.Given as goal
 
 abbrev pub invariant-loop-i : goal.invariant-loop-i
 invariant-loop-i l = Comparing (words l.scratch) l.a l.b l.count l.i
-
-abbrev pub decreases-loop-i : goal.decreases-loop-i
-decreases-loop-i l = l.count - l.i

@@ -1,5 +1,4 @@
 use denote.Enum.Declared.{tag_of}
-use borrow.Enum.Refused.{opened}
 use types.Run.{OneOf}
 use mathlib.Core.Path.{sym, subst}
 use mathlib.Core.Logic.{⊎_elim}
@@ -23,12 +22,6 @@ other_tame (AtMost _ _ _ _) h t = t
 other_tame (AtLeast _ _ _ _) h t = t
 other_tame (Equal _ _) h t = t
 
-pub put_class-requires : goal.put_class-requires
-put_class-requires c = let t = subst Tame c.in-Class.is c.requires.3 in (c.requires.0, c.requires.1, c.requires.2, t)
-
-pub put_role-requires : goal.put_role-requires
-put_role-requires c = let t = subst Tame c.in-Role.is c.requires.3 in (c.requires.0, c.requires.1, c.requires.2, t)
-
 pub returns-in-Class : goal.returns-in-Class
 returns-in-Class c = let u = c.put_class in
     subst (λ (x : Atom). Put met_at keep_at renumbered_at (words c.args.scratch.now) c.args.n c.args.i x (words u.new.scratch) u.result) (sym c.in-Class.is) u.ensures
@@ -36,6 +29,3 @@ returns-in-Class c = let u = c.put_class in
 pub returns-in-Role : goal.returns-in-Role
 returns-in-Role c = let u = c.put_role in
     subst (λ (x : Atom). Put met_at keep_at renumbered_at (words c.args.scratch.now) c.args.n c.args.i x (words u.new.scratch) u.result) (sym c.in-Role.is) u.ensures
-
-pub returns-in_default : goal.returns-in_default
-returns-in_default c = absurd (other_tame c.args.a (opened c.in_default.in_default-own.keys3) c.requires.3)

@@ -1,4 +1,3 @@
-use Prim.Native.Nat.{◌-◌}
 use mathlib.Core.Path.{◌≡◌}
 use lib.ListN.{length}
 use Rattle.words.specs.Words.{words}
@@ -6,7 +5,4 @@ use Rattle.decomposition.specs.HeadVarLaws.{Heading}
 use Rattle.decomposition.proofs.one.head_vars.Given as goal
 
 abbrev pub invariant-loop-i : goal.invariant-loop-i
-invariant-loop-i l = (length l.scratch ≡ length l.initial.scratch) × Heading l.head (words l.initial.scratch) l.count (words l.scratch) l.n l.i
-
-abbrev pub decreases-loop-i : goal.decreases-loop-i
-decreases-loop-i l = l.count - l.i
+invariant-loop-i l = (length l.scratch ≡ length l.initial.scratch) × Heading l.head (words l.initial.scratch) l.i-end (words l.scratch) l.n l.i

@@ -1,41 +1,24 @@
-use Prim.Native.Nat.{◌-◌}
 use mathlib.Core.Path.{sym, ◌∙◌}
 use native.Mathlib.Omega.{arith}
 use Rattle.words.specs.Words.{words}
 use Rattle.words.specs.Laws.{length_words}
 use Rattle.branches.specs.Layout.{keep_at}
-use Rattle.branches.specs.KeptLaws.{seeking_start, seeking_found, seeking_on, seeking_end}
-use Rattle.decomposition.specs.HeadVarLaws.{keep_x, keep_old, keep_new, only_none, only_new}
+use Rattle.branches.specs.Renumbered.{run}
+use Rattle.branches.specs.PlaceLaws.{place_some}
+use Rattle.decomposition.specs.HeadVarLaws.{keep_x, keep_old, keep_new}
 use Rattle.decomposition.proofs.one.keep_var.Goals as goal
+use Rattle.decomposition.proofs.one.keep_var.Goals.{then-v-eq0-via-then-v-eq0, then-v-eq0-via-else-v-eq0+then-is_some}
 
-pub returns-then-v-eq0 : goal.returns-then-v-eq0
-returns-then-v-eq0 c =
+pub returns-then-v-eq0-clause-by_index : goal.returns-then-v-eq0-clause-by_index
+returns-then-v-eq0-clause-by_index c =
     let w = words c.args.scratch.now in
-    record { by_index = keep_x w c.args.n c.args.v c.if-v-eq0.true; upper_bound = (omega arith, only_none w) }
+    elim c.then-v-eq0.branch [
+      | then-v-eq0-via-then-v-eq0 b ↦ keep_x w c.args.n c.args.v b.if-v-eq0.true
+      | then-v-eq0-via-else-v-eq0+then-is_some b ↦ keep_old w c.args.n c.args.v (sym (place_some (run w keep_at c.args.n) c.args.v b.place.result b.place.ensures) ∙ sym b.is_some.ensures ∙ b.if-is_some.true)
+    ]
 
-pub loop-i-init : goal.loop-i-init
-loop-i-init c = seeking_start keep_at (words c.args.scratch.now) c.args.n c.args.v
-
-pub returns-then-get_word-v : goal.returns-then-get_word-v
-returns-then-get_word-v c =
-    let L = c.loop-i in
+pub returns-clause-by_index : goal.returns-clause-by_index
+returns-clause-by_index c =
     let w = words c.args.scratch.now in
-    let f =
-    seeking_found keep_at w c.args.n c.args.v L.i (omega (arith, c.requires.0, c.requires.1, length_words c.args.scratch.now)) L.invariant c.loop-i-test.true (sym c.get_word.ensures ∙ c.if-get_word-v.true) in
-    record { by_index = keep_old w c.args.n c.args.v f; upper_bound = (omega arith, only_none w) }
-
-pub loop-i-preserved : goal.loop-i-preserved
-loop-i-preserved c =
-    let L = c.loop-i in
-    seeking_on keep_at (words c.args.scratch.now) c.args.n c.args.v L.i (omega (arith, c.requires.0, c.requires.1, length_words c.args.scratch.now)) L.invariant c.loop-i-test.true
-    (λ e. c.if-get_word-v.false (c.get_word.ensures ∙ e))
-
-pub returns : goal.returns
-returns c =
-    let L = c.loop-i in
-    let w = words c.args.scratch.now in
-    let w' = words c.put_word.new.s in
-    let f = seeking_end keep_at w c.args.n c.args.v L.i (omega (arith, c.requires.0, c.requires.1, length_words c.args.scratch.now)) L.invariant c.loop-i-test.false in record {
-      by_index = keep_new w w' c.args.n c.args.v (omega (arith, c.requires.0, c.requires.1, length_words c.args.scratch.now)) (omega (arith, c.requires.0)) c.if-v-eq0.false f c.put_word.ensures;
-      upper_bound = (omega arith, only_new w w' c.args.n c.args.v c.requires.0 c.put_word.ensures);
-    }
+    keep_new w (words c.put_word.new.s) c.args.n c.args.v (omega (arith, c.requires.0, c.requires.1, length_words c.args.scratch.now)) (omega (arith, c.requires.0)) c.if-v-eq0.false
+    (sym (place_some (run w keep_at c.args.n) c.args.v c.place.result c.place.ensures) ∙ sym c.is_some.ensures ∙ c.if-is_some.false) c.put_word.ensures

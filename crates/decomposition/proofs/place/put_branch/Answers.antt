@@ -1,5 +1,4 @@
 use mathlib.Core.Path.{refl, ◌∙◌}
-use Prim.Native.Nat.{◌-◌}
 use native.Mathlib.Omega.{arith}
 use Rattle.words.specs.Words.{words}
 use Rattle.decomposition.specs.BranchAtoms.{atoms_start, atom_fits, atoms_next, atoms_end}
@@ -17,9 +16,6 @@ overflow_add-p c = omega (arith, c.loop-j-test.true, c.requires.0)
 pub get_word-requires : goal.get_word-requires
 get_word-requires c = omega (arith, c.loop-j-test.true, c.requires.0)
 
-pub unpack-requires : goal.unpack-requires
-unpack-requires c = tt
-
 pub put_atom-requires : goal.put_atom-requires
 put_atom-requires c =
     let L = c.loop-j in
@@ -28,12 +24,6 @@ put_atom-requires c =
       omega (arith, h, c.requires.1, L.invariant.1),
       atom_fits (words a.scratch.now) a.p a.n a.at a.name (words a.atoms.now) (words L.atoms) L.j L.invariant.0 h c.unpack.result (λ y k e. c.unpack.ensures y k (c.get_word.ensures ∙ e)) c.requires.2,
     )
-
-pub overflow_add-j : goal.overflow_add-j
-overflow_add-j c = omega (arith, c.loop-j-test.true)
-
-pub loop-j-smaller : goal.loop-j-smaller
-loop-j-smaller c = omega (arith, c.loop-j-test.true)
 
 pub loop-j-preserved : goal.loop-j-preserved
 loop-j-preserved c =

@@ -1,5 +1,4 @@
 use mathlib.Core.Path.{refl, ◌∙◌}
-use Prim.Native.Nat.{◌-◌}
 use native.Mathlib.Omega.{arith}
 use Rattle.words.specs.Words.{words}
 use Rattle.decomposition.specs.BranchRecords.{branches_start, branch_get, branch_room, branch_there, branches_next, clauses_are, atoms_are}

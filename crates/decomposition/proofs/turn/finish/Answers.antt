@@ -14,9 +14,9 @@ pub overflow_add-last : goal.overflow_add-last
 overflow_add-last c =
     let E = c.requires.0 in
     let k = c.args.k in
-    let s = c.args.s in
-    let to = c.args.to in
-    let n = c.args.rewritten in
+    let s = c.args.p.naming in
+    let to = c.args.p.atoms in
+    let n = c.args.p.rewritten in
     let w = words c.args.scratch.now in
     let cl = words c.args.clauses.now in
     let at = words c.args.atoms.now in
@@ -27,9 +27,9 @@ pub overflow_add-end : goal.overflow_add-end
 overflow_add-end c =
     let E = c.requires.0 in
     let k = c.args.k in
-    let s = c.args.s in
-    let to = c.args.to in
-    let n = c.args.rewritten in
+    let s = c.args.p.naming in
+    let to = c.args.p.atoms in
+    let n = c.args.p.rewritten in
     let w = words c.args.scratch.now in
     let cl = words c.args.clauses.now in
     let at = words c.args.atoms.now in
@@ -39,9 +39,9 @@ overflow_add-end c =
 pub returns-then-clause_room-last : goal.returns-then-clause_room-last
 returns-then-clause_room-last c =
     let k = c.args.k in
-    let s = c.args.s in
-    let to = c.args.to in
-    let n = c.args.rewritten in
+    let s = c.args.p.naming in
+    let to = c.args.p.atoms in
+    let n = c.args.p.rewritten in
     let w = words c.args.scratch.now in
     let cl = words c.args.clauses.now in
     let at = words c.args.atoms.now in
@@ -51,9 +51,9 @@ returns-then-clause_room-last c =
 pub returns-then-atom_room-end : goal.returns-then-atom_room-end
 returns-then-atom_room-end c =
     let k = c.args.k in
-    let s = c.args.s in
-    let to = c.args.to in
-    let n = c.args.rewritten in
+    let s = c.args.p.naming in
+    let to = c.args.p.atoms in
+    let n = c.args.p.rewritten in
     let w = words c.args.scratch.now in
     let cl = words c.args.clauses.now in
     let at = words c.args.atoms.now in
@@ -64,35 +64,35 @@ pub put_named-requires : goal.put_named-requires
 put_named-requires c =
     let E = c.requires.0 in
     let k = c.args.k in
-    let s = c.args.s in
-    let to = c.args.to in
+    let s = c.args.p.naming in
+    let to = c.args.p.atoms in
     (record { state = E.passed.state; held = E.passed.held }, omega (arith, E.passed.first, E.before.classes), c.requires.1, omega (arith, c.if-clause_room-last.false, c.clause_room.ensures), omega (arith, c.if-atom_room-end.false, c.atom_room.ensures), c.requires.2)
 
 pub clear_words-requires : goal.clear_words-requires
 clear_words-requires c =
     let E = c.requires.0 in
     let k = c.args.k in
-    let s = c.args.s in
-    let to = c.args.to in
-    let n = c.args.rewritten in
+    let s = c.args.p.naming in
+    let to = c.args.p.atoms in
+    let n = c.args.p.rewritten in
     let w = words c.args.scratch.now in
     let cl = words c.args.clauses.now in
     let at = words c.args.atoms.now in
     let la = length_words c.args.atoms.now in
     let put = c.put_named in
-    omega (arith, c.left.ensures, end_atoms k w cl at s to n E, la, c.if-atom_room-end.false, c.atom_room.ensures, put.auto.atoms)
+    omega (arith, c.saturating_sub-left.ensures, end_atoms k w cl at s to n E, la, c.if-atom_room-end.false, c.atom_room.ensures, put.auto.atoms)
 
 pub overflow_add-next : goal.overflow_add-next
 overflow_add-next c =
     let E = c.requires.0 in
-    omega (arith, E.passed.first, E.before.classes, end_named c.args.k (words c.args.scratch.now) (words c.args.clauses.now) (words c.args.atoms.now) c.args.s c.args.to c.args.rewritten E)
+    omega (arith, E.passed.first, E.before.classes, end_named c.args.k (words c.args.scratch.now) (words c.args.clauses.now) (words c.args.atoms.now) c.args.p.naming c.args.p.atoms c.args.p.rewritten E)
 
 pub returns : goal.returns
 returns c =
     let k = c.args.k in
-    let s = c.args.s in
-    let to = c.args.to in
-    let n = c.args.rewritten in
+    let s = c.args.p.naming in
+    let to = c.args.p.atoms in
+    let n = c.args.p.rewritten in
     let w = words c.args.scratch.now in
     let cl = words c.args.clauses.now in
     let at = words c.args.atoms.now in
@@ -100,7 +100,7 @@ returns c =
     let la = length_words c.args.atoms.now in
     let put = c.put_named in
     let cleared = c.clear_words in
-    let behind = c.left in
+    let behind = c.saturating_sub-left in
     let end = to + s.used in
     λ c0 a0 D P.
     ends_shown k c0 a0 D w cl at s to n P

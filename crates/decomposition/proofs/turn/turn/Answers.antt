@@ -1,3 +1,4 @@
+use Rattle.std.proofs.lemmas.Result.{err_from_is_err_and}
 use mathlib.Core.Path.{refl}
 use native.Mathlib.Omega.{arith}
 use Rattle.words.specs.Words.{words}
@@ -50,7 +51,7 @@ put_rewritten-requires c =
     let la = length_words c.args.atoms.now in
     let H = there T in
     let one = c.decompose_one in
-    let short = there_shorter T f.ensures m.ensures h.ensures (words one.new.scratch) _ c.in-To.n (rw c.in-To.is at (one.ensures H.clause T.passed.state (c.body_of-body.ensures H.clause H.is) (c.head_of-head.ensures H.clause H.is) T.passed.held)) in
+    let short = there_shorter T f.ensures m.ensures h.ensures (words one.new.scratch) _ c.in-Some.n (rw c.in-Some.is at (c.in_ok-naming.ensures H.clause T.passed.state (c.body_of-body.ensures H.clause H.is) (c.head_of-head.ensures H.clause H.is) T.passed.held)) in
     (omega (arith, short, F.short), omega (arith, one.auto.scratch, c.requires.1), omega (arith, F.row, lc), omega (arith, F.room, la), c.requires.2.atoms, omega (arith, short, F.low))
 
 pub overflow_add-body_end : goal.overflow_add-body_end
@@ -63,11 +64,11 @@ overflow_add-body_end c =
     let la = length_words c.args.atoms.now in
     let H = there T in
     let one = c.decompose_one in
-    let short = there_shorter T f.ensures m.ensures h.ensures (words one.new.scratch) _ c.in-To.n (rw c.in-To.is at (one.ensures H.clause T.passed.state (c.body_of-body.ensures H.clause H.is) (c.head_of-head.ensures H.clause H.is) T.passed.held)) in
+    let short = there_shorter T f.ensures m.ensures h.ensures (words one.new.scratch) _ c.in-Some.n (rw c.in-Some.is at (c.in_ok-naming.ensures H.clause T.passed.state (c.body_of-body.ensures H.clause H.is) (c.head_of-head.ensures H.clause H.is) T.passed.held)) in
     omega (arith, short, F.low, F.room, la, c.requires.2.atoms)
 
-pub overflow_add-end : goal.overflow_add-end
-overflow_add-end c =
+pub overflow_add-atoms : goal.overflow_add-atoms
+overflow_add-atoms c =
     let h = c.head_count-nh in
     let m = c.body_count-nb in
     let f = c.first_atom-first in
@@ -76,11 +77,11 @@ overflow_add-end c =
     let la = length_words c.args.atoms.now in
     let H = there T in
     let one = c.decompose_one in
-    let short = there_shorter T f.ensures m.ensures h.ensures (words one.new.scratch) _ c.in-To.n (rw c.in-To.is at (one.ensures H.clause T.passed.state (c.body_of-body.ensures H.clause H.is) (c.head_of-head.ensures H.clause H.is) T.passed.held)) in
+    let short = there_shorter T f.ensures m.ensures h.ensures (words one.new.scratch) _ c.in-Some.n (rw c.in-Some.is at (c.in_ok-naming.ensures H.clause T.passed.state (c.body_of-body.ensures H.clause H.is) (c.head_of-head.ensures H.clause H.is) T.passed.held)) in
     omega (arith, short, F.low, F.room, la, c.requires.2.atoms)
 
-pub overflow_add-more : goal.overflow_add-more
-overflow_add-more c =
+pub overflow_add-rewritten : goal.overflow_add-rewritten
+overflow_add-rewritten c =
     let h = c.head_count-nh in
     let m = c.body_count-nb in
     let f = c.first_atom-first in
@@ -110,8 +111,8 @@ put_whole-requires c =
     let la = length_words c.args.atoms.now in
     (omega (arith, F.row, lc), omega (arith, F.room, la), F.low)
 
-pub overflow_add-whole_end : goal.overflow_add-whole_end
-overflow_add-whole_end c =
+pub overflow_add-atoms-in-None : goal.overflow_add-atoms-in-None
+overflow_add-atoms-in-None c =
     let h = c.head_count-nh in
     let m = c.body_count-nb in
     let f = c.first_atom-first in
@@ -120,8 +121,8 @@ overflow_add-whole_end c =
     let la = length_words c.args.atoms.now in
     omega (arith, F.low, F.room, la, c.requires.2.atoms)
 
-pub returns-in-To : goal.returns-in-To
-returns-in-To c =
+pub returns-in-Some : goal.returns-in-Some
+returns-in-Some c =
     let h = c.head_count-nh in
     let m = c.body_count-nb in
     let f = c.first_atom-first in
@@ -129,17 +130,17 @@ returns-in-To c =
     let cl = words c.args.clauses.now in
     let at = words c.args.atoms.now in
     let i = c.args.c in
-    let to = c.args.to in
-    let n = c.args.rewritten in
-    let s = c.args.s in
+    let to = c.args.p.atoms in
+    let n = c.args.p.rewritten in
+    let s = c.args.p.naming in
     let one = c.decompose_one in
     let w1 = words one.new.scratch in
     let put = c.put_rewritten in
     let low = (fits c.requires.0 f.ensures m.ensures h.ensures).low in
     λ l fresh c0 a0 L k P.
     let H = clause_here l c0 a0 cl at i to P.done.clauses L.tabled P.half k in
-    let r = one.ensures H.clause P.state (c.body_of-body.ensures H.clause H.is) (c.head_of-head.ensures H.clause H.is) P.held in
-    turn_rewritten l fresh c0 a0 w cl at s i to n P H f.result m.result h.result f.ensures m.ensures h.ensures w1 (words put.new.clauses) (words put.new.atoms) _ _ _ (rw c.in-To.is at r) low put.ensures.clauses_after put.ensures.atoms_after refl
+    let r = c.in_ok-naming.ensures H.clause P.state (c.body_of-body.ensures H.clause H.is) (c.head_of-head.ensures H.clause H.is) P.held in
+    turn_rewritten l fresh c0 a0 w cl at s i to n P H f.result m.result h.result f.ensures m.ensures h.ensures w1 (words put.new.clauses) (words put.new.atoms) _ _ _ (rw c.in-Some.is at r) low put.ensures.clauses_after put.ensures.atoms_after refl
 
 pub returns-in-None : goal.returns-in-None
 returns-in-None c =
@@ -150,19 +151,19 @@ returns-in-None c =
     let cl = words c.args.clauses.now in
     let at = words c.args.atoms.now in
     let i = c.args.c in
-    let to = c.args.to in
-    let n = c.args.rewritten in
-    let s = c.args.s in
+    let to = c.args.p.atoms in
+    let n = c.args.p.rewritten in
+    let s = c.args.p.naming in
     let one = c.decompose_one in
     let w1 = words one.new.scratch in
     let put = c.put_whole in
     λ l fresh c0 a0 L k P.
     let H = clause_here l c0 a0 cl at i to P.done.clauses L.tabled P.half k in
-    let r = one.ensures H.clause P.state (c.body_of-body.ensures H.clause H.is) (c.head_of-head.ensures H.clause H.is) P.held in
+    let r = c.in_ok-naming.ensures H.clause P.state (c.body_of-body.ensures H.clause H.is) (c.head_of-head.ensures H.clause H.is) P.held in
     turn_whole l fresh c0 a0 w cl at s i to n P H f.result m.result h.result f.ensures m.ensures h.ensures w1 (words put.new.clauses) (words put.new.atoms) _ (rw c.in-None.is at r) put.ensures.clauses_after put.ensures.atoms_after refl
 
-pub returns-in-Refused : goal.returns-in-Refused
-returns-in-Refused c =
+pub returns-in_err-naming : goal.returns-in_err-naming
+returns-in_err-naming c =
     let h = c.head_count-nh in
     let m = c.body_count-nb in
     let f = c.first_atom-first in
@@ -170,12 +171,13 @@ returns-in-Refused c =
     let cl = words c.args.clauses.now in
     let at = words c.args.atoms.now in
     let i = c.args.c in
-    let to = c.args.to in
-    let n = c.args.rewritten in
-    let s = c.args.s in
+    let to = c.args.p.atoms in
+    let n = c.args.p.rewritten in
+    let s = c.args.p.naming in
     let one = c.decompose_one in
     let w1 = words one.new.scratch in
-    λ l fresh c0 a0 L k P.
+    let back = err_from_is_err_and c.from_residual.result c.from_residual.ensures.1 in rw (back.1, back.2)
+    (λ l fresh c0 a0 L k P.
     let H = clause_here l c0 a0 cl at i to P.done.clauses L.tabled P.half k in
-    let r = one.ensures H.clause P.state (c.body_of-body.ensures H.clause H.is) (c.head_of-head.ensures H.clause H.is) P.held in
-    turn_full l fresh c0 a0 w cl at s i to n P H w1 _ (rw c.in-Refused.is at r)
+    let r = c.in_err-naming.ensures H.clause P.state (c.body_of-body.ensures H.clause H.is) (c.head_of-head.ensures H.clause H.is) P.held in
+    turn_full l fresh c0 a0 w cl at s i to n P H w1 _ r)

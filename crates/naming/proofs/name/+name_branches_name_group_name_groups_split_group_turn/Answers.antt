@@ -1,116 +1,131 @@
+use Rattle.std.proofs.lemmas.Result.{err_from_is_err_and}
 use mathlib.Core.Path.{◌≡◌, refl, sym, ap, ◌∙◌}
 use mathlib.Core.List.{[]}
-use Prim.Native.Nat.{◌+◌, ◌*◌, ◌-◌, ◌≤◌}
+use Prim.Native.Nat.{◌+◌, ◌*◌, ◌-◌, ◌≤◌, ◌<◌}
 use native.Mathlib.Omega.{arith}
 use lib.ListN.{length, get_or, take}
 use Rattle.words.specs.Words.{words}
 use Rattle.words.specs.Laws.{length_words}
 use Rattle.naming.specs.Splits.{split_rule, group_rule}
 use Rattle.naming.specs.AgreeLaws.{same_words_lem}
-use Rattle.naming.specs.SplitLaws.{keep_none, there_of, tame_of, part_of, split_narrow, split_none, inner_at, named_front, there_front, inner_are, inner_there, fronted_again, split_to, split_full, split_back, split_only, only_back, names_none, below, reduced_short}
-use Rattle.naming.specs.CallLaws.{call_name, call_none, call_full, split_there, call_only}
+use Rattle.naming.specs.SplitLaws.{keep_none, there_of, tame_of, part_of, split_narrow, split_none, inner_at, named_front, there_front, inner_are, inner_there, fronted_again, split_to, split_full, split_back, split_only, only_back, names_none, reduced_short}
+use Rattle.naming.specs.CallLaws.{call_name, call_full, split_there, call_only}
 use Rattle.branches.specs.Edges.{fronted}
 use Rattle.naming.specs.TurnLaws.{child_are, child_there, child_high, child_low, child_few, child_named, stay_only, stay_turned, turn_only, turn_full, named_only, call_turned, called_small}
 use Rattle.branches.specs.Sorting.{sum}
 use Rattle.naming.specs.GroupTurns.{walk_start, sum_fits, walk_low, walk_high, walk_standing, walk_child, child_most, walk_only, walk_next, walk_stop, left_some, left_none}
 use Rattle.rules.specs.Branches.{tree_of, grouped, name_by}
 use Rattle.branches.specs.Grouped.{nothing}
-use Rattle.naming.specs.NameSteps.{tree_atoms, tree_only, tree_none, connected, groups_for, laid_by, laid_few, step_answer, laid_held, laid_named, laid_keep, laid_only}
+use Rattle.naming.specs.NameSteps.{tree_atoms, tree_only, tree_none, connected, homeless_none, groups_for, laid_by, laid_few, step_answer, laid_held, laid_named, laid_keep, laid_only}
 use Rattle.branches.specs.Layout.{work_words}
 use Prim.Native.Nat.{ℕ}
 use Rattle.naming.proofs.name.+name_branches_name_group_name_groups_split_group_turn.Goals as goal
 
-pub name_branches-tree-n-requires : goal.name_branches-tree-n-requires
-name_branches-tree-n-requires t c =
+pub name_branches-tree-requires : goal.name_branches-tree-requires
+name_branches-tree-requires t c =
     let w0 = words c.args.scratch.now in
-    let base = c.args.base in
-    let count = c.args.count in
+    let base = c.args.atoms.base in
+    let count = c.args.atoms.count in
     (there_of w0 base count c.requires.0, c.requires.1, omega (arith, c.requires.3), c.requires.7)
 
-pub name_branches-returns-then-n-eq0 : goal.name_branches-returns-then-n-eq0
-name_branches-returns-then-n-eq0 t c =
-    let the-tree = c.tree-n in
-    let the-if1 = c.if-n-eq0 in
+pub name_branches-returns-in_default : goal.name_branches-returns-in_default
+name_branches-returns-in_default t c =
+    let the-tree = c.tree in
     let w0 = words c.args.scratch.now in
     let w1 = words the-tree.new.scratch in
-    let base = c.args.base in
-    let count = c.args.count in
+    let base = c.args.atoms.base in
+    let count = c.args.atoms.count in
     let root = c.args.root in
     let s = c.args.s in
     let long1 = same_words_lem c.args.scratch.now the-tree.new.scratch the-tree.auto.scratch in
     record {
-      reduced_by = λ l z kept f A H K k. tree_none w0 w1 base count root s long1 c.requires.2 c.requires.3 the-tree.ensures.only_tree the-tree.result the-if1.true l z kept f A H k (the-tree.ensures.tree_is l A);
+      reduced_by = λ l z kept f A H K k. tree_none w0 w1 base count root s long1 c.requires.2 c.requires.3 the-tree.ensures.only_tree l z kept f A H k (rw c.in_default.is at (the-tree.ensures.tree_is l A));
       only_names = tree_only w0 w1 base count root s long1 c.requires.2 c.requires.3 the-tree.ensures.only_tree;
     }
 
-pub name_branches-arrange-groups-requires : goal.name_branches-arrange-groups-requires
-name_branches-arrange-groups-requires t c =
-    let the-tree = c.tree-n in
-    let the-if1 = c.if-n-eq0 in
+pub name_branches-arrange-requires : goal.name_branches-arrange-requires
+name_branches-arrange-requires t c =
+    let the-tree = c.tree in
     let list = c.requires.0.list in
     let w0 = words c.args.scratch.now in
     let w1 = words the-tree.new.scratch in
-    let base = c.args.base in
-    let count = c.args.count in
+    let base = c.args.atoms.base in
+    let count = c.args.atoms.count in
     let root = c.args.root in
     let s = c.args.s in
     let long1 = same_words_lem c.args.scratch.now the-tree.new.scratch the-tree.auto.scratch in
-    let joined = connected w1 root list the-tree.result the-if1.false (the-tree.ensures.tree_is list c.requires.0.are) in
+    let joined = connected w1 root list c.in-Some.n (rw c.in-Some.is at (the-tree.ensures.tree_is list c.requires.0.are)) in
     (record { list = list; are = tree_atoms w0 w1 base count root s long1 c.requires.2 c.requires.3 the-tree.ensures.only_tree list c.requires.0.are }, record { root = root; tree = tree_of list root; treed = joined.1 }, c.requires.1, c.requires.3, omega arith, omega arith, omega (arith, the-tree.auto.scratch, c.requires.7))
 
 pub name_branches-name_groups-requires : goal.name_branches-name_groups-requires
 name_branches-name_groups-requires t c =
-    let the-tree = c.tree-n in
-    let the-if1 = c.if-n-eq0 in
-    let the-arrange = c.arrange-groups in
-    let count = c.args.count in
+    let the-tree = c.tree in
+    let the-arrange = c.arrange in
+    let count = c.args.atoms.count in
     let list = c.requires.0.list in
     let root = c.args.root in
     let made = groups_for list (grouped (tree_of list root).parents root nothing list) in
     let w2 = words the-arrange.new.scratch in
     let tops = the-arrange.new.tops in
     let counts = the-arrange.new.counts in
-    let base = c.args.base in
-    let groups = the-arrange.result in
+    let base = c.args.atoms.base in
+    let groups = c.in-Some-arrange.groups in
     let w0 = words c.args.scratch.now in
     let w1 = words the-tree.new.scratch in
     let s = c.args.s in
     let long1 = same_words_lem c.args.scratch.now the-tree.new.scratch the-tree.auto.scratch in
-    let joined = connected w1 root list the-tree.result the-if1.false (the-tree.ensures.tree_is list c.requires.0.are) in
-    let laid = laid_by w2 tops counts base count groups list c.requires.0.tame root (tree_of list root).parents (the-arrange.ensures.arranged_by list root (tree_of list root) (tree_atoms w0 w1 base count root s long1 c.requires.2 c.requires.3 the-tree.ensures.only_tree list c.requires.0.are) joined.1) in
+    let joined = connected w1 root list c.in-Some.n (rw c.in-Some.is at (the-tree.ensures.tree_is list c.requires.0.are)) in
+    let laid = laid_by w2 tops counts base count groups list c.requires.0.tame root (tree_of list root).parents (rw c.in-Some-arrange.is at (the-arrange.ensures.arranged_by list root (tree_of list root) (tree_atoms w0 w1 base count root s long1 c.requires.2 c.requires.3 the-tree.ensures.only_tree list c.requires.0.are) joined.1)) in
     let few = laid_few w2 tops counts base count groups made laid in
     let long2 = same_words_lem the-tree.new.scratch the-arrange.new.scratch the-arrange.auto.scratch in
     let mt : 5 * count + 4 ≡ t = c.decreases in
     (omega (arith, mt), (record { groups = made; laid = laid }, omega (arith, few, c.requires.1, the-arrange.auto.tops), omega (arith, few, c.requires.1, the-arrange.auto.counts), c.requires.1, c.requires.2, c.requires.3, laid_named w0 w1 w2 base count s long1 long2 c.requires.2 c.requires.3 the-tree.ensures.only_tree the-arrange.ensures.only_records c.requires.4, c.requires.5, c.requires.6, omega (arith, the-arrange.auto.scratch, the-tree.auto.scratch, c.requires.7)))
 
+pub name_branches-returns-in_default-arrange : goal.name_branches-returns-in_default-arrange
+name_branches-returns-in_default-arrange t c =
+    let the-tree = c.tree in
+    let the-arrange = c.arrange in
+    let base = c.args.atoms.base in
+    let count = c.args.atoms.count in
+    let root = c.args.root in
+    let s = c.args.s in
+    let w0 = words c.args.scratch.now in
+    let w1 = words the-tree.new.scratch in
+    let w2 = words the-arrange.new.scratch in
+    let long1 = same_words_lem c.args.scratch.now the-tree.new.scratch the-tree.auto.scratch in
+    let long2 = same_words_lem the-tree.new.scratch the-arrange.new.scratch the-arrange.auto.scratch in
+    record {
+      reduced_by = λ l z kept f A H K k. let joined = connected w1 root l c.in-Some.n (rw c.in-Some.is at (the-tree.ensures.tree_is l A)) in homeless_none w2 the-arrange.new.tops the-arrange.new.counts base count root s l kept f z joined.0 k (rw c.in_default-arrange.is at (the-arrange.ensures.arranged_by l root (tree_of l root) (tree_atoms w0 w1 base count root s long1 c.requires.2 c.requires.3 the-tree.ensures.only_tree l A) joined.1)) (laid_held w0 w1 w2 base count s long1 long2 c.requires.2 c.requires.3 the-tree.ensures.only_tree the-arrange.ensures.only_records z H);
+      only_names = laid_only w0 w1 w2 base count s long1 long2 c.requires.2 c.requires.3 the-tree.ensures.only_tree the-arrange.ensures.only_records w2 (names_none base count w2);
+    }
+
 pub name_branches-returns : goal.name_branches-returns
 name_branches-returns t c =
-    let the-tree = c.tree-n in
-    let the-if1 = c.if-n-eq0 in
-    let the-arrange = c.arrange-groups in
+    let the-tree = c.tree in
+    let the-arrange = c.arrange in
     let the-name-groups = c.name_groups in
     let w3 = words the-name-groups.new.scratch in
-    let base = c.args.base in
-    let count = c.args.count in
+    let base = c.args.atoms.base in
+    let count = c.args.atoms.count in
     let root = c.args.root in
     let s = c.args.s in
     let w1 = words the-tree.new.scratch in
     let w2 = words the-arrange.new.scratch in
     let tops = the-arrange.new.tops in
     let counts = the-arrange.new.counts in
-    let groups = the-arrange.result in
+    let groups = c.in-Some-arrange.groups in
     let w0 = words c.args.scratch.now in
     let long1 = same_words_lem c.args.scratch.now the-tree.new.scratch the-tree.auto.scratch in
     let long2 = same_words_lem the-tree.new.scratch the-arrange.new.scratch the-arrange.auto.scratch in
     let keep = c.args.keep in
     record {
-      reduced_by = λ l z kept f A H K k. step_answer w3 base count root s l kept f z the-name-groups.result (connected w1 root l the-tree.result the-if1.false (the-tree.ensures.tree_is l A)).0 k (λ g h. the-name-groups.ensures.reduced_by (groups_for l (grouped (tree_of l root).parents root nothing l)) z kept g (laid_by w2 tops counts base count groups l (tame_of w0 base count l c.requires.0 A) root (tree_of l root).parents (the-arrange.ensures.arranged_by l root (tree_of l root) (tree_atoms w0 w1 base count root s long1 c.requires.2 c.requires.3 the-tree.ensures.only_tree l A) (connected w1 root l the-tree.result the-if1.false (the-tree.ensures.tree_is l A)).1)) (laid_held w0 w1 w2 base count s long1 long2 c.requires.2 c.requires.3 the-tree.ensures.only_tree the-arrange.ensures.only_records z H) (laid_keep w0 w1 w2 base count s long1 long2 c.requires.2 c.requires.3 the-tree.ensures.only_tree the-arrange.ensures.only_records keep kept K) h);
+      reduced_by = λ l z kept f A H K k. step_answer w3 base count root s l kept f z the-name-groups.result (connected w1 root l c.in-Some.n (rw c.in-Some.is at (the-tree.ensures.tree_is l A))).0 k (λ g h. the-name-groups.ensures.reduced_by (groups_for l (grouped (tree_of l root).parents root nothing l)) z kept g (laid_by w2 tops counts base count groups l (tame_of w0 base count l c.requires.0 A) root (tree_of l root).parents (rw c.in-Some-arrange.is at (the-arrange.ensures.arranged_by l root (tree_of l root) (tree_atoms w0 w1 base count root s long1 c.requires.2 c.requires.3 the-tree.ensures.only_tree l A) (connected w1 root l c.in-Some.n (rw c.in-Some.is at (the-tree.ensures.tree_is l A))).1))) (laid_held w0 w1 w2 base count s long1 long2 c.requires.2 c.requires.3 the-tree.ensures.only_tree the-arrange.ensures.only_records z H) (laid_keep w0 w1 w2 base count s long1 long2 c.requires.2 c.requires.3 the-tree.ensures.only_tree the-arrange.ensures.only_records keep kept K) h);
       only_names = laid_only w0 w1 w2 base count s long1 long2 c.requires.2 c.requires.3 the-tree.ensures.only_tree the-arrange.ensures.only_records w3 the-name-groups.ensures.only_names;
     }
 
 pub name_group-split_group-requires : goal.name_group-split_group-requires
 name_group-split_group-requires t c =
-    let count = c.args.count in
+    let count = c.args.atoms.count in
     let mt : 5 * count + 1 ≡ t = c.decreases in
     (omega (arith, mt), c.requires)
 
@@ -118,68 +133,55 @@ pub name_group-name_of-requires : goal.name_group-name_of-requires
 name_group-name_of-requires t c =
     let the-split-group = c.split_group in
     let w1 = words the-split-group.new.scratch in
-    let base = c.args.base in
-    let count = c.args.count in
+    let base = c.args.atoms.base in
+    let count = c.args.atoms.count in
     let s = c.args.s in
     let list = c.requires.0.list in
     let root = c.args.root in
     let top = c.args.t in
     let state = c.requires.4.state in
-    let D = (split_there w1 base count s _ _ (split_rule count list root top state) (rw c.in-To.is at (the-split-group.ensures.split_by list state count c.requires.0.are c.requires.4.held (omega arith)))) in
+    let D = (split_there w1 base count s _ _ (split_rule count list root top state) (c.in_ok-m.ensures.split_by list state count c.requires.0.are c.requires.4.held (omega arith))) in
     (D.tame, omega (arith, D.shorter, c.requires.1), omega (arith, c.requires.2), omega (arith, D.shorter, c.requires.3), D.named, omega (arith, D.first, D.few, c.requires.5), omega (arith, the-split-group.auto.scratch, c.requires.6))
 
-pub name_group-returns-in-To : goal.name_group-returns-in-To
-name_group-returns-in-To t c =
+pub name_group-returns : goal.name_group-returns
+name_group-returns t c =
     let the-split-group = c.split_group in
     let the-name-of = c.name_of in
     let w1 = words the-split-group.new.scratch in
     let w2 = words the-name-of.new.scratch in
-    let base = c.args.base in
-    let count = c.args.count in
+    let base = c.args.atoms.base in
+    let count = c.args.atoms.count in
     let root = c.args.root in
     let s = c.args.s in
     let top = c.args.t in
     let w0 = words c.args.scratch.now in
     record {
-      called_by = λ l z f A H k. call_name w1 w2 base count root s _ _ _ c.requires.5 the-name-of.ensures.named_by f l top z (rw c.in-To.is at (the-split-group.ensures.split_by l z f A H k));
+      called_by = λ l z f A H k. call_name w1 w2 base count root s _ _ _ c.requires.5 the-name-of.ensures.named_by f l top z (c.in_ok-m.ensures.split_by l z f A H k);
       only_names = call_only base count w0 w1 w2 c.requires.2 c.requires.3 the-split-group.ensures.only_names the-name-of.ensures.only_memo;
     }
 
-pub name_group-returns-in-None : goal.name_group-returns-in-None
-name_group-returns-in-None t c =
+pub name_group-returns-in_err-m : goal.name_group-returns-in_err-m
+name_group-returns-in_err-m t c =
     let the-split-group = c.split_group in
     let w1 = words the-split-group.new.scratch in
-    let base = c.args.base in
-    let count = c.args.count in
+    let base = c.args.atoms.base in
+    let count = c.args.atoms.count in
     let root = c.args.root in
     let s = c.args.s in
     let top = c.args.t in
-    record {
-      called_by = λ l z f A H k. call_none w1 w1 base count root s f l top z _ (rw c.in-None.is at (the-split-group.ensures.split_by l z f A H k));
+    let back = err_from_is_err_and c.from_residual.result c.from_residual.ensures.1 in rw (back.1, back.2)
+    (record {
+      called_by = λ l z f A H k. call_full w1 w1 base count root s f l top z _ (c.in_err-m.ensures.split_by l z f A H k);
       only_names = the-split-group.ensures.only_names;
-    }
-
-pub name_group-returns-in-Refused : goal.name_group-returns-in-Refused
-name_group-returns-in-Refused t c =
-    let the-split-group = c.split_group in
-    let w1 = words the-split-group.new.scratch in
-    let base = c.args.base in
-    let count = c.args.count in
-    let root = c.args.root in
-    let s = c.args.s in
-    let top = c.args.t in
-    record {
-      called_by = λ l z f A H k. call_full w1 w1 base count root s f l top z _ (rw c.in-Refused.is at (the-split-group.ensures.split_by l z f A H k));
-      only_names = the-split-group.ensures.only_names;
-    }
+    })
 
 pub name_groups-behind-requires : goal.name_groups-behind-requires
 name_groups-behind-requires t c =
     let w0 = words c.args.scratch.now in
     let tops = c.args.tops.now in
     let counts = c.args.counts.now in
-    let base = c.args.base in
-    let count = c.args.count in
+    let base = c.args.atoms.base in
+    let count = c.args.atoms.count in
     let groups = c.args.groups in
     let root = c.args.root in
     let keep = c.args.keep in
@@ -193,8 +195,8 @@ name_groups-overflow_sub-p t c =
     let counts = c.args.counts.now in
     let w0 = words c.args.scratch.now in
     let tops = c.args.tops.now in
-    let base = c.args.base in
-    let count = c.args.count in
+    let base = c.args.atoms.base in
+    let count = c.args.atoms.count in
     let root = c.args.root in
     let keep = c.args.keep in
     let s = c.args.s in
@@ -209,8 +211,8 @@ name_groups-loop-g-init t c =
     let w0 = words c.args.scratch.now in
     let tops = c.args.tops.now in
     let counts = c.args.counts.now in
-    let base = c.args.base in
-    let count = c.args.count in
+    let base = c.args.atoms.base in
+    let count = c.args.atoms.count in
     let groups = c.args.groups in
     let root = c.args.root in
     let keep = c.args.keep in
@@ -221,11 +223,11 @@ pub name_groups-turn-requires : goal.name_groups-turn-requires
 name_groups-turn-requires t c =
     let the-loop = c.loop-g in
     let the-loop-test = c.loop-g-test in
-    let count = c.args.count in
+    let count = c.args.atoms.count in
     let w0 = words c.args.scratch.now in
     let tops = c.args.tops.now in
     let counts = c.args.counts.now in
-    let base = c.args.base in
+    let base = c.args.atoms.base in
     let groups = c.args.groups in
     let root = c.args.root in
     let keep = c.args.keep in
@@ -235,16 +237,16 @@ name_groups-turn-requires t c =
     let mt : 5 * count + 3 ≡ t = c.decreases in
     (omega (arith, mt, child_most w0 tops counts base count groups root keep s c.requires.4 c.requires.5 c.requires.3 c.requires.7 c.requires.0 c.requires.6 c.requires.8 room w1 the-loop.m the-loop.any the-loop.p the-loop.q the-loop.g the-loop.invariant.1 the-loop-test.true (get_or counts the-loop.g 0) (get_or tops the-loop.g 0) refl refl), (walk_standing w0 tops counts base count groups root keep s c.requires.4 c.requires.5 c.requires.3 c.requires.7 c.requires.0 c.requires.6 c.requires.8 room w1 the-loop.m the-loop.any the-loop.p the-loop.q the-loop.g the-loop.invariant.1 the-loop-test.true (get_or counts the-loop.g 0) (get_or tops the-loop.g 0) refl refl, c.requires.8, omega (arith, the-loop.invariant.0, c.requires.9)))
 
-pub name_groups-returns-in-Refused : goal.name_groups-returns-in-Refused
-name_groups-returns-in-Refused t c =
+pub name_groups-returns-in_err-more : goal.name_groups-returns-in_err-more
+name_groups-returns-in_err-more t c =
     let the-loop = c.loop-g in
     let the-loop-test = c.loop-g-test in
     let the-turn = c.turn in
     let w0 = words c.args.scratch.now in
     let tops = c.args.tops.now in
     let counts = c.args.counts.now in
-    let base = c.args.base in
-    let count = c.args.count in
+    let base = c.args.atoms.base in
+    let count = c.args.atoms.count in
     let groups = c.args.groups in
     let root = c.args.root in
     let keep = c.args.keep in
@@ -252,10 +254,11 @@ name_groups-returns-in-Refused t c =
     let room : work_words ≤ length w0 = omega (arith, c.requires.9, length_words c.args.scratch.now) in
     let w1 = words the-loop.scratch in
     let w2 = words the-turn.new.scratch in
-    record {
-      reduced_by = walk_stop w0 tops counts base count groups root keep s c.requires.4 c.requires.5 c.requires.3 c.requires.7 c.requires.0 c.requires.6 c.requires.8 room w1 the-loop.m the-loop.any the-loop.p the-loop.q the-loop.g the-loop.invariant.1 the-loop-test.true (get_or counts the-loop.g 0) (get_or tops the-loop.g 0) refl refl w2 (same_words_lem c.args.scratch.now the-loop.scratch the-loop.invariant.0) the-turn.result the-turn.ensures.fact the-turn.ensures.fact_2 _ c.in-Refused.is;
+    let back = err_from_is_err_and c.from_residual.result c.from_residual.ensures.1 in rw (back.1, back.2)
+    (record {
+      reduced_by = walk_stop w0 tops counts base count groups root keep s c.requires.4 c.requires.5 c.requires.3 c.requires.7 c.requires.0 c.requires.6 c.requires.8 room w1 the-loop.m the-loop.any the-loop.p the-loop.q the-loop.g the-loop.invariant.1 the-loop-test.true (get_or counts the-loop.g 0) (get_or tops the-loop.g 0) refl refl w2 (same_words_lem c.args.scratch.now the-loop.scratch the-loop.invariant.0) the-turn.result the-turn.ensures.fact the-turn.ensures.fact_2 _ c.in_err-more.was;
       only_names = walk_only w0 tops counts base count groups root keep s c.requires.4 c.requires.5 c.requires.3 c.requires.7 c.requires.0 c.requires.6 c.requires.8 room w1 the-loop.m the-loop.any the-loop.p the-loop.q the-loop.g the-loop.invariant.1 the-loop-test.true (get_or counts the-loop.g 0) (get_or tops the-loop.g 0) refl refl w2 (same_words_lem c.args.scratch.now the-loop.scratch the-loop.invariant.0) the-turn.result the-turn.ensures.fact the-turn.ensures.fact_2;
-    }
+    })
 
 pub name_groups-overflow_cast-p-in-loop-g : goal.name_groups-overflow_cast-p-in-loop-g
 name_groups-overflow_cast-p-in-loop-g t c =
@@ -264,8 +267,8 @@ name_groups-overflow_cast-p-in-loop-g t c =
     let w0 = words c.args.scratch.now in
     let tops = c.args.tops.now in
     let counts = c.args.counts.now in
-    let base = c.args.base in
-    let count = c.args.count in
+    let base = c.args.atoms.base in
+    let count = c.args.atoms.count in
     let groups = c.args.groups in
     let root = c.args.root in
     let keep = c.args.keep in
@@ -281,8 +284,8 @@ name_groups-overflow_add-p-in-loop-g t c =
     let w0 = words c.args.scratch.now in
     let tops = c.args.tops.now in
     let counts = c.args.counts.now in
-    let base = c.args.base in
-    let count = c.args.count in
+    let base = c.args.atoms.base in
+    let count = c.args.atoms.count in
     let groups = c.args.groups in
     let root = c.args.root in
     let keep = c.args.keep in
@@ -299,8 +302,8 @@ name_groups-loop-g-preserved t c =
     let w0 = words c.args.scratch.now in
     let tops = c.args.tops.now in
     let counts = c.args.counts.now in
-    let base = c.args.base in
-    let count = c.args.count in
+    let base = c.args.atoms.base in
+    let count = c.args.atoms.count in
     let groups = c.args.groups in
     let root = c.args.root in
     let keep = c.args.keep in
@@ -308,7 +311,7 @@ name_groups-loop-g-preserved t c =
     let room : work_words ≤ length w0 = omega (arith, c.requires.9, length_words c.args.scratch.now) in
     let w1 = words the-loop.scratch in
     let w2 = words the-turn.new.scratch in
-    (the-turn.auto.scratch ∙ the-loop.invariant.0, walk_next w0 tops counts base count groups root keep s c.requires.4 c.requires.5 c.requires.3 c.requires.7 c.requires.0 c.requires.6 c.requires.8 room w1 the-loop.m the-loop.any the-loop.p the-loop.q the-loop.g the-loop.invariant.1 the-loop-test.true (get_or counts the-loop.g 0) (get_or tops the-loop.g 0) refl refl w2 (same_words_lem c.args.scratch.now the-loop.scratch the-loop.invariant.0) the-turn.result the-turn.ensures.fact the-turn.ensures.fact_2 _ _ _ c.in-On.is)
+    (the-turn.auto.scratch ∙ the-loop.invariant.0, walk_next w0 tops counts base count groups root keep s c.requires.4 c.requires.5 c.requires.3 c.requires.7 c.requires.0 c.requires.6 c.requires.8 room w1 the-loop.m the-loop.any the-loop.p the-loop.q the-loop.g the-loop.invariant.1 the-loop-test.true (get_or counts the-loop.g 0) (get_or tops the-loop.g 0) refl refl w2 (same_words_lem c.args.scratch.now the-loop.scratch the-loop.invariant.0) the-turn.result the-turn.ensures.fact the-turn.ensures.fact_2 _ _ _ c.in_ok-more.was)
 
 pub name_groups-overflow_sub-result : goal.name_groups-overflow_sub-result
 name_groups-overflow_sub-result t c =
@@ -316,8 +319,8 @@ name_groups-overflow_sub-result t c =
     let w0 = words c.args.scratch.now in
     let tops = c.args.tops.now in
     let counts = c.args.counts.now in
-    let base = c.args.base in
-    let count = c.args.count in
+    let base = c.args.atoms.base in
+    let count = c.args.atoms.count in
     let groups = c.args.groups in
     let root = c.args.root in
     let keep = c.args.keep in
@@ -332,8 +335,8 @@ name_groups-overflow_cast-result t c =
     let w0 = words c.args.scratch.now in
     let tops = c.args.tops.now in
     let counts = c.args.counts.now in
-    let base = c.args.base in
-    let count = c.args.count in
+    let base = c.args.atoms.base in
+    let count = c.args.atoms.count in
     let groups = c.args.groups in
     let root = c.args.root in
     let keep = c.args.keep in
@@ -350,8 +353,8 @@ name_groups-returns-then-any t c =
     let w0 = words c.args.scratch.now in
     let tops = c.args.tops.now in
     let counts = c.args.counts.now in
-    let base = c.args.base in
-    let count = c.args.count in
+    let base = c.args.atoms.base in
+    let count = c.args.atoms.count in
     let groups = c.args.groups in
     let root = c.args.root in
     let keep = c.args.keep in
@@ -370,8 +373,8 @@ name_groups-returns t c =
     let w0 = words c.args.scratch.now in
     let tops = c.args.tops.now in
     let counts = c.args.counts.now in
-    let base = c.args.base in
-    let count = c.args.count in
+    let base = c.args.atoms.base in
+    let count = c.args.atoms.count in
     let groups = c.args.groups in
     let root = c.args.root in
     let keep = c.args.keep in
@@ -387,8 +390,8 @@ split_group-returns-then-not-is_wide t c =
     let the-is-wide = c.is_wide in
     let the-if1 = c.if-not-is_wide in
     let w0 = words c.args.scratch.now in
-    let base = c.args.base in
-    let count = c.args.count in
+    let base = c.args.atoms.base in
+    let count = c.args.atoms.count in
     let s = c.args.s in
     let root = c.args.root in
     let top = c.args.t in
@@ -397,61 +400,57 @@ split_group-returns-then-not-is_wide t c =
       only_names = names_none base count w0;
     }
 
-pub split_group-only_edge-e-requires : goal.split_group-only_edge-e-requires
-split_group-only_edge-e-requires t c =
+pub split_group-only_edge-requires : goal.split_group-only_edge-requires
+split_group-only_edge-requires t c =
     (c.requires.0, c.requires.3, c.requires.6)
 
-pub split_group-returns-then-e-count : goal.split_group-returns-then-e-count
-split_group-returns-then-e-count t c =
+pub split_group-returns-in_default : goal.split_group-returns-in_default
+split_group-returns-in_default t c =
     let the-is-wide = c.is_wide in
     let the-if1 = c.if-not-is_wide in
-    let the-only-edge = c.only_edge-e in
-    let the-if2 = c.if-e-count in
+    let the-only-edge = c.only_edge in
     let w0 = words c.args.scratch.now in
-    let base = c.args.base in
-    let count = c.args.count in
+    let base = c.args.atoms.base in
+    let count = c.args.atoms.count in
     let s = c.args.s in
     let root = c.args.root in
     let top = c.args.t in
     record {
-      split_by = λ l z f A H k. split_none w0 base count s l root top z f A (tame_of w0 base count l c.requires.0 A) H (sym (the-is-wide.ensures l (part_of c.args.scratch.now base count l c.requires.3 c.requires.6 A)) ∙ the-if1.false) ((the-only-edge.ensures l A).none the-if2.true);
+      split_by = λ l z f A H k. split_none w0 base count s l root top z f A (tame_of w0 base count l c.requires.0 A) H (sym (the-is-wide.ensures l (part_of c.args.scratch.now base count l c.requires.3 c.requires.6 A)) ∙ the-if1.false) (rw c.in_default.is at (the-only-edge.ensures l A));
       only_names = names_none base count w0;
     }
 
 pub split_group-to_front-requires : goal.split_group-to_front-requires
 split_group-to_front-requires t c =
-    let the-only-edge = c.only_edge-e in
-    let the-if2 = c.if-e-count in
+    let the-only-edge = c.only_edge in
     let w0 = words c.args.scratch.now in
-    let base = c.args.base in
-    let count = c.args.count in
-    let e = the-only-edge.result in
-    let h = below e count (the-only-edge.ensures c.requires.0.list c.requires.0.are).within the-if2.false in
+    let base = c.args.atoms.base in
+    let count = c.args.atoms.count in
+    let e = c.in-Some.e in
+    let h : e < count = omega (arith, (c.in-Some.ensures c.requires.0.list c.requires.0.are).within, c.requires.0.are.long) in
     (there_of w0 base count c.requires.0, h, c.requires.3, c.requires.6)
 
-pub split_group-overflow_add-base : goal.split_group-overflow_add-base
-split_group-overflow_add-base t c = omega (arith, c.requires.3)
+pub split_group-overflow_add-inner : goal.split_group-overflow_add-inner
+split_group-overflow_add-inner t c = omega (arith, c.requires.3)
 
-pub split_group-overflow_sub-count : goal.split_group-overflow_sub-count
-split_group-overflow_sub-count t c =
-    let the-only-edge = c.only_edge-e in
-    let the-if2 = c.if-e-count in
-    let e = the-only-edge.result in
-    let count = c.args.count in
-    let h = below e count (the-only-edge.ensures c.requires.0.list c.requires.0.are).within the-if2.false in
+pub split_group-overflow_sub-inner : goal.split_group-overflow_sub-inner
+split_group-overflow_sub-inner t c =
+    let the-only-edge = c.only_edge in
+    let e = c.in-Some.e in
+    let count = c.args.atoms.count in
+    let h : e < count = omega (arith, (c.in-Some.ensures c.requires.0.list c.requires.0.are).within, c.requires.0.are.long) in
     omega (arith, h)
 
 pub split_group-name_branches-requires : goal.split_group-name_branches-requires
 split_group-name_branches-requires t c =
-    let the-only-edge = c.only_edge-e in
-    let the-if2 = c.if-e-count in
+    let the-only-edge = c.only_edge in
     let the-to-front = c.to_front in
-    let count = c.args.count in
-    let e = the-only-edge.result in
-    let h = below e count (the-only-edge.ensures c.requires.0.list c.requires.0.are).within the-if2.false in
+    let count = c.args.atoms.count in
+    let e = c.in-Some.e in
+    let h : e < count = omega (arith, (c.in-Some.ensures c.requires.0.list c.requires.0.are).within, c.requires.0.are.long) in
     let w0 = words c.args.scratch.now in
     let w1 = words the-to-front.new.scratch in
-    let base = c.args.base in
+    let base = c.args.atoms.base in
     let root = c.args.root in
     let top = c.args.t in
     let s = c.args.s in
@@ -462,15 +461,14 @@ split_group-name_branches-requires t c =
 
 pub split_group-overflow_add-result : goal.split_group-overflow_add-result
 split_group-overflow_add-result t c =
-    let the-only-edge = c.only_edge-e in
-    let the-if2 = c.if-e-count in
+    let the-only-edge = c.only_edge in
     let the-to-front = c.to_front in
     let the-name-branches = c.name_branches in
     let w2 = words the-name-branches.new.scratch in
-    let base = c.args.base in
-    let count = c.args.count in
+    let base = c.args.atoms.base in
+    let count = c.args.atoms.count in
     let list = c.requires.0.list in
-    let e = the-only-edge.result in
+    let e = c.in-Some.e in
     let s = c.args.s in
     let top = c.args.t in
     let w0 = words c.args.scratch.now in
@@ -478,52 +476,50 @@ split_group-overflow_add-result t c =
     let root = c.args.root in
     let long1 = same_words_lem c.args.scratch.now the-to-front.new.scratch the-to-front.auto.scratch in
     let long2 = same_words_lem the-to-front.new.scratch the-name-branches.new.scratch the-name-branches.auto.scratch in
-    let h = below e count (the-only-edge.ensures c.requires.0.list c.requires.0.are).within the-if2.false in
-    omega (arith, reduced_short w2 (base + 1) (count - 1) (inner_at list e) [] s (name_by count (inner_at list e) top [] c.requires.4.state) _ _ (rw c.in-To.is at (the-name-branches.ensures.reduced_by (inner_at list e) c.requires.4.state [] count (inner_are w0 w1 w2 base count e root top s long1 long2 c.requires.2 h the-to-front.ensures.only_records list c.requires.0.are c.requires.0.tame (the-to-front.ensures.atoms_are list c.requires.0.are)) (named_front w0 w1 w2 base count e root top s long1 long2 c.requires.2 h the-to-front.ensures.only_records c.requires.4.state c.requires.4.held) (keep_none w1) (omega (arith, h)))), c.requires.1)
+    let h : e < count = omega (arith, (c.in-Some.ensures c.requires.0.list c.requires.0.are).within, c.requires.0.are.long) in
+    omega (arith, reduced_short w2 (base + 1) (count - 1) (inner_at list e) [] s (name_by count (inner_at list e) top [] c.requires.4.state) _ _ (rw c.in-Some-2.is at (c.in_ok-m.ensures.reduced_by (inner_at list e) c.requires.4.state [] count (inner_are w0 w1 w2 base count e root top s long1 long2 c.requires.2 h the-to-front.ensures.only_records list c.requires.0.are c.requires.0.tame (the-to-front.ensures.atoms_are list c.requires.0.are)) (named_front w0 w1 w2 base count e root top s long1 long2 c.requires.2 h the-to-front.ensures.only_records c.requires.4.state c.requires.4.held) (keep_none w1) (omega (arith, h)))), c.requires.1)
 
 pub split_group-from_front-requires : goal.split_group-from_front-requires
 split_group-from_front-requires t c =
-    let the-only-edge = c.only_edge-e in
-    let the-if2 = c.if-e-count in
+    let the-only-edge = c.only_edge in
     let the-to-front = c.to_front in
     let the-name-branches = c.name_branches in
     let list = c.requires.0.list in
-    let e = the-only-edge.result in
+    let e = c.in-Some.e in
     let w0 = words c.args.scratch.now in
     let w1 = words the-to-front.new.scratch in
     let w2 = words the-name-branches.new.scratch in
-    let base = c.args.base in
-    let count = c.args.count in
+    let base = c.args.atoms.base in
+    let count = c.args.atoms.count in
     let root = c.args.root in
     let top = c.args.t in
     let s = c.args.s in
     let long1 = same_words_lem c.args.scratch.now the-to-front.new.scratch the-to-front.auto.scratch in
     let long2 = same_words_lem the-to-front.new.scratch the-name-branches.new.scratch the-name-branches.auto.scratch in
-    let h = below e count (the-only-edge.ensures c.requires.0.list c.requires.0.are).within the-if2.false in
-    (record { list = fronted list e; are = fronted_again w0 w1 w2 base count e root top s long1 long2 c.requires.2 h the-to-front.ensures.only_records list c.requires.0.are c.requires.0.tame (the-to-front.ensures.atoms_are list c.requires.0.are) the-name-branches.ensures.only_names count c.requires.4.state (rw c.in-None.is at (the-name-branches.ensures.reduced_by (inner_at list e) c.requires.4.state [] count (inner_are w0 w1 w2 base count e root top s long1 long2 c.requires.2 h the-to-front.ensures.only_records list c.requires.0.are c.requires.0.tame (the-to-front.ensures.atoms_are list c.requires.0.are)) (named_front w0 w1 w2 base count e root top s long1 long2 c.requires.2 h the-to-front.ensures.only_records c.requires.4.state c.requires.4.held) (keep_none w1) (omega (arith, h)))) }, h, c.requires.3, omega (arith, the-name-branches.auto.scratch, the-to-front.auto.scratch, c.requires.6))
+    let h : e < count = omega (arith, (c.in-Some.ensures c.requires.0.list c.requires.0.are).within, c.requires.0.are.long) in
+    (record { list = fronted list e; are = fronted_again w0 w1 w2 base count e root top s long1 long2 c.requires.2 h the-to-front.ensures.only_records list c.requires.0.are c.requires.0.tame (the-to-front.ensures.atoms_are list c.requires.0.are) the-name-branches.ensures.only_names count c.requires.4.state (rw c.in-None.is at (c.in_ok-m.ensures.reduced_by (inner_at list e) c.requires.4.state [] count (inner_are w0 w1 w2 base count e root top s long1 long2 c.requires.2 h the-to-front.ensures.only_records list c.requires.0.are c.requires.0.tame (the-to-front.ensures.atoms_are list c.requires.0.are)) (named_front w0 w1 w2 base count e root top s long1 long2 c.requires.2 h the-to-front.ensures.only_records c.requires.4.state c.requires.4.held) (keep_none w1) (omega (arith, h)))) }, h, c.requires.3, omega (arith, the-name-branches.auto.scratch, the-to-front.auto.scratch, c.requires.6))
 
-pub split_group-returns-in-To : goal.split_group-returns-in-To
-split_group-returns-in-To t c =
+pub split_group-returns-in-Some-2 : goal.split_group-returns-in-Some-2
+split_group-returns-in-Some-2 t c =
     let the-is-wide = c.is_wide in
     let the-if1 = c.if-not-is_wide in
-    let the-only-edge = c.only_edge-e in
-    let the-if2 = c.if-e-count in
+    let the-only-edge = c.only_edge in
     let the-to-front = c.to_front in
     let the-name-branches = c.name_branches in
     let w0 = words c.args.scratch.now in
     let w1 = words the-to-front.new.scratch in
     let w2 = words the-name-branches.new.scratch in
-    let base = c.args.base in
-    let count = c.args.count in
-    let e = the-only-edge.result in
+    let base = c.args.atoms.base in
+    let count = c.args.atoms.count in
+    let e = c.in-Some.e in
     let root = c.args.root in
     let top = c.args.t in
     let s = c.args.s in
     let long1 = same_words_lem c.args.scratch.now the-to-front.new.scratch the-to-front.auto.scratch in
     let long2 = same_words_lem the-to-front.new.scratch the-name-branches.new.scratch the-name-branches.auto.scratch in
-    let h = below e count (the-only-edge.ensures c.requires.0.list c.requires.0.are).within the-if2.false in
+    let h : e < count = omega (arith, (c.in-Some.ensures c.requires.0.list c.requires.0.are).within, c.requires.0.are.long) in
     record {
-      split_by = λ l z f A H k. split_to w0 w1 w2 base count e root top s long1 long2 c.requires.2 h the-to-front.ensures.only_records l A (tame_of w0 base count l c.requires.0 A) (the-to-front.ensures.atoms_are l A) the-name-branches.ensures.only_names f z (sym (the-is-wide.ensures l (part_of c.args.scratch.now base count l c.requires.3 c.requires.6 A)) ∙ the-if1.false) (the-only-edge.ensures l A) _ _ (rw c.in-To.is at (the-name-branches.ensures.reduced_by (inner_at l e) z [] f (inner_are w0 w1 w2 base count e root top s long1 long2 c.requires.2 h the-to-front.ensures.only_records l A (tame_of w0 base count l c.requires.0 A) (the-to-front.ensures.atoms_are l A)) (named_front w0 w1 w2 base count e root top s long1 long2 c.requires.2 h the-to-front.ensures.only_records z H) (keep_none w1) (omega (arith, h, k))));
+      split_by = λ l z f A H k. split_to w0 w1 w2 base count e root top s long1 long2 c.requires.2 h the-to-front.ensures.only_records l A (tame_of w0 base count l c.requires.0 A) (the-to-front.ensures.atoms_are l A) the-name-branches.ensures.only_names f z (sym (the-is-wide.ensures l (part_of c.args.scratch.now base count l c.requires.3 c.requires.6 A)) ∙ the-if1.false) (c.in-Some.ensures l A) _ _ (rw c.in-Some-2.is at (c.in_ok-m.ensures.reduced_by (inner_at l e) z [] f (inner_are w0 w1 w2 base count e root top s long1 long2 c.requires.2 h the-to-front.ensures.only_records l A (tame_of w0 base count l c.requires.0 A) (the-to-front.ensures.atoms_are l A)) (named_front w0 w1 w2 base count e root top s long1 long2 c.requires.2 h the-to-front.ensures.only_records z H) (keep_none w1) (omega (arith, h, k))));
       only_names = split_only w0 w1 w2 base count e root top s long1 long2 c.requires.2 h the-to-front.ensures.only_records the-name-branches.ensures.only_names;
     }
 
@@ -531,73 +527,72 @@ pub split_group-returns-in-None : goal.split_group-returns-in-None
 split_group-returns-in-None t c =
     let the-is-wide = c.is_wide in
     let the-if1 = c.if-not-is_wide in
-    let the-only-edge = c.only_edge-e in
-    let the-if2 = c.if-e-count in
+    let the-only-edge = c.only_edge in
     let the-to-front = c.to_front in
     let the-name-branches = c.name_branches in
     let the-from-front = c.from_front in
-    let e = the-only-edge.result in
+    let e = c.in-Some.e in
     let w0 = words c.args.scratch.now in
     let w1 = words the-to-front.new.scratch in
     let w2 = words the-name-branches.new.scratch in
-    let base = c.args.base in
-    let count = c.args.count in
+    let base = c.args.atoms.base in
+    let count = c.args.atoms.count in
     let root = c.args.root in
     let top = c.args.t in
     let s = c.args.s in
     let long1 = same_words_lem c.args.scratch.now the-to-front.new.scratch the-to-front.auto.scratch in
     let long2 = same_words_lem the-to-front.new.scratch the-name-branches.new.scratch the-name-branches.auto.scratch in
-    let h = below e count (the-only-edge.ensures c.requires.0.list c.requires.0.are).within the-if2.false in
+    let h : e < count = omega (arith, (c.in-Some.ensures c.requires.0.list c.requires.0.are).within, c.requires.0.are.long) in
     let w3 = words the-from-front.new.scratch in
     let long3 = same_words_lem the-name-branches.new.scratch the-from-front.new.scratch the-from-front.auto.scratch in
     record {
-      split_by = λ l z f A H k. let N = rw c.in-None.is at (the-name-branches.ensures.reduced_by (inner_at l e) z [] f (inner_are w0 w1 w2 base count e root top s long1 long2 c.requires.2 h the-to-front.ensures.only_records l A (tame_of w0 base count l c.requires.0 A) (the-to-front.ensures.atoms_are l A)) (named_front w0 w1 w2 base count e root top s long1 long2 c.requires.2 h the-to-front.ensures.only_records z H) (keep_none w1) (omega (arith, h, k))) in split_back w0 w1 w2 base count e root top s long1 long2 c.requires.2 h the-to-front.ensures.only_records l A (tame_of w0 base count l c.requires.0 A) (the-to-front.ensures.atoms_are l A) the-name-branches.ensures.only_names f z (sym (the-is-wide.ensures l (part_of c.args.scratch.now base count l c.requires.3 c.requires.6 A)) ∙ the-if1.false) (the-only-edge.ensures l A) w3 long3 the-from-front.ensures.only_records (the-from-front.ensures.atoms_are l (sym A.long) (fronted_again w0 w1 w2 base count e root top s long1 long2 c.requires.2 h the-to-front.ensures.only_records l A (tame_of w0 base count l c.requires.0 A) (the-to-front.ensures.atoms_are l A) the-name-branches.ensures.only_names f z N)) N;
+      split_by = λ l z f A H k. let N = rw c.in-None.is at (c.in_ok-m.ensures.reduced_by (inner_at l e) z [] f (inner_are w0 w1 w2 base count e root top s long1 long2 c.requires.2 h the-to-front.ensures.only_records l A (tame_of w0 base count l c.requires.0 A) (the-to-front.ensures.atoms_are l A)) (named_front w0 w1 w2 base count e root top s long1 long2 c.requires.2 h the-to-front.ensures.only_records z H) (keep_none w1) (omega (arith, h, k))) in split_back w0 w1 w2 base count e root top s long1 long2 c.requires.2 h the-to-front.ensures.only_records l A (tame_of w0 base count l c.requires.0 A) (the-to-front.ensures.atoms_are l A) the-name-branches.ensures.only_names f z (sym (the-is-wide.ensures l (part_of c.args.scratch.now base count l c.requires.3 c.requires.6 A)) ∙ the-if1.false) (c.in-Some.ensures l A) w3 long3 the-from-front.ensures.only_records (the-from-front.ensures.atoms_are l (sym A.long) (fronted_again w0 w1 w2 base count e root top s long1 long2 c.requires.2 h the-to-front.ensures.only_records l A (tame_of w0 base count l c.requires.0 A) (the-to-front.ensures.atoms_are l A) the-name-branches.ensures.only_names f z N)) N;
       only_names = only_back base count w0 w2 w3 (split_only w0 w1 w2 base count e root top s long1 long2 c.requires.2 h the-to-front.ensures.only_records the-name-branches.ensures.only_names) the-from-front.ensures.only_records;
     }
 
-pub split_group-returns-in-Refused : goal.split_group-returns-in-Refused
-split_group-returns-in-Refused t c =
+pub split_group-returns-in_err-m : goal.split_group-returns-in_err-m
+split_group-returns-in_err-m t c =
     let the-is-wide = c.is_wide in
     let the-if1 = c.if-not-is_wide in
-    let the-only-edge = c.only_edge-e in
-    let the-if2 = c.if-e-count in
+    let the-only-edge = c.only_edge in
     let the-to-front = c.to_front in
     let the-name-branches = c.name_branches in
     let w0 = words c.args.scratch.now in
     let w1 = words the-to-front.new.scratch in
     let w2 = words the-name-branches.new.scratch in
-    let base = c.args.base in
-    let count = c.args.count in
-    let e = the-only-edge.result in
+    let base = c.args.atoms.base in
+    let count = c.args.atoms.count in
+    let e = c.in-Some.e in
     let root = c.args.root in
     let top = c.args.t in
     let s = c.args.s in
     let long1 = same_words_lem c.args.scratch.now the-to-front.new.scratch the-to-front.auto.scratch in
     let long2 = same_words_lem the-to-front.new.scratch the-name-branches.new.scratch the-name-branches.auto.scratch in
-    let h = below e count (the-only-edge.ensures c.requires.0.list c.requires.0.are).within the-if2.false in
-    record {
-      split_by = λ l z f A H k. split_full w0 w1 w2 base count e root top s long1 long2 c.requires.2 h the-to-front.ensures.only_records l A (tame_of w0 base count l c.requires.0 A) (the-to-front.ensures.atoms_are l A) the-name-branches.ensures.only_names f z (sym (the-is-wide.ensures l (part_of c.args.scratch.now base count l c.requires.3 c.requires.6 A)) ∙ the-if1.false) (the-only-edge.ensures l A) _ (rw c.in-Refused.is at (the-name-branches.ensures.reduced_by (inner_at l e) z [] f (inner_are w0 w1 w2 base count e root top s long1 long2 c.requires.2 h the-to-front.ensures.only_records l A (tame_of w0 base count l c.requires.0 A) (the-to-front.ensures.atoms_are l A)) (named_front w0 w1 w2 base count e root top s long1 long2 c.requires.2 h the-to-front.ensures.only_records z H) (keep_none w1) (omega (arith, h, k))));
+    let h : e < count = omega (arith, (c.in-Some.ensures c.requires.0.list c.requires.0.are).within, c.requires.0.are.long) in
+    let back = err_from_is_err_and c.from_residual.result c.from_residual.ensures.1 in rw (back.1, back.2)
+    (record {
+      split_by = λ l z f A H k. split_full w0 w1 w2 base count e root top s long1 long2 c.requires.2 h the-to-front.ensures.only_records l A (tame_of w0 base count l c.requires.0 A) (the-to-front.ensures.atoms_are l A) the-name-branches.ensures.only_names f z (sym (the-is-wide.ensures l (part_of c.args.scratch.now base count l c.requires.3 c.requires.6 A)) ∙ the-if1.false) (c.in-Some.ensures l A) _ (c.in_err-m.ensures.reduced_by (inner_at l e) z [] f (inner_are w0 w1 w2 base count e root top s long1 long2 c.requires.2 h the-to-front.ensures.only_records l A (tame_of w0 base count l c.requires.0 A) (the-to-front.ensures.atoms_are l A)) (named_front w0 w1 w2 base count e root top s long1 long2 c.requires.2 h the-to-front.ensures.only_records z H) (keep_none w1) (omega (arith, h, k)));
       only_names = split_only w0 w1 w2 base count e root top s long1 long2 c.requires.2 h the-to-front.ensures.only_records the-name-branches.ensures.only_names;
-    }
+    })
 
 pub turn-mentions_kept-requires : goal.turn-mentions_kept-requires
 turn-mentions_kept-requires t c =
     let w0 = words c.args.scratch.now in
     let there = c.requires.0 in
     let q = c.args.q in
-    let p = c.args.p in
-    let size = c.args.c in
+    let p = c.args.child.base in
+    let size = c.args.child.count in
     let s = c.args.s in
     let stands = c.requires.0.standing in
-    (child_there w0 there.base there.count q p size there.result there.group there.rest s there.state stands, c.requires.1, c.requires.2)
+    (child_there w0 there.base there.count q p size there.result there.group there.rest s there.state stands, omega (arith, c.requires.1), c.requires.2)
 
-pub turn-overflow_mul-p : goal.turn-overflow_mul-p
-turn-overflow_mul-p t c =
+pub turn-overflow_mul-child : goal.turn-overflow_mul-child
+turn-overflow_mul-child t c =
     let w0 = words c.args.scratch.now in
     let there = c.requires.0 in
     let q = c.args.q in
-    let p = c.args.p in
-    let size = c.args.c in
+    let p = c.args.child.base in
+    let size = c.args.child.count in
     let s = c.args.s in
     let stands = c.requires.0.standing in
     omega (arith, child_high w0 there.base there.count q p size there.result there.group there.rest s there.state stands)
@@ -607,19 +602,19 @@ turn-overflow_mul-q t c =
     let w0 = words c.args.scratch.now in
     let there = c.requires.0 in
     let q = c.args.q in
-    let p = c.args.p in
-    let size = c.args.c in
+    let p = c.args.child.base in
+    let size = c.args.child.count in
     let s = c.args.s in
     let stands = c.requires.0.standing in
     omega (arith, child_high w0 there.base there.count q p size there.result there.group there.rest s there.state stands, stands.below)
 
-pub turn-overflow_mul-c : goal.turn-overflow_mul-c
-turn-overflow_mul-c t c =
+pub turn-overflow_mul-child-then-mentions_kept : goal.turn-overflow_mul-child-then-mentions_kept
+turn-overflow_mul-child-then-mentions_kept t c =
     let w0 = words c.args.scratch.now in
     let there = c.requires.0 in
     let q = c.args.q in
-    let p = c.args.p in
-    let size = c.args.c in
+    let p = c.args.child.base in
+    let size = c.args.child.count in
     let s = c.args.s in
     let stands = c.requires.0.standing in
     omega (arith, child_few w0 there.base there.count q p size there.result there.group there.rest s there.state stands)
@@ -629,8 +624,8 @@ turn-move_words-requires t c =
     let w0 = words c.args.scratch.now in
     let there = c.requires.0 in
     let q = c.args.q in
-    let p = c.args.p in
-    let size = c.args.c in
+    let p = c.args.child.base in
+    let size = c.args.child.count in
     let s = c.args.s in
     let stands = c.requires.0.standing in
     (omega (arith, child_high w0 there.base there.count q p size there.result there.group there.rest s there.state stands, c.requires.2), omega (arith, child_high w0 there.base there.count q p size there.result there.group there.rest s there.state stands, stands.below, c.requires.2))
@@ -640,8 +635,8 @@ turn-overflow_add-result t c =
     let w0 = words c.args.scratch.now in
     let there = c.requires.0 in
     let q = c.args.q in
-    let p = c.args.p in
-    let size = c.args.c in
+    let p = c.args.child.base in
+    let size = c.args.child.count in
     let s = c.args.s in
     let stands = c.requires.0.standing in
     omega (arith, child_high w0 there.base there.count q p size there.result there.group there.rest s there.state stands, stands.below)
@@ -654,8 +649,8 @@ turn-returns-then-mentions_kept t c =
     let w0 = words c.args.scratch.now in
     let w1 = words the-move-words.new.s in
     let q = c.args.q in
-    let p = c.args.p in
-    let size = c.args.c in
+    let p = c.args.child.base in
+    let size = c.args.child.count in
     let s = c.args.s in
     let room : work_words ≤ length w0 = omega (arith, c.requires.2, length_words c.args.scratch.now) in
     let root = c.args.root in
@@ -668,11 +663,11 @@ turn-returns-then-mentions_kept t c =
 
 pub turn-name_group-requires : goal.turn-name_group-requires
 turn-name_group-requires t c =
-    let size = c.args.c in
+    let size = c.args.child.count in
     let w0 = words c.args.scratch.now in
     let there = c.requires.0 in
     let q = c.args.q in
-    let p = c.args.p in
+    let p = c.args.child.base in
     let s = c.args.s in
     let stands = c.requires.0.standing in
     let mt : 5 * size + 2 ≡ t = c.decreases in
@@ -684,28 +679,28 @@ turn-put_atom-requires t c =
     let w0 = words c.args.scratch.now in
     let there = c.requires.0 in
     let q = c.args.q in
-    let p = c.args.p in
-    let size = c.args.c in
+    let p = c.args.child.base in
+    let size = c.args.child.count in
     let s = c.args.s in
     let stands = c.requires.0.standing in
     let w1 = words the-name-group.new.scratch in
     let root = c.args.root in
     let top = c.args.t in
-    (omega (arith, child_high w0 there.base there.count q p size there.result there.group there.rest s there.state stands, stands.below, stands.filled, the-name-group.auto.scratch, c.requires.2), omega (arith, called_small w1 root s (group_rule size there.group root top there.state) _ _ (rw c.in-Named.is at (the-name-group.ensures.called_by there.group there.state size (child_are w0 there.base there.count q p size there.result there.group there.rest s there.state stands) stands.held (omega arith)))))
+    (omega (arith, child_high w0 there.base there.count q p size there.result there.group there.rest s there.state stands, stands.below, stands.filled, the-name-group.auto.scratch, c.requires.2), omega (arith, called_small w1 root s (group_rule size there.group root top there.state) _ _ (c.in_ok-m.ensures.called_by there.group there.state size (child_are w0 there.base there.count q p size there.result there.group there.rest s there.state stands) stands.held (omega arith))))
 
-pub turn-overflow_add-result-in-Named : goal.turn-overflow_add-result-in-Named
-turn-overflow_add-result-in-Named t c =
+pub turn-overflow_add-result-2 : goal.turn-overflow_add-result-2
+turn-overflow_add-result-2 t c =
     let w0 = words c.args.scratch.now in
     let there = c.requires.0 in
     let q = c.args.q in
-    let p = c.args.p in
-    let size = c.args.c in
+    let p = c.args.child.base in
+    let size = c.args.child.count in
     let s = c.args.s in
     let stands = c.requires.0.standing in
     omega (arith, child_high w0 there.base there.count q p size there.result there.group there.rest s there.state stands, stands.below)
 
-pub turn-returns-in-Named : goal.turn-returns-in-Named
-turn-returns-in-Named t c =
+pub turn-returns : goal.turn-returns
+turn-returns t c =
     let the-mentions-kept = c.mentions_kept in
     let the-if1 = c.if-mentions_kept in
     let the-name-group = c.name_group in
@@ -713,8 +708,8 @@ turn-returns-in-Named t c =
     let w0 = words c.args.scratch.now in
     let w1 = words the-name-group.new.scratch in
     let q = c.args.q in
-    let p = c.args.p in
-    let size = c.args.c in
+    let p = c.args.child.base in
+    let size = c.args.child.count in
     let s = c.args.s in
     let long1 = same_words_lem c.args.scratch.now the-name-group.new.scratch the-name-group.auto.scratch in
     let w2 = words the-put-atom.new.t in
@@ -723,26 +718,27 @@ turn-returns-in-Named t c =
     let top = c.args.t in
     let any = c.args.any in
     record {
-      fact = λ base count result group rest z kept f D K k. call_turned w0 w1 base count q p size result group rest s z D long1 the-name-group.ensures.only_names w2 room _ _ root the-put-atom.ensures f top any kept (sym (the-mentions-kept.ensures group kept (child_are w0 base count q p size result group rest s z D) K) ∙ the-if1.false) (rw c.in-Named.is at (the-name-group.ensures.called_by group z f (child_are w0 base count q p size result group rest s z D) D.held k));
+      fact = λ base count result group rest z kept f D K k. call_turned w0 w1 base count q p size result group rest s z D long1 the-name-group.ensures.only_names w2 room _ _ root the-put-atom.ensures f top any kept (sym (the-mentions-kept.ensures group kept (child_are w0 base count q p size result group rest s z D) K) ∙ the-if1.false) (c.in_ok-m.ensures.called_by group z f (child_are w0 base count q p size result group rest s z D) D.held k);
       fact_2 = λ base count result group rest z D. named_only w0 w1 base count q p size result group rest s z D long1 the-name-group.ensures.only_names w2 room s _ root the-put-atom.ensures;
     }
 
-pub turn-returns-in-Refused : goal.turn-returns-in-Refused
-turn-returns-in-Refused t c =
+pub turn-returns-in_err-m : goal.turn-returns-in_err-m
+turn-returns-in_err-m t c =
     let the-mentions-kept = c.mentions_kept in
     let the-if1 = c.if-mentions_kept in
     let the-name-group = c.name_group in
     let w0 = words c.args.scratch.now in
     let w1 = words the-name-group.new.scratch in
     let q = c.args.q in
-    let p = c.args.p in
-    let size = c.args.c in
+    let p = c.args.child.base in
+    let size = c.args.child.count in
     let s = c.args.s in
     let long1 = same_words_lem c.args.scratch.now the-name-group.new.scratch the-name-group.auto.scratch in
     let root = c.args.root in
     let top = c.args.t in
     let any = c.args.any in
-    record {
-      fact = λ base count result group rest z kept f D K k. turn_full w0 w1 base count q p size result group rest s z D long1 the-name-group.ensures.only_names f root top any kept _ (sym (the-mentions-kept.ensures group kept (child_are w0 base count q p size result group rest s z D) K) ∙ the-if1.false) (rw c.in-Refused.is at (the-name-group.ensures.called_by group z f (child_are w0 base count q p size result group rest s z D) D.held k));
+    let back = err_from_is_err_and c.from_residual.result c.from_residual.ensures.1 in rw (back.1, back.2)
+    (record {
+      fact = λ base count result group rest z kept f D K k. turn_full w0 w1 base count q p size result group rest s z D long1 the-name-group.ensures.only_names f root top any kept _ (sym (the-mentions-kept.ensures group kept (child_are w0 base count q p size result group rest s z D) K) ∙ the-if1.false) (c.in_err-m.ensures.called_by group z f (child_are w0 base count q p size result group rest s z D) D.held k);
       fact_2 = λ base count result group rest z D. turn_only w0 w1 base count q p size result group rest s z D long1 the-name-group.ensures.only_names;
-    }
+    })

@@ -1,25 +1,22 @@
-use Rattle.std.proofs.Common.{◌-◌, ◌+◌, ◌*◌, ◌≡◌, length}
+use Rattle.std.proofs.Common.{◌+◌, ◌*◌, ◌≡◌, length}
 use Rattle.words.specs.Words.{words}
 use Rattle.naming.specs.GroupTurns.{Walk}
 use Rattle.naming.proofs.name.+name_branches_name_group_name_groups_split_group_turn.Given as goal
 
 abbrev pub decreases-name_branches : goal.decreases-name_branches
-decreases-name_branches l = 5 * l.count + 4
+decreases-name_branches l = 5 * l.atoms.count + 4
 
 abbrev pub decreases-name_group : goal.decreases-name_group
-decreases-name_group l = 5 * l.count + 1
+decreases-name_group l = 5 * l.atoms.count + 1
 
 abbrev pub decreases-name_groups : goal.decreases-name_groups
-decreases-name_groups l = 5 * l.count + 3
+decreases-name_groups l = 5 * l.atoms.count + 3
 
 abbrev pub decreases-split_group : goal.decreases-split_group
-decreases-split_group l = 5 * l.count
+decreases-split_group l = 5 * l.atoms.count
 
 abbrev pub decreases-turn : goal.decreases-turn
-decreases-turn l = 5 * l.c + 2
+decreases-turn l = 5 * l.child.count + 2
 
 abbrev pub invariant-name_groups-loop-g : goal.invariant-name_groups-loop-g
-invariant-name_groups-loop-g l = (length l.scratch ≡ length l.initial.scratch) × Walk (words l.initial.scratch) l.tops l.counts l.base l.count l.groups l.root l.keep l.initial.m (words l.scratch) l.m l.any l.p l.q l.g
-
-abbrev pub decreases-name_groups-loop-g : goal.decreases-name_groups-loop-g
-decreases-name_groups-loop-g l = l.groups - l.g
+invariant-name_groups-loop-g l = (length l.scratch ≡ length l.initial.scratch) × Walk (words l.initial.scratch) l.tops l.counts l.fn.atoms.base l.fn.atoms.count l.groups l.root l.keep l.initial.m (words l.scratch) l.m l.any l.p l.q l.g

@@ -1,37 +1,34 @@
-use Prim.Native.Nat.{◌-◌}
 use mathlib.Core.Path.{refl, ◌∙◌}
 use native.Mathlib.Omega.{arith}
 use Rattle.words.specs.Words.{words}
 use Rattle.trees.specs.RoundLaws.{walking_start, walking_room, walking_next, walking_end}
+use Rattle.std.proofs.Common.{true, is_some, unwrap_or}
 use Rattle.trees.proofs.tree.round.Goals as goal
+use Rattle.trees.proofs.tree.round.Goals.{in-Some, in_default}
 
 pub loop-j-init : goal.loop-j-init
-loop-j-init c = (refl, refl, walking_start (words c.args.scratch.now) c.args.placed.now c.args.base c.args.count c.args.bound c.requires.4)
+loop-j-init c = (refl, refl, walking_start (words c.args.scratch.now) c.args.placed.now c.args.atoms.base c.args.atoms.count c.args.bound c.requires.4)
 
-pub overflow_add-base : goal.overflow_add-base
-overflow_add-base c = omega (arith, c.requires.0, c.loop-j-test.true)
-
-pub overflow_mul-base : goal.overflow_mul-base
-overflow_mul-base c = omega (arith, c.requires.0, c.loop-j-test.true)
-
-pub visit-s-requires : goal.visit-s-requires
-visit-s-requires c =
+pub visit-requires : goal.visit-requires
+visit-requires c =
     let L = c.loop-j in
     let h = c.loop-j-test.true in
-    (omega (arith, c.requires.0), omega (arith, c.requires.1, L.invariant.1), omega (arith, c.requires.3, L.invariant.0), walking_room (words c.args.scratch.now) c.args.placed.now c.args.base c.args.count c.args.bound (words L.scratch) L.placed L.s.bound L.s.more L.j L.invariant.2 c.requires.2 (omega (arith, c.requires.1, L.invariant.1)) h)
+    (omega (arith, c.requires.0), omega (arith, c.requires.1, L.invariant.1), omega (arith, c.requires.3, L.invariant.0), λ e. rw c.unwrap_or-n.ensures (walking_room (words c.args.scratch.now) c.args.placed.now c.args.atoms.base c.args.atoms.count c.args.bound (words L.scratch) L.placed _ _ L.j L.invariant.2 c.requires.2 (omega (arith, c.requires.1, L.invariant.1)) h e))
 
 pub loop-j-preserved : goal.loop-j-preserved
 loop-j-preserved c =
     let L = c.loop-j in
-    let h = c.loop-j-test.true in
-    let r = c.visit-s in
-    (r.auto.scratch ∙ L.invariant.0, r.auto.placed ∙ L.invariant.1, walking_next (words c.args.scratch.now) c.args.placed.now c.args.base c.args.count c.args.bound (words L.scratch) L.placed L.s.bound L.s.more L.j L.invariant.2 h c.requires.0 (omega (arith, c.requires.1, L.invariant.1)) r.result.bound r.result.more (words r.new.scratch) r.new.placed r.ensures)
-
-pub shape_of-scratch : goal.shape_of-scratch
-shape_of-scratch c = c.loop-j.invariant.0
-
-pub shape_of-placed : goal.shape_of-placed
-shape_of-placed c = c.loop-j.invariant.1
+    let r = c.visit in
+    let n = unwrap_or L.grown c.args.bound in
+    let m = is_some L.grown in
+    let next = walking_next (words c.args.scratch.now) c.args.placed.now c.args.atoms.base c.args.atoms.count c.args.bound (words L.scratch) L.placed n m L.j L.invariant.2 c.loop-j-test.true c.requires.0 (omega (arith, c.requires.1, L.invariant.1)) in (
+      r.auto.scratch ∙ L.invariant.0,
+      r.auto.placed ∙ L.invariant.1,
+      elim c.match-visit.branch [
+        | in-Some w ↦ rw w.grown-is (next w.in-Some.m true (words r.new.scratch) r.new.placed (rw c.unwrap_or-n.ensures at (w.in-Some.ensures m)))
+        | in_default w ↦ rw w.grown-is (next n m (words r.new.scratch) r.new.placed (rw c.unwrap_or-n.ensures at (w.in_default.ensures m)))
+      ],
+    )
 
 pub returns : goal.returns
-returns c = let L = c.loop-j in walking_end (words c.args.scratch.now) c.args.placed.now c.args.base c.args.count c.args.bound (words L.scratch) L.placed L.s.bound L.s.more L.j L.invariant.2 c.loop-j-test.false
+returns c = let L = c.loop-j in walking_end (words c.args.scratch.now) c.args.placed.now c.args.atoms.base c.args.atoms.count c.args.bound (words L.scratch) L.placed _ _ L.j L.invariant.2 c.loop-j-test.false

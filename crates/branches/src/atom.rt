@@ -1,0 +1,36 @@
+// Atoms in records of scratch, and what the pass reads of a record without its atom: the kind, the variable, a role atom's other.
+ghost use Rattle.std.specs.Prelude.{◌≡◌, ◌+◌, ◌*◌, ◌≤◌, length, get_or};
+ghost use Rattle.words.specs.Words.{words};
+
+// The kinds of class and role atoms.
+pub const CLASS: u32 = 1;
+
+pub const ROLE: u32 = 2;
+
+// The `count` atoms from record `base` on.
+#[derive(Clone, Copy)]
+pub struct Atoms {
+    pub base: usize,
+    pub count: u32,
+}
+
+pub fn kind(atoms: &[u8], i: usize) -> u32
+    requires { 24 * i + 24 ≤ length atoms.now }
+    ensures { result ≡ get_or (words atoms.now) (6 * i) 0 }
+{
+    words::get_word(atoms, 6 * i)
+}
+
+pub fn var(atoms: &[u8], i: usize) -> u32
+    requires { 24 * i + 24 ≤ length atoms.now }
+    ensures { result ≡ get_or (words atoms.now) (6 * i + 4) 0 }
+{
+    words::get_word(atoms, 6 * i + 4)
+}
+
+pub fn other(atoms: &[u8], i: usize) -> u32
+    requires { 24 * i + 24 ≤ length atoms.now }
+    ensures { result ≡ get_or (words atoms.now) (6 * i + 5) 0 }
+{
+    words::get_word(atoms, 6 * i + 5)
+}
