@@ -11,10 +11,10 @@ use lib.ListN.{get_or}
 use borrow.Author.Tests.{ltb-true}
 use Rattle.ir.specs.Counts.{visited, fresh_var}
 use Rattle.ir.specs.declared.counters.Counters.{Counters}
-use Rattle.ir.specs.declared.counters.Visit.{Visit}
-use Rattle.ir.specs.declared.counters.Visit.TheVariants.{Begun, Full}
-use Rattle.ir.specs.declared.answer.Encoded.{Encoded}
-use Rattle.ir.specs.declared.answer.Encoded.TheVariants.{Found, Unsupported, Refused}
+use Rattle.ir.specs.Visit.{Visit}
+use Rattle.ir.specs.Visit.{Begun, Full}
+use Rattle.ir.specs.Encoded.{Encoded}
+use Rattle.ir.specs.Encoded.{Found, Unsupported, Refused}
 use Rattle.words.specs.Words.{words}
 use Rattle.rules.specs.Concept.{Concept}
 use Rattle.rules.specs.Concept.{Top, Atomic, Nominal, And, Or}
@@ -144,14 +144,14 @@ module _ (w : List ℕ) (b : Bool) (c start many : ℕ) where
   one_turn G x l acc acc' r k n j e q p = rw (e, p, q) refl
 
   module _ (acc₀ acc : Encoded) (i : ℕ) (turn : Turn w b c start many acc₀ acc i) where
-    pub turn_stop : ((k : Counters) (n l : ℕ) → acc ≡ Found k n l → ⊥) → CountsAll w b c start many acc₀ acc
+    turn_stop : ((k : Counters) (n l : ℕ) → acc ≡ Found k n l → ⊥) → CountsAll w b c start many acc₀ acc
     turn_stop h n f l le = sym (turn.rest n f l le ∙ stopped (count (pool_of w n) f) (run w (members_at + start + i) (many - i)) acc h)
 
     pub turn_end : many ≤ i → CountsAll w b c start many acc₀ acc
     unfolding count_all
     turn_end h n f l le = sym (turn.rest n f l le ∙ ap (λ (m : List ℕ). count_all (count (pool_of w n) f) b m acc) (tab_end (λ j. get_or w j 0) (members_at + start) i many h))
 
-    pub turn_good : (k : Counters) (n l : ℕ) → acc ≡ Found k n l → Good k
+    turn_good : (k : Counters) (n l : ℕ) → acc ≡ Found k n l → Good k
     turn_good k n l e = subst GoodEncoded e turn.good
 
     pub turn_next : i < many → Listed w c start many → (x : ℕ) → x ≡ get_or w (members_at + (start + i)) 0 → (k : Counters) (n l : ℕ) → acc ≡ Found k n l → (r acc' : Encoded) → Counts w k x r → acc' ≡ joined b n l r
@@ -169,3 +169,12 @@ module _ (w : List ℕ) (b : Bool) (c start many : ℕ) where
               ∙ ap (λ (m : List ℕ). count_all (count (pool_of w n₁) f) b m acc) (tab_next (λ j. get_or w j 0) (members_at + start) i many lt ∙ ap (λ (z : ℕ). z ∷ run w (members_at + start + (i + 1)) (many - (i + 1))) ex₁)
               ∙ one_turn (count (pool_of w n₁) f) x (run w (members_at + start + (i + 1)) (many - (i + 1))) acc acc' r k n l e (q n₁ f (omega arith) (omega arith)) j;
         }
+
+  -- no numbers: the rest is not counted
+  module _ (acc₀ acc : Encoded) (i : ℕ) (turn : Turn w b c start many acc₀ acc i) (lt : i < many) (L : Listed w c start many) (x : ℕ) (ex : x ≡ get_or w (members_at + (start + i)) 0)
+      (k : Counters) (n l : ℕ) (e : acc ≡ Found k n l) (r : Encoded) (q : Counts w k x r) where
+    pub turn_unsupported : (k' : Counters) → Unsupported k' ≡ joined b n l r → CountsAll w b c start many acc₀ (Unsupported k')
+    turn_unsupported k' j = turn_stop acc₀ (Unsupported k') (i + 1) (turn_next acc₀ acc i turn lt L x ex k n l e r (Unsupported k') q j) (λ _ _ _ d. let z : ◌≡◌ {A = ℕ} 0 1 = cc in omega arith)
+
+    pub turn_refused : (m : ℕ) → Refused m ≡ joined b n l r → CountsAll w b c start many acc₀ (Refused m)
+    turn_refused m j = turn_stop acc₀ (Refused m) (i + 1) (turn_next acc₀ acc i turn lt L x ex k n l e r (Refused m) q j) (λ _ _ _ d. let z : ◌≡◌ {A = ℕ} 0 1 = cc in omega arith)

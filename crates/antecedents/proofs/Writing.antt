@@ -10,6 +10,7 @@ use lib.Dec.{ltb}
 use lib.ListN.{length, get_or}
 use lib.Seq.{sets}
 use borrow.Author.Tests.{lt-ltb, le-ltb}
+use Rattle.std.specs.Prelude.{Option, None, Some}
 use Rattle.words.specs.Words.{words}
 use Rattle.words.specs.Laws.{length_words}
 use Rattle.ir.specs.Pick.{pick}
@@ -30,7 +31,6 @@ use Rattle.pool.specs.HeldLaws.{pool_length, pool_at}
 use Rattle.pool.specs.Tabs.{tab_next, tab_end, each_tab}
 use Rattle.inverse.specs.Layout.{RolesHeld}
 use Rattle.antecedents.specs.declared.write.Chosen.{Chosen}
-use Rattle.antecedents.specs.declared.write.Chosen.TheVariants.{One, Nothing}
 use Rattle.antecedents.specs.declared.write.Part.{Part}
 use Rattle.antecedents.specs.Stands.{Listed}
 use Rattle.antecedents.specs.Kinds.{at_top, at_class, at_nominal, at_and, at_or, at_some, Other, by_other}
@@ -67,6 +67,9 @@ role_written w c v y q w' r role code o er ec eo e = record {
 }
 
 -- ---- the search for a disjunct
+abbrev one : ℕ → ℕ → ℕ → Option Chosen
+one x y k = Some (record { id = x; var = y; index = k })
+
 pub record Look (w : List ℕ) (start many y k u j i : ℕ) : Type 0 where
   pub within : i ≤ many
   pub rest : chosen_of w (run w (members_at + start) many) y k ≡ chosen_of w (run w (members_at + start + i) (many - i)) u j
@@ -76,7 +79,7 @@ module _ (w : List ℕ) (start many y k : ℕ) where
   look_first = record { within = omega arith; rest = rw (add-zero (members_at + start), sub-zero many) refl }
 
   module _ (u j i : ℕ) (look : Look w start many y k u j i) where
-    pub look_end : many ≤ i → Nothing ≡ chosen_of w (run w (members_at + start) many) y k
+    pub look_end : many ≤ i → None ≡ chosen_of w (run w (members_at + start) many) y k
     unfolding chosen_of
     look_end h = sym (look.rest ∙ ap (λ (l : List ℕ). chosen_of w l u j) (tab_end (λ n. get_or w n 0) (members_at + start) i many h))
 
@@ -86,7 +89,7 @@ module _ (w : List ℕ) (start many y k : ℕ) where
           let d : members_at + start + i ≡ members_at + (start + i) = omega arith in
           tab_next (λ n. get_or w n 0) (members_at + start) i many lt ∙ ap (λ (z : ℕ). z ∷ run w (members_at + start + (i + 1)) (many - (i + 1))) (ap (λ (z : ℕ). get_or w z 0) d ∙ sym ex)
 
-      found_here : (l : List ℕ) → j < n → chosen_of w (x ∷ l) u j ≡ One x u j
+      found_here : (l : List ℕ) → j < n → chosen_of w (x ∷ l) u j ≡ one x u j
       unfolding chosen_of
       found_here l h = rw (← en, lt-ltb j n h) refl
 
@@ -94,7 +97,7 @@ module _ (w : List ℕ) (start many y k : ℕ) where
       unfolding chosen_of
       not_here l h z u' ez eu = rw (← en, le-ltb j n h, eu, ez) refl
 
-      pub look_found : j < n → One x u j ≡ chosen_of w (run w (members_at + start) many) y k
+      pub look_found : j < n → one x u j ≡ chosen_of w (run w (members_at + start) many) y k
       look_found h = sym (look.rest ∙ ap (λ (l : List ℕ). chosen_of w l u j) next_is ∙ found_here (run w (members_at + start + (i + 1)) (many - (i + 1))) h)
 
       pub look_next : n ≤ j → (z u' : ℕ) → z ≡ vars_in w x → u' ≡ plus_vars u z → Look w start many y k u' (j - n) (i + 1)
@@ -103,11 +106,11 @@ module _ (w : List ℕ) (start many y k : ℕ) where
         rest = look.rest ∙ ap (λ (l : List ℕ). chosen_of w l u j) next_is ∙ not_here (run w (members_at + start + (i + 1)) (many - (i + 1))) h z u' ez eu;
       }
 
-on_chosen : (ℕ → ℕ → ℕ → List Atom) → Chosen → List Atom
-on_chosen P (One x y k) = P x y k
-on_chosen P Nothing = []
+on_chosen : (ℕ → ℕ → ℕ → List Atom) → Option Chosen → List Atom
+on_chosen P (Some q) = P q.id q.var q.index
+on_chosen P None = []
 
-pick_chosen : (P : ℕ → ℕ → ℕ → List Atom) (b : Bool) (x y : Chosen) (z : List Atom) → z ≡ on_chosen P y → pick b (on_chosen P x) z ≡ on_chosen P (pick b x y)
+pick_chosen : (P : ℕ → ℕ → ℕ → List Atom) (b : Bool) (x y : Option Chosen) (z : List Atom) → z ≡ on_chosen P y → pick b (on_chosen P x) z ≡ on_chosen P (pick b x y)
 pick_chosen P true x y z e = refl
 pick_chosen P false x y z e = e
 
@@ -117,28 +120,28 @@ or_chosen : (w t : List ℕ) (c : ℕ) → ((d : ℕ) → d < c → size_in w d 
 unfolding pick_or chosen_of on_chosen
 or_chosen w t c es ev P v [] y k h = refl
 or_chosen w t c es ev P v (x ∷ l) y k h =
-    rw (← es x h.0, ← ev x h.0) (pick_chosen (λ x u j. P x v u j) (ltb k (size_in w x)) (One x y k) (chosen_of w l (plus_vars y (vars_in w x)) (k - size_in w x))
+    rw (← es x h.0, ← ev x h.0) (pick_chosen (λ x u j. P x v u j) (ltb k (size_in w x)) (one x y k) (chosen_of w l (plus_vars y (vars_in w x)) (k - size_in w x))
     (pick_or t P v l (plus_vars y (vars_in w x)) (k - size_in w x)) (or_chosen w t c es ev P v l (plus_vars y (vars_in w x)) (k - size_in w x) h.1))
 
-BelowC : ℕ → Chosen → Type 0
-BelowC c (One x y k) = x < c
-BelowC c Nothing = Unit {0}
+BelowC : ℕ → Option Chosen → Type 0
+BelowC c (Some q) = q.id < c
+BelowC c None = Unit {0}
 
-pick_below : (c : ℕ) (b : Bool) (x y : Chosen) → BelowC c x → BelowC c y → BelowC c (pick b x y)
+pick_below : (c : ℕ) (b : Bool) (x y : Option Chosen) → BelowC c x → BelowC c y → BelowC c (pick b x y)
 pick_below c true x y p q = p
 pick_below c false x y p q = q
 
 below_of : (w : List ℕ) (c : ℕ) (l : List ℕ) (y k : ℕ) → Each (λ d. d < c) l → BelowC c (chosen_of w l y k)
 unfolding chosen_of BelowC
 below_of w c [] y k h = tt
-below_of w c (x ∷ l) y k h = pick_below c (ltb k (size_in w x)) (One x y k) (chosen_of w l (plus_vars y (vars_in w x)) (k - size_in w x)) h.0 (below_of w c l (plus_vars y (vars_in w x)) (k - size_in w x) h.1)
+below_of w c (x ∷ l) y k h = pick_below c (ltb k (size_in w x)) (one x y k) (chosen_of w l (plus_vars y (vars_in w x)) (k - size_in w x)) h.0 (below_of w c l (plus_vars y (vars_in w x)) (k - size_in w x) h.1)
 
 listed_each : (w : List ℕ) (c start many : ℕ) → Listed w c start many → Each (λ d. d < c) (run w (members_at + start) many)
 listed_each w c start many L = each_tab (λ n. get_or w n 0) (λ d. d < c) (members_at + start) many L.smaller
 
-pub chosen_below : (w : List ℕ) (c start many y k : ℕ) (q : Chosen) (x u j : ℕ) → Listed w c start many → q ≡ chosen_of w (run w (members_at + start) many) y k → q ≡ One x u j → x < c
+pub chosen_below : (w : List ℕ) (c start many y k : ℕ) (o : Option Chosen) (q : Chosen) → Listed w c start many → o ≡ chosen_of w (run w (members_at + start) many) y k → o ≡ Some q → q.id < c
 unfolding BelowC
-chosen_below w c start many y k q x u j L e d = subst (BelowC c) (sym e ∙ d) (below_of w c (run w (members_at + start) many) y k (listed_each w c start many L))
+chosen_below w c start many y k o q L e d = subst (BelowC c) (sym e ∙ d) (below_of w c (run w (members_at + start) many) y k (listed_each w c start many L))
 
 -- ---- the next part
 pub part_is : (w : List ℕ) (i r j y : ℕ) (p : Part) (n z : ℕ) → p.id ≡ get_or w (members_at + i) 0 → n ≡ size_in w p.id → p.left ≡ r / n → p.digit ≡ j / p.left → p.rest ≡ j % p.left
@@ -205,7 +208,7 @@ module _ (base : ℕ) (w : List ℕ) (c kind a b : ℕ) (h : Here w c kind a b) 
   is_and e w' r p = step_is (And (run w (members_at + b) a)) (rw (h.a_is, h.b_is) (at_and w c (kind_in_lem 7 e))) w' r p.kept (λ w₀ n f canon R l m. p.same w₀ n f canon R l m)
 
   -- the chosen disjunct's
-  or_is : kind ≡ 8 → Listed w c b a → (x : Chosen) → x ≡ chosen_of w (run w (members_at + b) a) y k → (w' : List ℕ) (r : ℕ) → Kept w q w' r
+  or_is : kind ≡ 8 → Listed w c b a → (x : Option Chosen) → x ≡ chosen_of w (run w (members_at + b) a) y k → (w' : List ℕ) (r : ℕ) → Kept w q w' r
       → ((w₀ : List ℕ) (n f : ℕ) (canon : InverseCanon) → Reads w w₀ n canon → c < n → c ≤ f
       → ◌≡◌ {A = List ℕ × ℕ} (w', r) (write_on (w, q) (on_chosen (λ d u j. pick_alt canon base (pool_of w₀ n) w₀ f d v u j) x)))
       → Wrote base w c v y k q w' r
@@ -214,14 +217,14 @@ module _ (base : ℕ) (w : List ℕ) (c kind a b : ℕ) (h : Here w c kind a b) 
       ∙ ap (write_on (w, q)) (ap (on_chosen (λ d u j. pick_alt canon base (pool_of w₀ n) w₀ f d v u j)) ex
       ∙ sym (or_chosen w w₀ c (λ d i. size_like w w₀ n canon R d (omega arith)) (λ d i. vars_like w w₀ n canon R d (omega arith)) (pick_alt canon base (pool_of w₀ n) w₀ f) v (run w (members_at + b) a) y k (listed_each w c b a L))))
 
-  pub is_nothing : kind ≡ 8 → Listed w c b a → (x : Chosen) → x ≡ chosen_of w (run w (members_at + b) a) y k → x ≡ Nothing → Wrote base w c v y k q w q
+  pub is_nothing : kind ≡ 8 → Listed w c b a → (x : Option Chosen) → x ≡ chosen_of w (run w (members_at + b) a) y k → x ≡ None → Wrote base w c v y k q w q
   unfolding on_chosen write_on
   is_nothing e L x ex en = or_is e L x ex w q (kept_none w q) (λ w₀ n f canon R l m. rw en refl)
 
-  pub is_one_lem : kind ≡ 8 → Listed w c b a → (x : Chosen) → x ≡ chosen_of w (run w (members_at + b) a) y k → (d u j : ℕ) → x ≡ One d u j → (w' : List ℕ) (r : ℕ) → Wrote base w d v u j q w' r → Wrote base w c v y k q w' r
+  pub is_one_lem : kind ≡ 8 → Listed w c b a → (x : Option Chosen) → x ≡ chosen_of w (run w (members_at + b) a) y k → (o : Chosen) → x ≡ Some o → (w' : List ℕ) (r : ℕ) → Wrote base w o.id v o.var o.index q w' r → Wrote base w c v y k q w' r
   unfolding on_chosen
-  is_one_lem e L x ex d u j eo w' r p =
-      let i : d < c = chosen_below w c b a y k x d u j L ex eo in
+  is_one_lem e L x ex o eo w' r p =
+      let i : o.id < c = chosen_below w c b a y k x o L ex eo in
       or_is e L x ex w' r p.kept (λ w₀ n f canon R l m. rw eo (p.same w₀ n f canon R (omega arith) (omega arith)))
 
   pub is_some_lem : kind ≡ 9 → hands_at ≤ 6 * q → b < c → (w₁ : List ℕ) (o : ℕ) → WroteRole w c v y q w₁ o → (u : ℕ) → u ≡ plus_vars y 1 → (w' : List ℕ) (r : ℕ) → Wrote base w₁ b y u k o w' r → Wrote base w c v y k q w' r

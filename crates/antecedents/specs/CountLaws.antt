@@ -12,11 +12,11 @@ use Rattle.std.proofs.lemmas.Bool.{lt-leb}
 use Rattle.ir.specs.Pick.{pick}
 use Rattle.ir.specs.Counts.{tick}
 use Rattle.ir.specs.declared.counters.Counters.{Counters}
-use Rattle.ir.specs.declared.counters.Visit.TheVariants.{Begun, Full}
+use Rattle.ir.specs.Visit.{Begun, Full}
 use Rattle.ir.specs.declared.atom.Atom.{Atom}
 use Rattle.ir.specs.declared.atom.Atom.TheVariants.{Role as RoleAtom}
-use Rattle.ir.specs.declared.answer.Encoded.{Encoded}
-use Rattle.ir.specs.declared.answer.Encoded.TheVariants.{Found, Unsupported, Refused}
+use Rattle.ir.specs.Encoded.{Encoded}
+use Rattle.ir.specs.Encoded.{Found, Unsupported, Refused}
 use Rattle.rules.specs.Base.{Res, ok, then, all}
 use Rattle.rules.specs.Base as Base
 use Rattle.rules.specs.Concept.{Concept}

@@ -4,10 +4,10 @@ use Prim.{Unit}
 use Rattle.ir.specs.Pick.{pick}
 use Rattle.ir.specs.Counts.{visited, fresh_var}
 use Rattle.ir.specs.declared.counters.Counters.{Counters}
-use Rattle.ir.specs.declared.counters.Visit.{Visit}
-use Rattle.ir.specs.declared.counters.Visit.TheVariants.{Begun, Full}
-use Rattle.ir.specs.declared.answer.Encoded.{Encoded}
-use Rattle.ir.specs.declared.answer.Encoded.TheVariants.{Found, Unsupported, Refused}
+use Rattle.ir.specs.Visit.{Visit}
+use Rattle.ir.specs.Visit.{Begun, Full}
+use Rattle.ir.specs.Encoded.{Encoded}
+use Rattle.ir.specs.Encoded.{Found, Unsupported, Refused}
 use Rattle.rules.specs.Concept.{Concept}
 use Rattle.rules.specs.Concept.{Top, Bot, Atomic, Nominal, SelfRestriction, Not, And, Or, Some, All, Min, Max}
 use Rattle.rules.specs.Pool.{Pool, at}

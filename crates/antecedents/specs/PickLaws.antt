@@ -18,7 +18,6 @@ use Rattle.ir.specs.declared.counters.Counters.{Counters}
 use Rattle.ir.specs.declared.atom.Atom.{Atom}
 use Rattle.ir.specs.declared.atom.Atom.TheVariants.{Class, Role as RoleAtom}
 use Rattle.rules.specs.Base.{Res, ok, all}
-use Rattle.rules.specs.Base as Base
 use Rattle.rules.specs.Concept.{Concept}
 use Rattle.rules.specs.Concept.{Top, Bot, Atomic, Nominal, SelfRestriction, Not, And, Or, Some, All, Min, Max}
 use Rattle.rules.specs.Pool.{Pool, at}

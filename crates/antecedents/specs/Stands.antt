@@ -2,7 +2,7 @@
 use Rattle.std.specs.Prelude.{◌≡◌, Bool, List, ℕ, ◌+◌, ◌<◌, ◌≤◌, length, get_or}
 use Rattle.words.specs.Words.{words}
 use Rattle.ir.specs.declared.counters.Counters.{Counters}
-use Rattle.ir.specs.declared.answer.Encoded.{Encoded}
+use Rattle.ir.specs.Encoded.{Encoded}
 use Rattle.rules.specs.Pool.{most_members}
 use Rattle.pool.specs.Layout.{pool_bytes, members_at, run, pool_of}
 use Rattle.pool.specs.Held.{Held}

@@ -1,10 +1,10 @@
 -- encode_antecedent's answers: the code keeps how many alternatives there are and how long the longest is.
-use Rattle.std.specs.Prelude.{◌≡◌, List, [], ◌∷◌, ℕ, ◌+◌, ◌≤◌, max, length}
+use Rattle.std.specs.Prelude.{◌≡◌, [], ◌∷◌, ℕ, ◌+◌, ◌≤◌, max, length}
 use Rattle.std.proofs.Math.Option.{Option, none, some}
 use Rattle.ir.specs.Counts.{counters}
 use Rattle.ir.specs.declared.counters.Counters.{Counters}
-use Rattle.ir.specs.declared.answer.Encoded.{Encoded}
-use Rattle.ir.specs.declared.answer.Encoded.TheVariants.{Found, Unsupported, Refused}
+use Rattle.ir.specs.Encoded.{Encoded}
+use Rattle.ir.specs.Encoded.{Found, Unsupported, Refused}
 use Rattle.rules.specs.Base.{Res, ok}
 use Rattle.rules.specs.Base as Base
 use Rattle.rules.specs.State.{Out}

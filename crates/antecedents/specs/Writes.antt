@@ -1,5 +1,5 @@
 -- What the writing of one alternative asks of scratch's bytes s, and what it promises.
-use Rattle.std.specs.Prelude.{◌≡◌, List, [], ◌∷◌, ℕ, ◌+◌, ◌*◌, ◌-◌, ◌/◌, ◌%◌, ◌<◌, ◌≤◌, ltb, length, get_or, take}
+use Rattle.std.specs.Prelude.{◌≡◌, List, [], ◌∷◌, ℕ, ◌+◌, ◌*◌, ◌-◌, ◌/◌, ◌%◌, ◌<◌, ◌≤◌, ltb, length, get_or, take, Option, Some, None}
 use Rattle.std.proofs.Math.Option.{some}
 use Rattle.std.proofs.lemmas.List.Edits.{sets}
 use Rattle.words.specs.Words.{words}
@@ -22,7 +22,6 @@ use Rattle.pool.specs.Held.{Held}
 use Rattle.inverse.specs.Layout.{RolesHeld}
 use Rattle.tables.specs.Good.{most_names}
 use Rattle.antecedents.specs.declared.write.Chosen.{Chosen}
-use Rattle.antecedents.specs.declared.write.Chosen.TheVariants.{One, Nothing}
 use Rattle.antecedents.specs.declared.write.Part.{Part}
 use Rattle.antecedents.specs.States.{Fine}
 use Rattle.antecedents.specs.Table.{size_in, vars_in, plus_vars}
@@ -75,9 +74,9 @@ pub record WroteAll (base : ℕ) (w : List ℕ) (c start many v y k at : ℕ) (w
       → (w', r) ≡ write_on (w, at) (pick_and w₀ (pick_alt canon base (pool_of w₀ n) w₀ f) v (run w (members_at + start) many) y (size_in w₀ c) k)
 
 -- the disjunct that holds the k-th alternative
-unfoldable pub chosen_of : List ℕ → List ℕ → ℕ → ℕ → Chosen
-chosen_of w [] y k = Nothing
-chosen_of w (x ∷ l) y k = pick (ltb k (size_in w x)) (One x y k) (chosen_of w l (plus_vars y (vars_in w x)) (k - size_in w x))
+unfoldable pub chosen_of : List ℕ → List ℕ → ℕ → ℕ → Option Chosen
+chosen_of w [] y k = None
+chosen_of w (x ∷ l) y k = pick (ltb k (size_in w x)) (Some (record { id = x; var = y; index = k })) (chosen_of w l (plus_vars y (vars_in w x)) (k - size_in w x))
 
 -- list member i as the next part, at product r, index j and variable y
 pub record PartIs (w : List ℕ) (i r j y : ℕ) (q : Part) : Type 0 where

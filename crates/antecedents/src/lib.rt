@@ -18,14 +18,20 @@ ghost use Rattle.antecedents.specs.States.{Counted, summary};
 ghost use Rattle.antecedents.specs.Counts.{GoodEncoded};
 ghost use Rattle.antecedents.specs.Table.{Numbered, Outside};
 ghost use Rattle.antecedents.specs.Writes.{Named, Written};
+ghost use Rattle.ir.specs.Encoded.{encoded};
 
-use ir::answer::Encoded;
+use ir::answer::Alternatives;
 use ir::counters::Counters;
+use ir::refusal::Refusal;
 
 // How many alternatives an antecedent has, and the longest one's length.
-pub fn encode_antecedent(scratch: &[u8], k: Counters, c: u32) -> Encoded
-    requires { Ready scratch.now k × (c < k.concepts) × Good k }
-    ensures { ((env : Env) (f v : ℕ) (s : Out) → c < f → Counted k s → result ≡ summary k (encode_by env (pool_of (words scratch.now) k.concepts) f c v s)) × GoodEncoded result }
+pub fn encode_antecedent(
+    scratch: &[u8],
+    k: &mut Counters,
+    c: u32,
+) -> Result<Option<Alternatives>, Refusal>
+    requires { Ready scratch.now k.old × (c < k.old.concepts) × Good k.old }
+    ensures { ((env : Env) (f v : ℕ) (s : Out) → c < f → Counted k.old s → (encoded k.new result) ≡ summary k.old (encode_by env (pool_of (words scratch.now) k.old.concepts) f c v s)) × GoodEncoded (encoded k.new result) }
 {
     count::encode_antecedent(scratch, k, c)
 }
@@ -35,12 +41,9 @@ pub fn number_alternatives(scratch: &mut [u8], k: Counters, from: u32)
     requires { Ready scratch.old k × (4 * axioms_at ≤ length scratch.old) × (from ≤ k.concepts) × Numbered (words scratch.old) (pool_of (words scratch.old) k.concepts) from }
     ensures { Numbered (words scratch.new) (pool_of (words scratch.old) k.concepts) k.concepts × Outside (words scratch.old) (words scratch.new) }
 {
-    let to = k.concepts;
-    let mut c = from;
-    while c < to {
+    for c in from..k.concepts {
         let r = table::row_of(scratch, c);
         table::put_row(scratch, c, r);
-        c += 1;
     }
 }
 

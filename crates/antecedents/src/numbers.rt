@@ -1,129 +1,99 @@
 // The numbers of combined alternatives.
-ghost use Rattle.std.specs.Prelude.{◌≡◌, ◌+◌, ◌*◌, ◌/◌, ◌%◌, min};
+ghost use Rattle.std.specs.Prelude.{◌≡◌, ◌/◌, ◌%◌, MatchResult};
+ghost use Rattle.ir.specs.Encoded.{encoded, Found, Refused};
+ghost use Rattle.ir.specs.Refusals.{refusal_number};
+ghost use Rattle.ir.specs.declared.counters.Counters.{Counters};
 ghost use Rattle.antecedents.specs.Counts.{crossed, listed, joined, under};
-ghost use Rattle.antecedents.specs.Table.{plus_vars, join_size};
+ghost use Rattle.antecedents.specs.Table.{join_size};
 
-use ir::answer::Encoded;
-use ir::counters::Counters;
+use ir::answer::Alternatives;
+use ir::refusal::Refusal;
 
 // ANTECEDENT_DNF_CAP, and the most atoms of a body in hand.
-const CAP: u64 = 64;
+const CAP: u32 = 64;
 
-const LONGEST: u64 = 256;
-
-fn wide(x: u32) -> u64
-    ensures { result ≡ x }
-{
-    x as u64
-}
+const LONGEST: u32 = 256;
 
 // Of every combination.
-fn cross_numbers(k: Counters, n: u32, l: u32, m: u32, j: u32) -> Encoded
-    ensures { result ≡ crossed k n l m j }
+fn cross_numbers(a: Alternatives, b: Alternatives) -> Result<Option<Alternatives>, Refusal>
+    ensures { (k : Counters) → encoded k result ≡ crossed k a.count a.longest b.count b.longest }
 {
-    let many = wide(n) * wide(m);
-    if many == 0 {
-        return Encoded::Found(k, 0, 0);
+    let count = a.count.saturating_mul(b.count);
+    if count == 0 {
+        return Ok(Some(Alternatives {
+            count: 0,
+            longest: 0,
+        }));
     }
-    let long = wide(l) + wide(j);
-    if LONGEST < long {
-        return Encoded::Refused(12);
+    let longest = a.longest.saturating_add(b.longest);
+    if LONGEST < longest {
+        return Err(Refusal::NoRoom);
     }
-    if CAP < many {
-        return Encoded::Unsupported(k);
+    if CAP < count {
+        return Ok(None);
     }
-    Encoded::Found(k, many as u32, long as u32)
+    Ok(Some(Alternatives { count, longest }))
 }
 
 // Of one list behind the other.
-fn list_numbers(k: Counters, n: u32, l: u32, m: u32, j: u32) -> Encoded
-    ensures { result ≡ listed k n l m j }
+fn list_numbers(a: Alternatives, b: Alternatives) -> Result<Option<Alternatives>, Refusal>
+    ensures { (k : Counters) → encoded k result ≡ listed k a.count a.longest b.count b.longest }
 {
-    let many = wide(n) + wide(m);
-    if CAP < many {
-        return Encoded::Unsupported(k);
+    let count = a.count.saturating_add(b.count);
+    if CAP < count {
+        return Ok(None);
     }
-    if l < j {
-        return Encoded::Found(k, many as u32, j);
-    }
-    Encoded::Found(k, many as u32, l)
+    let longest = a.longest.max(b.longest);
+    Ok(Some(Alternatives { count, longest }))
 }
 
-// Of a part of an And (both) or Or more.
-pub fn join_numbers(both: bool, n: u32, l: u32, r: Encoded) -> Encoded
-    ensures { result ≡ joined both n l r }
+// Of a part b of an And (both) or Or more. The flag is the definition's own Bool, here and in what calls this: a closure in its place would
+// need its own name for what each of the two says.
+pub fn join_numbers(
+    both: bool,
+    a: Alternatives,
+    b: Alternatives,
+) -> Result<Option<Alternatives>, Refusal>
+    ensures { (k : Counters) → encoded k result ≡ joined both a.count a.longest (Found k b.count b.longest) }
 {
-    match r {
-        Encoded::Found(k, m, j) => {
-            if both {
-                cross_numbers(k, n, l, m, j)
-            } else {
-                list_numbers(k, n, l, m, j)
-            }
-        }
-        Encoded::Unsupported(k) => Encoded::Unsupported(k),
-        Encoded::Refused(e) => Encoded::Refused(e),
+    if both {
+        cross_numbers(a, b)
+    } else {
+        list_numbers(a, b)
     }
 }
 
 // Of one atom before each alternative.
-pub fn put_under(r: Encoded) -> Encoded
-    ensures { result ≡ under r }
+pub fn put_under(a: Alternatives) -> Result<Alternatives, Refusal>
+    ensures { (k : Counters) → MatchResult result (λ b. Found k b.count b.longest ≡ under (Found k a.count a.longest)) (λ e. Refused (refusal_number e) ≡ under (Found k a.count a.longest)) }
 {
-    match r {
-        Encoded::Found(k, n, l) => {
-            if n == 0 {
-                return Encoded::Found(k, 0, 0);
-            }
-            if LONGEST <= wide(l) {
-                return Encoded::Refused(12);
-            }
-            Encoded::Found(k, n, l + 1)
-        }
-        Encoded::Unsupported(k) => Encoded::Unsupported(k),
-        Encoded::Refused(e) => Encoded::Refused(e),
+    if a.count == 0 {
+        return Ok(Alternatives {
+            count: 0,
+            longest: 0,
+        });
     }
+    if LONGEST <= a.longest {
+        return Err(Refusal::NoRoom);
+    }
+    Ok(Alternatives {
+        count: a.count,
+        longest: a.longest + 1,
+    })
 }
 
-// Of variables.
-pub fn plus(a: u32, b: u32) -> u32
-    ensures { result ≡ plus_vars a b }
-{
-    let s = wide(a) + wide(b);
-    if s < 4294967295 {
-        return s as u32;
-    }
-    4294967295
-}
-
-// Of alternatives; over 64 are 65.
-fn times(a: u32, n: u32) -> u32
-    ensures { result ≡ min (a * n) 65 }
-{
-    let many = wide(a) * wide(n);
-    if many < 65 {
-        return many as u32;
-    }
-    65
-}
-
-fn sum(a: u32, n: u32) -> u32
-    ensures { result ≡ min (a + n) 65 }
-{
-    let many = wide(a) + wide(n);
-    if many < 65 {
-        return many as u32;
-    }
-    65
-}
-
+// Of alternatives, up to 64; more are 65.
 pub fn join_size(both: bool, a: u32, n: u32) -> u32
     ensures { result ≡ join_size both a n }
 {
-    if both { times(a, n) } else { sum(a, n) }
+    if both {
+        a.saturating_mul(n).min(65)
+    } else {
+        a.saturating_add(n).min(65)
+    }
 }
 
-// By 0: 0, and all is left over.
+// By 0: 0, and all is left over. checked_div and checked_rem with unwrap_or are no plainer.
 pub fn quot(a: u32, b: u32) -> u32
     ensures { result ≡ a / b }
 {

@@ -40,13 +40,10 @@ fn list_row(scratch: &[u8], c: u32, start: u32, many: u32, first: u32, both: boo
 {
     let mut size = first;
     let mut vars: u32 = 0;
-    let mut i: u32 = 0;
-    while i < many {
-        let at = start + i;
-        let x = record::member(scratch, at);
+    for i in 0..many {
+        let x = record::member(scratch, start + i);
         size = numbers::join_size(both, size, size_of(scratch, x));
-        vars = numbers::plus(vars, vars_of(scratch, x));
-        i += 1;
+        vars = vars.saturating_add(vars_of(scratch, x));
     }
     Row { size, vars }
 }
@@ -66,7 +63,7 @@ pub fn row_of(scratch: &[u8], c: u32) -> Row
         8 => list_row(scratch, c, b, a, 0, false),
         9 => {
             let size = size_of(scratch, b);
-            let vars = numbers::plus(vars_of(scratch, b), 1);
+            let vars = vars_of(scratch, b).saturating_add(1);
             Row { size, vars }
         }
         _ => Row { size: 0, vars: 0 },

@@ -18,9 +18,10 @@ use pool::record;
 
 // A disjunct: its id, its first variable and its own index.
 #[derive(Clone, Copy)]
-pub enum Chosen {
-    One(u32, u32, u32),
-    Nothing,
+pub struct Chosen {
+    pub id: u32,
+    pub var: u32,
+    pub index: u32,
 }
 
 // A part of an And: its id, the product of the sizes after it, its own index, the index of the rest, and the next variable.
@@ -56,25 +57,26 @@ fn put_role(scratch: &mut [u8], at: usize, c: u32, v: u32, y: u32) -> usize
 }
 
 // The disjunct among c's list that holds the k-th alternative.
-fn disjunct(scratch: &[u8], c: u32, start: u32, many: u32, y: u32, k: u32) -> Chosen
+fn disjunct(scratch: &[u8], c: u32, start: u32, many: u32, y: u32, k: u32) -> Option<Chosen>
     requires { (c < most_concepts) × (4 * axioms_at ≤ length scratch.now) × Listed (words scratch.now) c start many }
     ensures { result ≡ chosen_of (words scratch.now) (run (words scratch.now) (members_at + start) many) y k }
 {
     let mut w = y;
     let mut j = k;
-    let mut i: u32 = 0;
-    while i < many {
-        let at = start + i;
-        let x = record::member(scratch, at);
+    for i in 0..many {
+        let x = record::member(scratch, start + i);
         let size = table::size_of(scratch, x);
         if j < size {
-            return Chosen::One(x, w, j);
+            return Some(Chosen {
+                id: x,
+                var: w,
+                index: j,
+            });
         }
-        j = j - size;
-        w = numbers::plus(w, table::vars_of(scratch, x));
-        i += 1;
+        j -= size;
+        w = w.saturating_add(table::vars_of(scratch, x));
     }
-    Chosen::Nothing
+    None
 }
 
 // List member i as the next part.
@@ -86,7 +88,7 @@ fn next_part(scratch: &[u8], i: u32, r: u32, j: u32, y: u32) -> Part
     let left = numbers::quot(r, table::size_of(scratch, id));
     let digit = numbers::quot(j, left);
     let rest = numbers::rest(j, left);
-    let next = numbers::plus(y, table::vars_of(scratch, id));
+    let next = y.saturating_add(table::vars_of(scratch, id));
     Part {
         id,
         left,
@@ -116,15 +118,12 @@ fn write_parts(
     let mut w = y;
     let mut r = table::size_of(scratch, c);
     let mut j = k;
-    let mut i: u32 = 0;
-    while i < many {
-        let m = start + i;
-        let q = next_part(scratch, m, r, j, w);
+    for i in 0..many {
+        let q = next_part(scratch, start + i, r, j, w);
         p = write_one(scratch, base, p, q.id, v, w, q.digit);
         r = q.left;
         j = q.rest;
         w = q.next;
-        i += 1;
     }
     p
 }
@@ -146,16 +145,13 @@ pub fn write_one(scratch: &mut [u8], base: u32, at: usize, c: u32, v: u32, y: u3
             put(scratch, at, Atom::Class(class, v))
         }
         7 => write_parts(scratch, base, at, c, b, a, v, y, k),
-        8 => {
-            let q = disjunct(scratch, c, b, a, y, k);
-            match q {
-                Chosen::One(x, w, j) => write_one(scratch, base, at, x, v, w, j),
-                Chosen::Nothing => at,
-            }
-        }
+        8 => match disjunct(scratch, c, b, a, y, k) {
+            Some(q) => write_one(scratch, base, at, q.id, v, q.var, q.index),
+            None => at,
+        },
         9 => {
             let p = put_role(scratch, at, c, v, y);
-            let w = numbers::plus(y, 1);
+            let w = y.saturating_add(1);
             write_one(scratch, base, p, b, y, w, k)
         }
         _ => at,

@@ -4,7 +4,7 @@ use Rattle.std.proofs.Math.Option.{Option, some}
 use Prim.{Unit}
 use Rattle.words.specs.Words.{words}
 use Rattle.ir.specs.declared.counters.Counters.{Counters}
-use Rattle.ir.specs.declared.answer.Answer.{Answer}
+use Rattle.ir.specs.Answer.{Answer}
 use Rattle.ir.specs.declared.atom.Atom.{Atom}
 use Rattle.ir.specs.declared.atom.Atom.TheVariants.{Class}
 use Rattle.rules.specs.Base.{ok, for_each, ◌>>=◌, ◌>>◌}

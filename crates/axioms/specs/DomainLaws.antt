@@ -8,7 +8,7 @@ use Rattle.ir.specs.Counts.{fresh_var, vars_restarted}
 use Rattle.ir.specs.Records.{six}
 use Rattle.ir.specs.Scratch.{hands_at, limits_at, limits_words}
 use Rattle.ir.specs.declared.counters.Counters.{Counters}
-use Rattle.ir.specs.declared.answer.Answer.{Answer}
+use Rattle.ir.specs.Answer.{Answer}
 use Rattle.ir.specs.declared.role.Role.{Role}
 use Rattle.ir.specs.declared.atom.Atom.TheVariants.{Role as RoleAtom}
 use Rattle.rules.specs.State.{canon, restarted, restart_vars, fresh_var as new_var}

@@ -5,7 +5,7 @@ use Prim.{Unit}
 use Rattle.words.specs.Words.{words}
 use Rattle.ir.specs.Scratch.{hands_at, limits_at, limits_words}
 use Rattle.ir.specs.declared.counters.Counters.{Counters}
-use Rattle.ir.specs.declared.answer.Answer.{Answer}
+use Rattle.ir.specs.Answer.{Answer}
 use Rattle.rules.specs.Pool.{Pool}
 use Rattle.rules.specs.Heads.{emit_by, emit_head}
 use Rattle.pool.specs.Layout.{pool_of}

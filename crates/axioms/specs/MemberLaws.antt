@@ -4,8 +4,8 @@ use Rattle.std.proofs.Common.{sym, ap, subst, ◌∙◌, arith}
 use Rattle.std.proofs.Math.Option.{Option, none, some}
 use Prim.{Unit, tt}
 use Rattle.ir.specs.declared.counters.Counters.{Counters}
-use Rattle.ir.specs.declared.answer.Encoded.{Encoded}
-use Rattle.ir.specs.declared.answer.Encoded.TheVariants.{Found, Unsupported, Refused}
+use Rattle.ir.specs.Encoded.{Encoded}
+use Rattle.ir.specs.Encoded.{Found, Unsupported, Refused}
 use Rattle.rules.specs.Base.{Res, ok}
 use Rattle.rules.specs.Base as Base
 use Rattle.rules.specs.Inverse.{InverseCanon}

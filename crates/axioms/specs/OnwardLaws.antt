@@ -5,8 +5,8 @@ use Prim.{Unit, tt}
 use Rattle.ir.specs.Options.{card_disjunct_atoms, equal_names}
 use Rattle.ir.specs.Scratch.{keys_at, roles_at, stack_at}
 use Rattle.ir.specs.declared.counters.Counters.{Counters}
-use Rattle.ir.specs.declared.answer.Answer.{Answer}
-use Rattle.ir.specs.declared.answer.Answer.TheVariants.{Done, Refused}
+use Rattle.ir.specs.Answer.{Answer}
+use Rattle.ir.specs.Answer.{Done, Refused}
 use Rattle.rules.specs.Base.{Res, ok, refused}
 use Rattle.rules.specs.Inverse.{InverseCanon}
 use Rattle.rules.specs.State.{Rooms, Env}

@@ -1,14 +1,14 @@
 -- From a rule that only reads the pool to one of the clausifier. Assumes nothing.
-use Rattle.std.specs.Prelude.{◌≡◌, refl, List, [], ℕ, ◌+◌, ◌*◌, ◌<◌, ◌≤◌, length, take}
+use Rattle.std.specs.Prelude.{◌≡◌, refl, List, [], ℕ, ◌+◌, ◌*◌, length, take}
 use Rattle.std.proofs.Common.{sym, ap, ◌∙◌, append-nil, arith}
 use Prim.{tt}
 use Rattle.words.specs.Words.{words}
 use Rattle.ir.specs.Scratch.{hands_at}
 use Rattle.ir.specs.declared.counters.Counters.{Counters}
-use Rattle.ir.specs.declared.answer.Answer.{Answer}
-use Rattle.ir.specs.declared.answer.Answer.TheVariants.{Done, Refused}
+use Rattle.ir.specs.Answer.{Answer}
+use Rattle.ir.specs.Answer.{Done, Refused}
 use Rattle.rules.specs.Base.{Res, ok, refused, then}
-use Rattle.rules.specs.Pool.{Pool, members}
+use Rattle.rules.specs.Pool.{Pool}
 use Rattle.rules.specs.State.{Rooms, Env, Out, E, total}
 use Rattle.rules.specs.Normalize.{St}
 use Rattle.rules.specs.Run.{flat}

@@ -110,7 +110,8 @@ fn clash(scratch: &[u8], l: Sets, always: bool, a: u32, m: u64, k: u32) -> u64
     0
 }
 
-// What number j and a later one have, if they clash.
+// What number j and a later one have, if they clash. (By `folded` over a closure the step does not close: `search` would have to guess
+// what `clash` gave.)
 fn clash_behind(scratch: &[u8], l: Sets, always: bool, j: u32) -> u64
     requires { SetsIn scratch.now l × (j < l.count) }
     ensures { (n : ℕ) (f : ℕ → ℕ → Bool) → Members n f (words scratch.now) l → result ≡ mask_of n (λ x. any (λ b. clash_at always f (number_of (words scratch.now) l j) b x) (numbers_from (words scratch.now) l (j + 1))) }

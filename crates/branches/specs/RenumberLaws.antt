@@ -8,7 +8,7 @@ use Rattle.ir.specs.RecordLaws.{read_six_lem}
 use Rattle.ir.specs.declared.role.Role.{Role}
 use Rattle.ir.specs.declared.atom.Atom.{Atom}
 use Rattle.ir.specs.declared.atom.Atom.TheVariants.{Class, Exists, AtMost, AtLeast, Equal, Role as RoleAtom}
-use Rattle.ir.specs.declared.record.Read.TheVariants.{Atom as ReadAtom}
+use Rattle.std.specs.Prelude.{Some}
 use Rattle.rules.specs.Run.{flat}
 use Rattle.rules.specs.DecodeLaws.{flat_long}
 use Rattle.rules.specs.Branches.{place_of, met_with, renumber, renumber_from}
@@ -66,10 +66,10 @@ module _ (m k r : ℕ) (ek : k ≡ m + 513) (er : r ≡ k + 512) (w : List ℕ) 
       (f ∙ ap (λ (y : ℕ). packed (RoleAtom s y q)) ep ∙ ap (λ (y : ℕ). packed (RoleAtom s (place_of met u) y)) qq)
 
 -- ---- the atom of a record
-pub read_same : (w : List ℕ) (at : ℕ) (a b : Atom) → atom_at w at ≡ ReadAtom a → atom_at w at ≡ ReadAtom b → a ≡ b
-read_same w at a b e f = let h : ReadAtom a ≡ ReadAtom b = sym e ∙ f in cc
+pub read_same : (w : List ℕ) (at : ℕ) (a b : Atom) → atom_at w at ≡ Some a → atom_at w at ≡ Some b → a ≡ b
+read_same w at a b e f = let h : Some a ≡ Some b = sym e ∙ f in cc
 
-atom_read : (w : List ℕ) (j : ℕ) (a : Atom) (l : List Atom) → At w (6 * j) (flat (a ∷ l)) → atom_at w j ≡ ReadAtom a
+atom_read : (w : List ℕ) (j : ℕ) (a : Atom) (l : List Atom) → At w (6 * j) (flat (a ∷ l)) → atom_at w j ≡ Some a
 unfolding flat
 atom_read w j a l e =
     let x = words_of a in
@@ -86,7 +86,7 @@ atom_read w j a l e =
 pub record ReadAt (w' : List ℕ) (at i : ℕ) (l : List Atom) : Type 0 where
   pub atom : Atom
   pub split : drop i l ≡ atom ∷ drop (i + 1) l
-  pub read : atom_at w' at ≡ ReadAtom atom
+  pub read : atom_at w' at ≡ Some atom
 
 pub read_at : (m : ℕ) (w w' : List ℕ) (base count i : ℕ) (l : List Atom) → take m w' ≡ take m w → 6 * (base + count) ≤ m → AtomsAre w base count l → i < count → ReadAt w' (base + i) i l
 read_at m w w' base count i l e b A h =
@@ -123,7 +123,7 @@ module _ (m k r : ℕ) (ek : k ≡ m + 513) (er : r ≡ k + 512) (w : List ℕ) 
   }
 
   module _ (w' : List ℕ) (n i : ℕ) (R : Renumbering m k r w base count root w' n i) where
-    module _ (low : 6 * (base + count) ≤ m) (w2 : List ℕ) (n2 : ℕ) (h : i < count) (P : (a : Atom) → atom_at w' (base + i) ≡ ReadAtom a → Put m k r w' n i a w2 n2) where
+    module _ (low : 6 * (base + count) ≤ m) (w2 : List ℕ) (n2 : ℕ) (h : i < count) (P : (a : Atom) → atom_at w' (base + i) ≡ Some a → Put m k r w' n i a w2 n2) where
       next_left : (l : List Atom) → AtomsAre w base count l → map packed (renumber l root) ≡ run w2 r (i + 1) ++ map packed (renumber_from (run w2 m n2) (drop (i + 1) l))
       next_left l A =
           let D = read_at m w w' base count i l R.only.before low A h in

@@ -4,7 +4,7 @@ use Rattle.std.specs.Prelude.{◌≡◌, List, ◌++◌, map, ℕ, ◌+◌, ◌*
 use Rattle.ir.specs.Records.{atom_at}
 use Rattle.ir.specs.declared.atom.Atom.{Atom}
 use Rattle.ir.specs.declared.atom.Atom.TheVariants.{Class, Exists, AtMost, AtLeast, Equal, Role as RoleAtom}
-use Rattle.ir.specs.declared.record.Read.TheVariants.{Atom as ReadAtom}
+use Rattle.std.specs.Prelude.{Some}
 use Rattle.rules.specs.Branches.{place_of, met_with, renumber, renumber_from}
 use Rattle.branches.specs.Wide.{AtomsAre}
 use Rattle.branches.specs.Memo.{packed, Tame}
@@ -51,7 +51,7 @@ pub record Put (m k r : ℕ) (w : List ℕ) (n i : ℕ) (a : Atom) (w' : List �
 
 pub record TameAt (w : List ℕ) (at : ℕ) : Type 0 where
   pub atom : Atom
-  pub is : atom_at w at ≡ ReadAtom atom
+  pub is : atom_at w at ≡ Some atom
   pub tame : Tame atom
 
 -- ---- the body

@@ -27,6 +27,7 @@ pub struct Naming {
     pub used: u32,
 }
 
+// As the pool's `same_run`: the one crate below both that has the rules' `run` has no code.
 fn same_words(scratch: &[u8], a: usize, b: usize, count: u32) -> bool
     requires { (4 * (a + count) ≤ length scratch.now) × (4 * (b + count) ≤ length scratch.now) }
     ensures { result ≡ same_words (run (words scratch.now) a count) (run (words scratch.now) b count) }

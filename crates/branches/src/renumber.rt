@@ -1,11 +1,10 @@
 // A body renumbered from its root, a word an atom: a variable's number is its place among the variables met.
-ghost use Rattle.std.specs.Prelude.{◌≡◌, List, map, ◌+◌, ◌*◌, ◌<◌, ◌≤◌, length};
+ghost use Rattle.std.specs.Prelude.{◌≡◌, List, map, ◌+◌, ◌*◌, ◌<◌, ◌≤◌, length, Some};
 ghost use Rattle.words.specs.Words.{words};
 ghost use Rattle.ir.specs.Roles.{role_code};
 ghost use Rattle.ir.specs.Records.{atom_at};
 ghost use Rattle.ir.specs.declared.atom.Atom.{Atom};
 ghost use Rattle.ir.specs.declared.atom.Atom.TheVariants.{Class, Role as RoleAtom};
-ghost use Rattle.ir.specs.declared.record.Read.TheVariants.{Atom as ReadAtom};
 ghost use Rattle.rules.specs.Branches.{place_of};
 ghost use Rattle.rules.specs.Branches as Rules;
 ghost use Rattle.branches.specs.Layout.{bound_at, met_at, keep_at, renumbered_at, work_words};
@@ -20,7 +19,6 @@ use crate::pack;
 use crate::place::place;
 use ir::atom::Atom;
 use ir::record;
-use ir::record::Read;
 use ir::role::Role;
 
 // v is met: how many variables are met then, and its place among them, the last where it is new.
@@ -75,11 +73,11 @@ fn put_atom(scratch: &mut [u8], n: usize, i: usize, a: Atom) -> usize
 // For the atom of record `at`.
 fn put_record(scratch: &mut [u8], n: usize, i: usize, at: usize) -> usize
     requires { (n + 2 ≤ 513) × (i < 256) × (4 * work_words ≤ length scratch.old) × (6 * at + 6 ≤ bound_at) × TameAt (words scratch.old) at }
-    ensures { (a : Atom) → atom_at (words scratch.old) at ≡ ReadAtom a → Put met_at keep_at renumbered_at (words scratch.old) n i a (words scratch.new) result }
+    ensures { (a : Atom) → atom_at (words scratch.old) at ≡ Some a → Put met_at keep_at renumbered_at (words scratch.old) n i a (words scratch.new) result }
 {
     match record::get_atom(scratch, at) {
-        Read::Atom(a) => put_atom(scratch, n, i, a),
-        Read::NoAtom => n,
+        Some(a) => put_atom(scratch, n, i, a),
+        None => n,
     }
 }
 

@@ -12,7 +12,7 @@ use Rattle.rules.specs.Axioms.{Clausifier}
 use Rattle.rules.specs.Run.{deferral_words, deferral_records}
 use Rattle.rules.specs.DecodeLaws.{deferral_records_long}
 use Rattle.rules.specs.Lister.{fields_text, clauses_text}
-use Rattle.tables.specs.Drawn.{padded, Tables, tables, show, counters_in, deferrals_in}
+use Rattle.tables.specs.Drawn.{padded, Tables, show, counters_in, deferrals_in}
 use Rattle.rows.specs.Rows.{Put, texts_of}
 use Rattle.rows.specs.RowLaws.{length_line, put_then}
 use Rattle.tables.specs.Tabled.{Tabled, At, deferred_line, deferred_kind}

@@ -1,6 +1,7 @@
 // The text of the clauses, the deferrals and the sums.
 ghost use Rattle.std.specs.Prelude.{List, [], ◌∷◌, ◌+◌, ◌*◌, ◌≤◌, length};
 ghost use Rattle.words.specs.Words.{words};
+ghost use Rattle.ir.specs.Refusals.{refusal_number};
 ghost use Rattle.rules.specs.State.{Deferred};
 ghost use Rattle.rules.specs.Axioms.{Clausifier};
 ghost use Rattle.rules.specs.Run.{deferral_words};
@@ -9,6 +10,7 @@ ghost use Rattle.rows.specs.Rows.{Put};
 ghost use Rattle.staging.specs.Stage.{Shows, Showing};
 ghost use Rattle.clauses.specs.Stage.{deferrals_text, state_text, refusal_text, lent, most_text, Deferring};
 
+use ir::answer::Refused;
 use ir::counters::Counters;
 use tables::read;
 
@@ -61,11 +63,11 @@ pub fn put_state(
     put_sums(out, q, k)
 }
 
-// A refusal.
-pub fn put_refusal(out: &mut [u8], number: u32, line: u32) -> usize
+// A refusal, in this program's own text: one line, as in normalforms.
+pub fn put_refusal(out: &mut [u8], e: Refused) -> usize
     requires { most_text ≤ length out.old }
-    ensures put { Put out.old 0 (refusal_text number line) out.new result }
+    ensures put { Put out.old 0 (refusal_text (refusal_number e.refusal) e.line) out.new result }
     ensures upper_bound { result ≤ most_text }
 {
-    rows::put_line(out, 0, &[49, number, line])
+    rows::put_line(out, 0, &[49, e.refusal.number(), e.line])
 }

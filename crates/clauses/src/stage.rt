@@ -9,10 +9,9 @@ ghost use Rattle.staging.specs.Stage.{staged, Blank};
 ghost use Rattle.clauses.specs.Stage.{lined_text, stage_text, lent, most_text};
 
 use crate::lines;
-use ir::answer::Lined;
 use ir::counters::Counters;
 use ontology::load;
-use ontology::load::Loaded;
+use tables::lent::Tables;
 
 // The text of the clauses of a deck that was read.
 fn put_clausified(
@@ -28,9 +27,17 @@ fn put_clausified(
     ensures put { (P : Preparing scratch.old k n) → Put out.old 0 (lined_text (staged P.limit lent P.known)) out.new result }
     ensures upper_bound { result ≤ most_text }
 {
-    match staging::clausify_deck(scratch, clauses, atoms, deferrals, k, n) {
-        Lined::Finished(v) => lines::put_state(clauses, atoms, deferrals, v, out),
-        Lined::Stopped(e, line) => lines::put_refusal(out, e, line),
+    let mut lent = Tables {
+        clauses,
+        atoms,
+        deferrals,
+        counters: k,
+    };
+    let done = staging::clausify_deck(&mut lent, scratch, n);
+    let k = lent.counters;
+    match done {
+        Ok(()) => lines::put_state(clauses, atoms, deferrals, k, out),
+        Err(e) => lines::put_refusal(out, e),
     }
 }
 
@@ -48,7 +55,7 @@ pub fn put_stage(
     ensures upper_bound { result ≤ most_text }
 {
     match load::load(deck, scratch, 1000000) {
-        Loaded::Accepted(k, n) => put_clausified(scratch, clauses, atoms, deferrals, k, n, out),
-        Loaded::Refused(e, line) => lines::put_refusal(out, e, line),
+        Ok((k, n)) => put_clausified(scratch, clauses, atoms, deferrals, k, n, out),
+        Err(e) => lines::put_refusal(out, e),
     }
 }

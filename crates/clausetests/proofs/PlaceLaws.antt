@@ -29,7 +29,7 @@ use Rattle.clausetests.proofs.FittingLaws.{pair_within, tables_one, tables_two}
 
 -- ---- variables and their places
 pub vars_long : (vs : List ℕ) (v : Vars) → VarsAs vs v → v.n ≤ 4 → length vs ≡ v.n
-vars_long vs v (few h e) l = ap length (sym e) ∙ length-take-le v.n (v.a ∷ v.b ∷ v.c ∷ v.d ∷ []) h
+vars_long vs v (few h n e) l = ap length (sym e) ∙ length-take-le v.n v.ids (omega arith)
 vars_long vs v (many h e) l = absurd (omega arith)
 
 pub nth_in : (vs : List ℕ) (j : ℕ) → j < length vs → contains vs (get_or vs j 0) ≡ true

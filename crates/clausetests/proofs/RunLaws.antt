@@ -10,8 +10,8 @@ use lib.Seq.{take-suc, take_all}
 use Rattle.words.specs.Words.{words}
 use Rattle.ir.specs.Records.{atom_at}
 use Rattle.ir.specs.declared.atom.Atom.{Atom}
-use Rattle.ir.specs.declared.record.Read.{Read}
-use Rattle.ir.specs.declared.record.Read.TheVariants.{NoAtom, Atom as ReadAtom}
+use Rattle.ir.specs.Records.{Read}
+use Rattle.std.specs.Prelude.{None, Some}
 use Rattle.rules.specs.Base.{all}
 use Rattle.rules.specs.Invariants.{Each}
 use Rattle.rules.specs.EachLaws.{each_left, each_right, each_nth}
@@ -70,14 +70,14 @@ module _ (run : List ℕ) (i : ℕ) (l : List Atom) (R : Run run l) (h : 24 * i 
   run_within = omega (arith, R.long)
 
   module _ (r : Read) (e : r ≡ atom_at (words run) i) where
-    is : r ≡ ReadAtom (get_or l i no_atom)
+    is : r ≡ Some (get_or l i no_atom)
     is = e ∙ read_is (words run) i (get_or l i no_atom) (run_nth run l i R run_within)
 
-    pub read_nth : (a : Atom) → r ≡ ReadAtom a → a ≡ get_or l i no_atom
-    read_nth a f = let g : ReadAtom a ≡ ReadAtom (get_or l i no_atom) = sym f ∙ is in cc
+    pub read_nth : (a : Atom) → r ≡ Some a → a ≡ get_or l i no_atom
+    read_nth a f = let g : Some a ≡ Some (get_or l i no_atom) = sym f ∙ is in cc
 
-    pub read_some : r ≡ NoAtom → ⊥
-    read_some f = let g : ReadAtom (get_or l i no_atom) ≡ NoAtom = sym is ∙ f in let z : ◌≡◌ {A = ℕ} 0 1 = cc in omega arith
+    pub read_some : r ≡ None → ⊥
+    read_some f = let g : Some (get_or l i no_atom) ≡ None = sym is ∙ f in let z : ◌≡◌ {A = ℕ} 0 1 = cc in omega arith
 
 pub tables_nth : (I : Interpretation) (vs : List ℕ) (head : Bool) (n k : ℕ) (a b : Atom) (one : ℕ → ℕ → Bool) (two : ℕ → ℕ → ℕ → ℕ → Bool) (v : List ℕ) → a ≡ b → Tables n k (one_with I vs head a one) (two_with I vs head a two) v → Tables n k (one_with I vs head b one) (two_with I vs head b two) v
 tables_nth I vs head n k a b one two v e T = subst (λ (x : Atom). Tables n k (one_with I vs head x one) (two_with I vs head x two) v) e T

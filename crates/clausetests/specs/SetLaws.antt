@@ -7,8 +7,8 @@ use Rattle.ir.specs.Roles.{role_id, role_code, role_of, flipped, role_code_lem, 
 use Rattle.ir.specs.declared.role.Role.{Role}
 use Rattle.ir.specs.declared.atom.Atom.{Atom}
 use Rattle.ir.specs.declared.atom.Atom.TheVariants.{Class, Exists, AtMost, AtLeast, Equal, Role as RoleAtom}
-use Rattle.ir.specs.declared.atom.Qualifier.{Qualifier}
-use Rattle.ir.specs.declared.atom.Qualifier.TheVariants.{Unqualified, Qualified}
+use Rattle.ir.specs.Qualifiers.{Qualifier}
+use Rattle.std.specs.Prelude.{None, Some}
 use Rattle.rules.specs.Base.{any, contains}
 use Rattle.rules.specs.Deck.{most_roles}
 use Rattle.rules.specs.Run.{scratch_bytes}
@@ -75,10 +75,10 @@ module _ (I : Interpretation) (roles size : ℕ) (text w v : List ℕ) (G : Give
   pub equal_is : (a : Atom) (u y m : ℕ) → a ≡ Equal u y → m ≡ mask_of size (λ _. true) → m ≡ mask_of I.size (λ x. atom_holds I (λ _. x) a)
   equal_is a u y m e q = atom_is a (Equal u y) m e (whole_is m q ∙ mask_same I.size (λ _. true) (λ x. eqb x x) (λ x _. sym (eq-eqb x x refl)))
 
-  pub filler_top : (q : Qualifier) (m : ℕ) → q ≡ Unqualified → m ≡ mask_of size (λ _. true) → m ≡ mask_of I.size (qualifies I q)
+  pub filler_top : (q : Qualifier) (m : ℕ) → q ≡ None → m ≡ mask_of size (λ _. true) → m ≡ mask_of I.size (qualifies I q)
   filler_top q m e h = whole_is m h ∙ ap (λ (k : Qualifier). mask_of I.size (qualifies I k)) (sym e)
 
-  pub filler_class : (q : Qualifier) (c m : ℕ) → q ≡ Qualified c → m ≡ mask_of I.size (I.class c) → m ≡ mask_of I.size (qualifies I q)
+  pub filler_class : (q : Qualifier) (c m : ℕ) → q ≡ Some c → m ≡ mask_of I.size (I.class c) → m ≡ mask_of I.size (qualifies I q)
   filler_class q c m e h = h ∙ ap (λ (k : Qualifier). mask_of I.size (qualifies I k)) (sym e)
 
   module _ (a : Atom) (r : Role) (code m : ℕ) (ec : code ≡ role_code r) (N : NamesRoles roles a) where

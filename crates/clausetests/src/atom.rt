@@ -45,8 +45,8 @@ fn filler(text: &[u8], store: &[u8], q: Qualifier, size: u32) -> u64
     ensures { (I : Interpretation) (roles : ℕ) (v : List ℕ) → Given I roles size text.now (words store.now) v → result ≡ mask_of I.size (qualifies I q) }
 {
     match q {
-        Qualifier::Unqualified => sets::whole(size as u64),
-        Qualifier::Qualified(c) => class::class_set(text, store, c, size),
+        None => sets::whole(size as u64),
+        Some(c) => class::class_set(text, store, c, size),
     }
 }
 

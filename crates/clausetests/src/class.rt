@@ -47,6 +47,7 @@ fn scan_lines(text: &[u8], from: usize, c: u32, size: u32) -> u64
     ensures { result ≡ set_of size (scan_by (suc (length (drop from text.now))) (drop from text.now) c) }
 {
     let mut p = from;
+    // a line says how long it is, so no range gives the lines
     while p < text.len() {
         let n = text::fields(text, p);
         if n == 0 {

@@ -18,7 +18,6 @@ use crate::vars::Vars;
 use crate::{atom, vars};
 use ir::atom::Atom;
 use ir::record;
-use ir::record::Read;
 use sets::kept;
 use sets::places::{PAIRS, VARS};
 
@@ -182,7 +181,7 @@ fn narrow_at(
     ensures tables { (I : Interpretation) (roles : ℕ) (vs : List ℕ) (l : List Atom) (one : ℕ → ℕ → Bool) (two : ℕ → ℕ → ℕ → ℕ → Bool) → Run run.now l → Meant I roles vs size l v text.now (words store.now) (words scratch.old) → Tables size v.n one two (words scratch.old) → Tables size v.n (one_with I vs head (get_or l i no_atom) one) (two_with I vs head (get_or l i no_atom) two) (words scratch.new) }
     ensures changed { Changed (2 * vars_at) shown_at (words scratch.old) (words scratch.new) }
 {
-    let Read::Atom(a) = record::get_atom(run, i) else {
+    let Some(a) = record::get_atom(run, i) else {
         return;
     };
     narrow_atom(text, store, scratch, a, v, head, size);

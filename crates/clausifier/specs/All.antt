@@ -2,8 +2,8 @@
 use Rattle.std.specs.Prelude.{◌≡◌, List, ℕ}
 use Prim.{Unit}
 use Rattle.ir.specs.declared.counters.Counters.{Counters}
-use Rattle.ir.specs.declared.answer.Lined.{Lined as CodeLined}
-use Rattle.ir.specs.declared.answer.Lined.TheVariants.{Finished, Stopped}
+use Rattle.ir.specs.Lined.{Lined as CodeLined}
+use Rattle.ir.specs.Lined.{Finished, Stopped}
 use Rattle.rules.specs.State.{Rooms, Env, Out}
 use Rattle.rules.specs.Axioms.{Clausifier}
 use Rattle.rules.specs.Run.{Lined, done, stopped, clausify_axioms}

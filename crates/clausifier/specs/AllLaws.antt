@@ -6,9 +6,9 @@ use Prim.{Unit, tt}
 use Rattle.words.specs.Words.{words}
 use Rattle.ir.specs.Counts.{at_line}
 use Rattle.ir.specs.declared.counters.Counters.{Counters}
-use Rattle.ir.specs.declared.answer.Answer.{Answer}
-use Rattle.ir.specs.declared.answer.Answer.TheVariants.{Done, Refused}
-use Rattle.ir.specs.declared.answer.Lined.TheVariants.{Finished, Stopped}
+use Rattle.ir.specs.Answer.{Answer}
+use Rattle.ir.specs.Answer.{Done, Refused}
+use Rattle.ir.specs.Lined.{Finished, Stopped}
 use Rattle.rules.specs.Base.{Res, ok, refused}
 use Rattle.rules.specs.State.{Env, Out, Rooms}
 use Rattle.rules.specs.Axioms.{Clausifier, clausify_whole}

@@ -8,7 +8,7 @@ use Prim.{Unit}
 use Rattle.ir.specs.Pick.{pick}
 use Rattle.ir.specs.Roles.{role_of}
 use Rattle.ir.specs.declared.counters.Counters.{Counters}
-use Rattle.ir.specs.declared.answer.Answer.{Answer}
+use Rattle.ir.specs.Answer.{Answer}
 use Rattle.ir.specs.declared.atom.Atom.{Atom}
 use Rattle.rules.specs.Base.{Res, for_each}
 use Rattle.rules.specs.Concept.{Axiom, SubClassOf, EquivalentClasses, DisjointClasses, DisjointUnion, ObjectPropertyDomain, ObjectPropertyRange}

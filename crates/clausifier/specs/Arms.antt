@@ -1,7 +1,7 @@
 -- Axioms whose numbers name concepts, classes and roles of their deck, and what is promised of one.
 use Rattle.std.specs.Prelude.{◌≡◌, true, List, ℕ, ◌<◌, ◌≤◌}
 use Rattle.ir.specs.declared.counters.Counters.{Counters}
-use Rattle.ir.specs.declared.answer.Answer.{Answer}
+use Rattle.ir.specs.Answer.{Answer}
 use Rattle.rules.specs.Concept.{Axiom}
 use Rattle.rules.specs.Axioms.{clausify_axiom}
 use Rattle.rules.specs.Handed.{names_limits}

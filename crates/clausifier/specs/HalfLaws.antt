@@ -3,8 +3,8 @@ use Rattle.std.specs.Prelude.{◌≡◌, List, ℕ, ◌<◌, length, drop}
 use Rattle.std.proofs.Common.{◌∙◌, le_refl, arith}
 use Rattle.words.specs.Words.{words}
 use Rattle.ir.specs.declared.counters.Counters.{Counters}
-use Rattle.ir.specs.declared.answer.Answer.{Answer}
-use Rattle.ir.specs.declared.answer.Answer.TheVariants.{Done, Refused}
+use Rattle.ir.specs.Answer.{Answer}
+use Rattle.ir.specs.Answer.{Done, Refused}
 use Rattle.rules.specs.Concept.{Atomic}
 use Rattle.rules.specs.Pool.{intern_raw}
 use Rattle.rules.specs.Normalize.{N, in_pool}

@@ -1,7 +1,7 @@
 -- An axiom with the limits that it names (option 4): what the code asks, and what it did.
 use Rattle.std.specs.Prelude.{◌≡◌}
 use Rattle.ir.specs.declared.counters.Counters.{Counters}
-use Rattle.ir.specs.declared.answer.Answer.{Answer}
+use Rattle.ir.specs.Answer.{Answer}
 use Rattle.rules.specs.Concept.{Axiom}
 use Rattle.rules.specs.State.{Env, Out}
 use Rattle.rules.specs.Axioms.{clausify_whole}

@@ -9,8 +9,8 @@ use Rattle.words.specs.Laws.{length_words}
 use Rattle.ir.specs.Options.{equal_names}
 use Rattle.ir.specs.Scratch.{stack_at, limits_at}
 use Rattle.ir.specs.declared.counters.Counters.{Counters}
-use Rattle.ir.specs.declared.answer.Answer.{Answer}
-use Rattle.ir.specs.declared.answer.Answer.TheVariants.{Done, Refused}
+use Rattle.ir.specs.Answer.{Answer}
+use Rattle.ir.specs.Answer.{Done, Refused}
 use Rattle.rules.specs.Base.{Res, ok, refused, then}
 use Rattle.rules.specs.Concept.{Axiom}
 use Rattle.rules.specs.Pool.{Pool}

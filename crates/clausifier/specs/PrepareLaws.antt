@@ -6,8 +6,8 @@ use Rattle.ir.specs.Scratch.{keys_at, roles_at, alternatives_at, axioms_at, numb
 use Rattle.ir.specs.Counts.{at_line}
 use Rattle.ir.specs.Options.{card_disjunct_atoms, equal_names}
 use Rattle.ir.specs.declared.counters.Counters.{Counters}
-use Rattle.ir.specs.declared.answer.Lined.{Lined as CodeLined}
-use Rattle.ir.specs.declared.answer.Lined.TheVariants.{Finished, Stopped}
+use Rattle.ir.specs.Lined.{Lined as CodeLined}
+use Rattle.ir.specs.Lined.{Finished, Stopped}
 use Rattle.rules.specs.Base.{contains}
 use Rattle.rules.specs.Concept.{Axiom}
 use Rattle.rules.specs.Pool.{Pool}

@@ -6,8 +6,8 @@ use Prim.{Unit, tt}
 use Rattle.ir.specs.Roles.{role_of}
 use Rattle.ir.specs.declared.role.Role.{Role}
 use Rattle.ir.specs.declared.counters.Counters.{Counters}
-use Rattle.ir.specs.declared.answer.Answer.{Answer}
-use Rattle.ir.specs.declared.answer.Answer.TheVariants.{Done}
+use Rattle.ir.specs.Answer.{Answer}
+use Rattle.ir.specs.Answer.{Done}
 use Rattle.ir.specs.declared.deferral.Deferral.TheVariants.{RoleChainLenNe2}
 use Rattle.rules.specs.Base.{ok, return, for_each}
 use Rattle.rules.specs.Concept.{Axiom, SubChain, TransitiveRole, IrreflexiveRole, AsymmetricRole, DisjointObjectProperties}

@@ -8,8 +8,8 @@ use Rattle.std.proofs.Math.ListN.{length, length-append}
 use Rattle.words.specs.Words.{words}
 use Rattle.ir.specs.Scratch.{limits_at}
 use Rattle.ir.specs.declared.counters.Counters.{Counters}
-use Rattle.ir.specs.declared.answer.Answer.{Answer}
-use Rattle.ir.specs.declared.answer.Answer.TheVariants.{Done, Refused}
+use Rattle.ir.specs.Answer.{Answer}
+use Rattle.ir.specs.Answer.{Done, Refused}
 use Rattle.rules.specs.Base.{Res, ok, refused, then}
 use Rattle.rules.specs.State.{Limit, Rooms, Env, Out, with_limits}
 use Rattle.rules.specs.Axioms.{Clausifier, C, other_half, settle}

@@ -2,7 +2,7 @@
 use Rattle.std.specs.Prelude.{◌≡◌, List, ◌++◌, ℕ, ◌-◌, ◌≤◌, length}
 use Rattle.words.specs.Words.{words}
 use Rattle.ir.specs.declared.counters.Counters.{Counters}
-use Rattle.ir.specs.declared.answer.Answer.{Answer}
+use Rattle.ir.specs.Answer.{Answer}
 use Rattle.rules.specs.State.{Limit, Env, Out}
 use Rattle.rules.specs.Axioms.{Clausifier, settle}
 use Rattle.rules.specs.Invariants.{Bounds}

@@ -8,45 +8,31 @@ pub mod whole;
 
 ghost use Rattle.std.specs.Prelude.{◌+◌, ◌≤◌, length};
 ghost use Rattle.words.specs.Words.{words};
-ghost use Rattle.tables.specs.Drawn.{Sized};
-ghost use Rattle.hands.specs.Hands.{four};
+ghost use Rattle.hands.specs.Hands.{four_of};
 ghost use Rattle.axioms.specs.Wholes.{Clausifying};
 ghost use Rattle.clausifier.specs.Arms.{AxiomsOf};
 ghost use Rattle.clausifier.specs.All.{ReadyForAll, ClausifiedAll, ClausifyingLined};
+ghost use Rattle.ir.specs.Lined.{lined};
+ghost use Rattle.tables.specs.Lending.{SameReferences};
 
-use ir::answer::{Answer, Lined};
-use ir::counters::Counters;
+use tables::lent::Tables;
+use ir::answer::Refused;
 
 // The first axiom is on line `line`.
-pub fn clausify_axioms(
-    scratch: &mut [u8],
-    clauses: &mut [u8],
-    atoms: &mut [u8],
-    deferrals: &mut [u8],
-    k: Counters,
-    n: u32,
-    line: u32,
-) -> Lined
-    requires { Clausifying scratch.old k × AxiomsOf (words scratch.old) k n × ReadyForAll n k (four (words scratch.old) (words clauses.old) (words atoms.old) (words deferrals.old)) × (line ≤ 65536) × Sized (length clauses.old) (length atoms.old) (length deferrals.old) }
-    ensures fact { let old = four (words scratch.old) (words clauses.old) (words atoms.old) (words deferrals.old) in
-        let new = four (words scratch.new) (words clauses.new) (words atoms.new) (words deferrals.new) in
-        ClausifiedAll n line k old new result }
-    ensures clausifying_lined { ClausifyingLined scratch.new result }
+pub fn clausify_axioms(lent: &mut Tables<'_>, scratch: &mut [u8], n: u32, line: u32) -> Result<(), Refused>
+    requires { Clausifying scratch.old lent.old.counters × AxiomsOf (words scratch.old) lent.old.counters n × ReadyForAll n lent.old.counters (four_of (words scratch.old) lent.old) × (line ≤ 65536) }
+    ensures references { SameReferences lent.old lent.new }
+    ensures fact { let old = four_of (words scratch.old) lent.old in
+        let new = four_of (words scratch.new) lent.new in
+        ClausifiedAll n line lent.old.counters old new (lined lent.new.counters result) }
+    ensures clausifying_lined { ClausifyingLined scratch.new (lined lent.new.counters result) }
 {
-    let mut l = k;
-    let mut i: u32 = 0;
-    while i < n {
+    for i in 0..n {
         let here = line + i;
-        let at = l.at_line(here);
-        match whole::clausify_whole(scratch, clauses, atoms, deferrals, at, i) {
-            Answer::Done(m, _) => {
-                l = m;
-            }
-            Answer::Refused(e) => {
-                return Lined::Stopped(e, here);
-            }
+        lent.counters.at_line(here);
+        if let Err(refusal) = whole::clausify_whole(lent, scratch, i) {
+            return Err(Refused { refusal, line: here });
         }
-        i += 1;
     }
-    Lined::Finished(l)
+    Ok(())
 }

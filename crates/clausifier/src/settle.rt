@@ -3,71 +3,50 @@ ghost use Rattle.std.specs.Prelude.{◌<◌, length};
 ghost use Rattle.words.specs.Words.{words};
 ghost use Rattle.rules.specs.State.{Env};
 ghost use Rattle.rules.specs.Axioms.{C, other_half};
-ghost use Rattle.tables.specs.Drawn.{Sized};
 ghost use Rattle.tables.specs.Good.{most_names};
-ghost use Rattle.hands.specs.Hands.{four};
+ghost use Rattle.hands.specs.Hands.{four_of};
 ghost use Rattle.axioms.specs.Wholes.{Clausifying, ClausifyingAfter, Clausified, Queued};
 ghost use Rattle.clausifier.specs.Settles.{limit_of, Unsettled, Settled};
+ghost use Rattle.ir.specs.Answer.{done};
+ghost use Rattle.tables.specs.Lending.{SameReferences};
 
+use tables::lent::Tables;
+use ir::refusal::Refusal;
 use inclusions::gci;
-use ir::answer::Answer;
-use ir::counters::Counters;
 use pool::make;
 
 // The name enters the pool, and the filler is below it.
-fn settle_one(
-    scratch: &mut [u8],
-    clauses: &mut [u8],
-    atoms: &mut [u8],
-    deferrals: &mut [u8],
-    k: Counters,
-    filler: u32,
-    name: u32,
-) -> Answer
-    requires { Clausifying scratch.old k × (filler < k.concepts) × (name < most_names) × Sized (length clauses.old) (length atoms.old) (length deferrals.old) }
-    ensures clausified { let old = four (words scratch.old) (words clauses.old) (words atoms.old) (words deferrals.old) in
-        let new = four (words scratch.new) (words clauses.new) (words atoms.new) (words deferrals.new) in
+fn settle_one(lent: &mut Tables<'_>, scratch: &mut [u8], filler: u32, name: u32) -> Result<(), Refusal>
+    requires { Clausifying scratch.old lent.old.counters × (filler < lent.old.counters.concepts) × (name < most_names) }
+    ensures references { SameReferences lent.old lent.new }
+    ensures clausified { let old = four_of (words scratch.old) lent.old in
+        let new = four_of (words scratch.new) lent.new in
         let rule : Env → C (Unit {0}) = λ env. other_half env (limit_of filler name) in
-        Clausified rule k old new result × Queued rule k old new }
-    ensures clausifying_after { ClausifyingAfter scratch.new result }
+        Clausified rule lent.old.counters old new (done lent.new.counters result) × Queued rule lent.old.counters old new }
+    ensures clausifying_after { ClausifyingAfter scratch.new (done lent.new.counters result) }
 {
-    match make::mk_atomic(scratch, k, name) {
-        Answer::Done(l, a) => {
-            antecedents::number_alternatives(scratch, l, k.concepts);
-            gci::clausify_gci(scratch, clauses, atoms, deferrals, l, filler, a)
-        }
-        Answer::Refused(e) => Answer::Refused(e),
-    }
+    let first = lent.counters.concepts;
+    let a = make::mk_atomic(scratch, &mut lent.counters, name)?;
+    antecedents::number_alternatives(scratch, lent.counters, first);
+    gci::clausify_gci(lent, scratch, filler, a)
 }
 
 // All that wait, in order of naming, with those that are named on the way.
-pub fn settle(
-    scratch: &mut [u8],
-    clauses: &mut [u8],
-    atoms: &mut [u8],
-    deferrals: &mut [u8],
-    k: Counters,
-) -> Answer
-    requires { Clausifying scratch.old k × Unsettled k (four (words scratch.old) (words clauses.old) (words atoms.old) (words deferrals.old)) × Sized (length clauses.old) (length atoms.old) (length deferrals.old) }
-    ensures fact { let old = four (words scratch.old) (words clauses.old) (words atoms.old) (words deferrals.old) in
-        let new = four (words scratch.new) (words clauses.new) (words atoms.new) (words deferrals.new) in
-        Settled k old new result }
-    ensures clausifying_after { ClausifyingAfter scratch.new result }
+pub fn settle(lent: &mut Tables<'_>, scratch: &mut [u8]) -> Result<(), Refusal>
+    requires { Clausifying scratch.old lent.old.counters × Unsettled lent.old.counters (four_of (words scratch.old) lent.old) }
+    ensures references { SameReferences lent.old lent.new }
+    ensures fact { let old = four_of (words scratch.old) lent.old in
+        let new = four_of (words scratch.new) lent.new in
+        Settled lent.old.counters old new (done lent.new.counters result) }
+    ensures clausifying_after { ClausifyingAfter scratch.new (done lent.new.counters result) }
 {
-    let mut l = k;
+    // settling makes more wait: the count is read anew
     let mut i: u32 = 0;
     while i < waiting::count(scratch) {
         let filler = waiting::filler(scratch, i);
         let name = waiting::name(scratch, i);
-        match settle_one(scratch, clauses, atoms, deferrals, l, filler, name) {
-            Answer::Done(m, _) => {
-                l = m;
-            }
-            Answer::Refused(e) => {
-                return Answer::Refused(e);
-            }
-        }
+        settle_one(lent, scratch, filler, name)?;
         i += 1;
     }
-    Answer::Done(l, 0)
+    Ok(())
 }

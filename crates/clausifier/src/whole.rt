@@ -3,15 +3,17 @@ ghost use Rattle.std.specs.Prelude.{◌≡◌, true, ◌&&◌, length};
 ghost use Rattle.words.specs.Words.{words};
 ghost use Rattle.ir.specs.Options.{equal_names};
 ghost use Rattle.rules.specs.Handed.{names_limits};
-ghost use Rattle.tables.specs.Drawn.{Sized};
-ghost use Rattle.hands.specs.Hands.{four};
+ghost use Rattle.hands.specs.Hands.{four_of};
 ghost use Rattle.ontology.specs.Layout.{axiom_at};
 ghost use Rattle.axioms.specs.Wholes.{Clausifying, ClausifyingAfter};
 ghost use Rattle.clausifier.specs.Arms.{AxiomOf};
 ghost use Rattle.clausifier.specs.Limited.{ReadyFor, Limited};
+ghost use Rattle.ir.specs.Answer.{done};
+ghost use Rattle.tables.specs.Lending.{SameReferences};
 
+use tables::lent::Tables;
+use ir::refusal::Refusal;
 use crate::{axiom, settle};
-use ir::answer::Answer;
 use ir::counters::Counters;
 use ir::options;
 use ontology::axiom as numbers;
@@ -34,44 +36,30 @@ fn names_limits(scratch: &[u8], k: Counters, i: u32) -> bool
 }
 
 // Axiom i, which may.
-fn clausify_limited(
-    scratch: &mut [u8],
-    clauses: &mut [u8],
-    atoms: &mut [u8],
-    deferrals: &mut [u8],
-    k: Counters,
-    i: u32,
-) -> Answer
-    requires { Clausifying scratch.old k × AxiomOf (words scratch.old) k i × ReadyFor (axiom_at (words scratch.old) i) k (four (words scratch.old) (words clauses.old) (words atoms.old) (words deferrals.old)) × Sized (length clauses.old) (length atoms.old) (length deferrals.old) × (names_limits (axiom_at (words scratch.old) i) ≡ true) }
-    ensures fact { let old = four (words scratch.old) (words clauses.old) (words atoms.old) (words deferrals.old) in
-        let new = four (words scratch.new) (words clauses.new) (words atoms.new) (words deferrals.new) in
-        Limited (axiom_at old.scratch i) k old new result }
-    ensures clausifying_after { ClausifyingAfter scratch.new result }
+fn clausify_limited(lent: &mut Tables<'_>, scratch: &mut [u8], i: u32) -> Result<(), Refusal>
+    requires { Clausifying scratch.old lent.old.counters × AxiomOf (words scratch.old) lent.old.counters i × ReadyFor (axiom_at (words scratch.old) i) lent.old.counters (four_of (words scratch.old) lent.old) × (names_limits (axiom_at (words scratch.old) i) ≡ true) }
+    ensures references { SameReferences lent.old lent.new }
+    ensures fact { let old = four_of (words scratch.old) lent.old in
+        let new = four_of (words scratch.new) lent.new in
+        Limited (axiom_at old.scratch i) lent.old.counters old new (done lent.new.counters result) }
+    ensures clausifying_after { ClausifyingAfter scratch.new (done lent.new.counters result) }
 {
     waiting::reset(scratch);
-    match axiom::clausify_axiom(scratch, clauses, atoms, deferrals, k, i) {
-        Answer::Done(l, _) => settle::settle(scratch, clauses, atoms, deferrals, l),
-        Answer::Refused(e) => Answer::Refused(e),
-    }
+    axiom::clausify_axiom(lent, scratch, i)?;
+    settle::settle(lent, scratch)
 }
 
 // Axiom i.
-pub fn clausify_whole(
-    scratch: &mut [u8],
-    clauses: &mut [u8],
-    atoms: &mut [u8],
-    deferrals: &mut [u8],
-    k: Counters,
-    i: u32,
-) -> Answer
-    requires { Clausifying scratch.old k × AxiomOf (words scratch.old) k i × ReadyFor (axiom_at (words scratch.old) i) k (four (words scratch.old) (words clauses.old) (words atoms.old) (words deferrals.old)) × Sized (length clauses.old) (length atoms.old) (length deferrals.old) }
-    ensures fact { let old = four (words scratch.old) (words clauses.old) (words atoms.old) (words deferrals.old) in
-        let new = four (words scratch.new) (words clauses.new) (words atoms.new) (words deferrals.new) in
-        Limited (axiom_at old.scratch i) k old new result }
-    ensures clausifying_after { ClausifyingAfter scratch.new result }
+pub fn clausify_whole(lent: &mut Tables<'_>, scratch: &mut [u8], i: u32) -> Result<(), Refusal>
+    requires { Clausifying scratch.old lent.old.counters × AxiomOf (words scratch.old) lent.old.counters i × ReadyFor (axiom_at (words scratch.old) i) lent.old.counters (four_of (words scratch.old) lent.old) }
+    ensures references { SameReferences lent.old lent.new }
+    ensures fact { let old = four_of (words scratch.old) lent.old in
+        let new = four_of (words scratch.new) lent.new in
+        Limited (axiom_at old.scratch i) lent.old.counters old new (done lent.new.counters result) }
+    ensures clausifying_after { ClausifyingAfter scratch.new (done lent.new.counters result) }
 {
-    if names_limits(scratch, k, i) {
-        return clausify_limited(scratch, clauses, atoms, deferrals, k, i);
+    if names_limits(scratch, lent.counters, i) {
+        return clausify_limited(lent, scratch, i);
     }
-    axiom::clausify_axiom(scratch, clauses, atoms, deferrals, k, i)
+    axiom::clausify_axiom(lent, scratch, i)
 }

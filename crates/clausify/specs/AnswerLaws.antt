@@ -1,8 +1,10 @@
 -- The run between cleared tables: its answer is the outcome's reply and tables. Assumes nothing.
-use Rattle.std.specs.Prelude.{◌≡◌, refl, true, false, List, ℕ, ◌*◌, ◌-◌, length, replicate}
+use Rattle.std.specs.Prelude.{◌≡◌, refl, true, false, List, ℕ, ◌*◌, ◌-◌, length, replicate, Result, Ok, Err}
 use Rattle.std.proofs.Common.{sym, ap, subst, ◌∙◌}
 use Rattle.words.specs.Words.{words}
 use Rattle.words.specs.Laws.{Bytes}
+use Rattle.ir.specs.Refusals.{refusal_number}
+use Rattle.ir.specs.declared.answer.Refused.{Refused}
 use Rattle.ir.specs.declared.counters.Counters.{Counters}
 use Rattle.rules.specs.State.{Rooms}
 use Rattle.rules.specs.Stats as Rules
@@ -11,7 +13,6 @@ use Rattle.rules.specs.Run.{Lengths, Outcome, Accepted, accepted, refused, sizes
 use Rattle.statistics.specs.declared.ClauseStats.{ClauseStats}
 use Rattle.statistics.specs.Counted.{stats_of}
 use Rattle.run.specs.declared.Ran.{Ran}
-use Rattle.run.specs.declared.Ran.TheVariants as Rans
 use Rattle.clausify.specs.declared.Reply.{Reply}
 use Rattle.clausify.specs.declared.Reply.TheVariants as Replies
 use Rattle.run.specs.Ran.{Left, RanAs}
@@ -32,19 +33,19 @@ module _ (rooms : Rooms) (c a d : List ℕ) where
     pub is : o ≡ accepted run
     pub left : Left rooms run k first m c a d
 
-  kept : (o : Outcome) (k : Counters) (first m : ℕ) → RanAs rooms o c a d (Rans.Accepted k first m) → Kept o k first m
-  kept (accepted x) k first m h = record { run = x; is = refl; left = h }
-  kept (refused n line) k first m h = absurd h
+  kept : (o : Outcome) (r : Ran) → RanAs rooms o c a d (Ok r) → Kept o r.counters r.first r.decomposed
+  kept (accepted x) r h = record { run = x; is = refl; left = h }
+  kept (refused n line) r h = absurd h
 
-  stopped : (o : Outcome) (n line : ℕ) → RanAs rooms o c a d (Rans.Refused n line) → o ≡ refused n line
-  stopped (accepted x) n line h = absurd h
-  stopped (refused m at) n line h = rw (h.0, h.1) refl
+  stopped : (o : Outcome) (e : Refused) → RanAs rooms o c a d (Err e) → o ≡ refused (refusal_number e.refusal) e.line
+  stopped (accepted x) e h = absurd h
+  stopped (refused m at) e h = rw (h.0, h.1) refl
 
-  pub ran_kept : (o : Outcome) (r : Ran) (k : Counters) (first m : ℕ) → RanAs rooms o c a d r → r ≡ Rans.Accepted k first m → Kept o k first m
-  ran_kept o r k first m h e = kept o k first m (subst (RanAs rooms o c a d) e h)
+  pub ran_kept : (o : Outcome) (x : Result Ran Refused) (r : Ran) → RanAs rooms o c a d x → x ≡ Ok r → Kept o r.counters r.first r.decomposed
+  ran_kept o x r h q = kept o r (subst (RanAs rooms o c a d) q h)
 
-  pub ran_stopped : (o : Outcome) (r : Ran) (n line : ℕ) → RanAs rooms o c a d r → r ≡ Rans.Refused n line → o ≡ refused n line
-  ran_stopped o r n line h e = stopped o n line (subst (RanAs rooms o c a d) e h)
+  pub ran_stopped : (o : Outcome) (x : Result Ran Refused) (e : Refused) → RanAs rooms o c a d x → x ≡ Err e → o ≡ refused (refusal_number e.refusal) e.line
+  ran_stopped o x e h q = stopped o e (subst (RanAs rooms o c a d) q h)
 
 -- ---- the whole answer
 run_sized_lem : (deck : List ℕ) (t : Lengths) → sizes_ok t ≡ true → Run deck t ≡ run_read visit_limit (rooms_of t) (read_deck deck)
@@ -71,22 +72,22 @@ pub answered_unsized : (deck : List ℕ) (t : Lengths) (c a d : List ℕ) → fa
     → Answered (Run deck t) t (Replies.Refused 1 0) c a d
 answered_unsized deck t c a d e x y z = answered_refused (Run deck t) t 1 0 c a d (run_unsized deck t (sym e)) x y z
 
-module _ (deck : List ℕ) (t : Lengths) (fits : sizes_ok t ≡ true) (r : Ran) where
+module _ (deck : List ℕ) (t : Lengths) (fits : sizes_ok t ≡ true) (r : Result Ran Refused) where
   abbrev Ending : List ℕ → List ℕ → List ℕ → Type 0
   Ending c a d = RanAs (rooms_of t) (run_read visit_limit (rooms_of t) (read_deck deck)) (words c) (words a) (words d) r
 
-  pub answered_stopped : (n line : ℕ) (c a d c' a' d' : List ℕ) → Ending c a d → r ≡ Rans.Refused n line → c' ≡ replicate t.clauses 0 → a' ≡ replicate t.atoms 0 → d' ≡ replicate t.deferrals 0
-      → Answered (Run deck t) t (Replies.Refused n line) c' a' d'
-  answered_stopped n line c a d c' a' d' h e x y z =
-      answered_refused (Run deck t) t n line c' a' d' (run_sized_lem deck t fits ∙ ran_stopped (rooms_of t) (words c) (words a) (words d) (run_read visit_limit (rooms_of t) (read_deck deck)) r n line h e) x y z
+  pub answered_stopped : (e : Refused) (c a d c' a' d' : List ℕ) → Ending c a d → r ≡ Err e → c' ≡ replicate t.clauses 0 → a' ≡ replicate t.atoms 0 → d' ≡ replicate t.deferrals 0
+      → Answered (Run deck t) t (Replies.Refused (refusal_number e.refusal) e.line) c' a' d'
+  answered_stopped e c a d c' a' d' h q x y z =
+      answered_refused (Run deck t) t (refusal_number e.refusal) e.line c' a' d' (run_sized_lem deck t fits ∙ ran_stopped (rooms_of t) (words c) (words a) (words d) (run_read visit_limit (rooms_of t) (read_deck deck)) r e h q) x y z
 
   -- the tables' bytes, from their words
-  pub answered_kept : (k : Counters) (first m : ℕ) (c a d : List ℕ) (reply : Reply) → Ending c a d → r ≡ Rans.Accepted k first m
+  pub answered_kept : (ran : Ran) (c a d : List ℕ) (reply : Reply) → Ending c a d → r ≡ Ok ran
       → length c ≡ t.clauses → length a ≡ t.atoms → length d ≡ t.deferrals → Bytes c → Bytes a → Bytes d
-      → ((rooms : Rooms) (x : Accepted) (w : List ℕ) → Left rooms x k first m (words c) (words a) w → reply ≡ reply_of (accepted x)) → Answered (Run deck t) t reply c a d
-  answered_kept k first m c a d reply h e lc la ld bc ba bd f =
+      → ((rooms : Rooms) (x : Accepted) (w : List ℕ) → Left rooms x ran.counters ran.first ran.decomposed (words c) (words a) w → reply ≡ reply_of (accepted x)) → Answered (Run deck t) t reply c a d
+  answered_kept ran c a d reply h e lc la ld bc ba bd f =
       let o = run_read visit_limit (rooms_of t) (read_deck deck) in
-      let K = ran_kept (rooms_of t) (words c) (words a) (words d) o r k first m h e in
+      let K = ran_kept (rooms_of t) (words c) (words a) (words d) o r ran h e in
       let W = sizes_whole t fits in
       let L = K.left in
       let x = K.run in

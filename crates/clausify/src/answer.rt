@@ -9,7 +9,6 @@ ghost use Rattle.clausify.specs.Entry.{lent, reply_of};
 ghost use Rattle.clausify.specs.Answer.{LeftThere, Zeros, Answered};
 
 use crate::Reply;
-use ir::counters::Counters;
 use run;
 use run::Ran;
 use statistics;
@@ -29,12 +28,13 @@ pub fn blank(clauses: &mut [u8], atoms: &mut [u8], deferrals: &mut [u8])
 }
 
 // The reply of a run that left these tables.
-fn accepted(clauses: &[u8], atoms: &[u8], k: Counters, first: u32, decomposed: u32) -> Reply
-    requires { LeftThere (words clauses.now) (words atoms.now) k first decomposed × Sized (length clauses.now) (length atoms.now) 0 }
-    ensures { (rooms : Rooms) (x : Accepted) (d : List ℕ) → Left rooms x k first decomposed (words clauses.now) (words atoms.now) d → result ≡ reply_of (accepted_run x) }
+fn accepted(clauses: &[u8], atoms: &[u8], r: Ran) -> Reply
+    requires { LeftThere (words clauses.now) (words atoms.now) r.counters r.first r.decomposed × Sized (length clauses.now) (length atoms.now) 0 }
+    ensures { (rooms : Rooms) (x : Accepted) (d : List ℕ) → Left rooms x r.counters r.first r.decomposed (words clauses.now) (words atoms.now) d → result ≡ reply_of (accepted_run x) }
 {
-    let stats = statistics::clause_stats(clauses, atoms, k.clauses, k.deferrals, decomposed);
-    Reply::Accepted(stats, k.next_class - first, k.visits)
+    let k = r.counters;
+    let stats = statistics::clause_stats(clauses, atoms, k.clauses, k.deferrals, r.decomposed);
+    Reply::Accepted(stats, k.next_class - r.first, k.visits)
 }
 
 // The run in tables of zeros; a refusal leaves zeros.
@@ -49,10 +49,10 @@ fn settled(
     ensures { Answered (Run deck.now (lent clauses.old atoms.old deferrals.old scratch.old)) (lent clauses.old atoms.old deferrals.old scratch.old) result clauses.new atoms.new deferrals.new }
 {
     match run::run(deck, scratch, clauses, atoms, deferrals, VISITS) {
-        Ran::Accepted(k, first, decomposed) => accepted(clauses, atoms, k, first, decomposed),
-        Ran::Refused(n, line) => {
+        Ok(r) => accepted(clauses, atoms, r),
+        Err(e) => {
             blank(clauses, atoms, deferrals);
-            Reply::Refused(n, line)
+            Reply::Refused(e.refusal.number(), e.line)
         }
     }
 }

@@ -14,8 +14,8 @@ use Rattle.ir.specs.Scratch.{hands_at}
 use Rattle.ir.specs.declared.role.Role.{Role}
 use Rattle.ir.specs.declared.atom.Atom.{Atom}
 use Rattle.ir.specs.declared.atom.Atom.TheVariants.{Class, Exists, AtMost, AtLeast, Equal, Role as RoleAtom}
-use Rattle.ir.specs.declared.record.Read.{Read}
-use Rattle.ir.specs.declared.record.Read.TheVariants.{NoAtom, Atom as ReadAtom}
+use Rattle.ir.specs.Records.{Read}
+use Rattle.std.specs.Prelude.{None, Some}
 use Rattle.rules.specs.Run.{flat}
 use Rattle.rules.specs.DecodeLaws.{flat_long}
 use Rattle.rules.specs.Reflexive.{substituted, kept_var, dropped_var, contracted}
@@ -37,17 +37,17 @@ fits_substituted (Equal u v) f h = h
 
 -- an atom, as it was read
 module _ (w : List ℕ) (i : ℕ) (A : AtomThere w i) (r : Read) (e : r ≡ atom_at w i) where
-  pub read_fits : (y : Atom) → r ≡ ReadAtom y → Fits y
+  pub read_fits : (y : Atom) → r ≡ Some y → Fits y
   read_fits y f =
-      let g : ReadAtom A.atom ≡ ReadAtom y = sym (read_is w i A.atom A.there) ∙ sym e ∙ f in
+      let g : Some A.atom ≡ Some y = sym (read_is w i A.atom A.there) ∙ sym e ∙ f in
       let q : A.atom ≡ y = cc in
       subst Fits q A.plain.fits
 
-  pub read_none : r ≡ NoAtom → ⊥
-  read_none f = let g : ReadAtom A.atom ≡ NoAtom = sym (read_is w i A.atom A.there) ∙ sym e ∙ f in let z : ◌≡◌ {A = ℕ} 0 1 = cc in omega arith
+  pub read_none : r ≡ None → ⊥
+  read_none f = let g : Some A.atom ≡ None = sym (read_is w i A.atom A.there) ∙ sym e ∙ f in let z : ◌≡◌ {A = ℕ} 0 1 = cc in omega arith
 
-  pub read_same : (x y : Atom) → At w (6 * i) (six x) → r ≡ ReadAtom y → y ≡ x
-  read_same x y h f = let g : ReadAtom x ≡ ReadAtom y = sym (read_is w i x h) ∙ sym e ∙ f in cc
+  pub read_same : (x y : Atom) → At w (6 * i) (six x) → r ≡ Some y → y ≡ x
+  read_same x y h f = let g : Some x ≡ Some y = sym (read_is w i x h) ∙ sym e ∙ f in cc
 
 -- ---- one run of atoms
 module _ (s : List ℕ) (to drop keep : ℕ) (w₀ : List ℕ) where

@@ -4,7 +4,7 @@ use Rattle.ir.specs.Records.{six, Fits}
 use Rattle.ir.specs.declared.atom.Atom.{Atom}
 use Rattle.rules.specs.Deck.{most_roles}
 use Rattle.rules.specs.Invariants.{Each}
-use Rattle.rules.specs.State.{Clause, clause}
+use Rattle.rules.specs.State.{Clause}
 use Rattle.hands.specs.Hands.{InHand}
 use Rattle.tables.specs.Tabled.{At, Run}
 

@@ -3,8 +3,8 @@ pub mod SameLaws
 pub mod PlainLaws
 pub mod PlacedLaws
 pub mod Sizes
-pub mod FlagWords
 pub mod Contracting
 pub mod ContractLaws
+pub mod FlagWords
 pub mod TrivialLaws
 pub mod Passes

@@ -3,8 +3,8 @@ use Rattle.std.specs.Prelude.{◌≡◌, List, ℕ, ◌<◌, ◌≤◌, ◌^◌,
 use Prim.{Unit}
 use Rattle.ir.specs.Scratch.{roles_at, alternatives_at}
 use Rattle.ir.specs.declared.counters.Counters.{Counters}
-use Rattle.ir.specs.declared.answer.Answer.{Answer}
-use Rattle.ir.specs.declared.answer.Answer.TheVariants.{Done, Refused}
+use Rattle.ir.specs.Answer.{Answer}
+use Rattle.ir.specs.Answer.{Done, Refused}
 use Rattle.rules.specs.Deck.{most_roles}
 use Rattle.rules.specs.State.{Clause, total, Env, Out, E}
 use Rattle.rules.specs.Invariants.{Each, Bounds, ClauseIn}

@@ -7,8 +7,8 @@ use Rattle.ir.specs.Roles.{role_id, role_code, code_below}
 use Rattle.ir.specs.declared.role.Role.{Role}
 use Rattle.ir.specs.declared.atom.Atom.{Atom}
 use Rattle.ir.specs.declared.atom.Atom.TheVariants.{Class, Exists, AtMost, AtLeast, Equal, Role as RoleAtom}
-use Rattle.ir.specs.declared.atom.Qualifier.{Qualifier}
-use Rattle.ir.specs.declared.atom.Qualifier.TheVariants.{Unqualified, Qualified}
+use Rattle.ir.specs.Qualifiers.{Qualifier}
+use Rattle.std.specs.Prelude.{None, Some}
 use Rattle.rules.specs.Deck.{most_roles}
 use Rattle.rules.specs.State.{Clause}
 use Rattle.rules.specs.Run.{flat}
@@ -25,8 +25,8 @@ module _ (B : Bounds) (fresh vars : ℕ) (roles : B.roles ≤ most_roles) (class
   code_small r h = code_below r most_roles (omega arith)
 
   qualifier_below : (q : Qualifier) → QualifierIn fresh q → qualifier_word q < 2 ^ 32
-  qualifier_below Unqualified h = omega arith
-  qualifier_below (Qualified k) h = omega arith
+  qualifier_below None h = omega arith
+  qualifier_below (Some k) h = omega arith
 
   pub plain_in : (x : Atom) → AtomIn B fresh vars x → Plain x
   plain_in (Class k v) h = record { fits = omega arith; role = omega arith }

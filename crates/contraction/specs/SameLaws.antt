@@ -1,7 +1,12 @@
 -- Runs of words compared word by word, and the atoms and clauses that they are. Assumes nothing.
-use Rattle.std.specs.Prelude.{◌≡◌, refl, Bool, true, false, ◌&&◌, ◌||◌, List, [], ◌∷◌, ◌++◌, ℕ, zero, suc, ◌+◌, ◌*◌, ◌-◌, ◌<◌, ◌≤◌, eqb, length, get_or, take, drop}
-use Rattle.std.proofs.Common.{ap, ap₂, ◌∙◌, add-one, arith, eq-eqb, ne_eqb, drop_of_length-le, drop-cons}
+use Rattle.std.specs.Prelude.{◌≡◌, refl, Bool, true, false, ◌&&◌, ◌||◌, List, [], ◌∷◌, ◌++◌, ℕ, zero, suc, ◌+◌, ◌*◌, ◌<◌, ◌≤◌, eqb, ltb, length, get_or, take, drop, bytes_eq}
+use Rattle.std.proofs.Common.{sym, ap, ap₂, ◌∙◌, add-one, arith, ltb-true, ltb-false, drop_of_length-le, drop-cons, get_or-take, get_or-drop, length-drop, length-take-le, Decides}
 use Rattle.std.proofs.Math.Bool.{and-false}
+use Rattle.std.proofs.Math.ListN.{length-take, get_or-eq_default}
+use Rattle.std.proofs.lemmas.Bool.Decides.{same_from_decides}
+use Rattle.std.proofs.lemmas.Slice.Eq.{bytes_eq-Decides, compares_Decides}
+use Rattle.words.specs.Words.{words}
+use Rattle.words.specs.Laws.{Bytes, words_take, words_drop, words_inj}
 use Rattle.ir.specs.Pick.{pick}
 use Rattle.ir.specs.Records.{six, same_words, same_atom}
 use Rattle.ir.specs.declared.atom.Atom.{Atom}
@@ -62,76 +67,39 @@ any_either p q (x ∷ l) = swap (p x) (any p l) (q x) (any q l) ∙ ap (λ (b : 
 abbrev pub same_runs : List ℕ → ℕ → List ℕ → ℕ → ℕ → Bool
 same_runs s i t j n = same_words (take n (drop i s)) (take n (drop j t))
 
--- a word, and then the others; the first m words, and then the others
-module _ (s t : List ℕ) where
-  pub runs_next : (i j n : ℕ) → i + suc n ≤ length s → j + suc n ≤ length t → same_runs s i t j (suc n) ≡ pick (eqb (get_or s i 0) (get_or t j 0)) (same_runs s (i + 1) t (j + 1) n) false
-  runs_next i j n fit_s fit_t = rw (drop-cons s i 0 (omega arith), drop-cons t j 0 (omega arith), add-one i, add-one j) refl
+-- bytes compared are words compared
+pub words_decide : (xs ys : List ℕ) → Decides (same_words xs ys) (xs ≡ ys)
+words_decide = compares_Decides same_words (record {
+  empty = refl;
+  shorter = λ y ys. refl;
+  longer = λ x xs. refl;
+  heads = λ x y xs ys. pick_and (eqb x y) (same_words xs ys);
+})
+  where
+    pick_and : (a b : Bool) → pick a b false ≡ (a && b)
+    pick_and true b = refl
+    pick_and false b = refl
 
-  pub runs_split : (m i j n : ℕ) → i + (m + n) ≤ length s → j + (m + n) ≤ length t → same_runs s i t j (m + n) ≡ pick (same_runs s i t j m) (same_runs s (i + m) t (j + m) n) false
-  runs_split zero i j n fit_s fit_t =
-      let x : i + 0 ≡ i = omega arith in
-      let y : j + 0 ≡ j = omega arith in
-      let z : 0 + n ≡ n = omega arith in
-      rw (x, y, z) refl
-  runs_split (suc m) i j n fit_s fit_t =
-      let x : i + suc m ≡ i + 1 + m = omega arith in
-      let y : j + suc m ≡ j + 1 + m = omega arith in
-      let z : suc m + n ≡ suc (m + n) = omega arith in
-      rw (x, y, z, runs_next i j (m + n) (omega arith) (omega arith), runs_next i j m (omega arith) (omega arith), runs_split m (i + 1) (j + 1) n (omega arith) (omega arith))
-      (nested (eqb (get_or s i 0) (get_or t j 0)) (same_runs s (i + 1) t (j + 1) m) (same_runs s (i + 1 + m) t (j + 1 + m) n))
-    where
-      nested : (a b c : Bool) → pick a (pick b c false) false ≡ pick (pick a b false) c false
-      nested true b c = refl
-      nested false b c = refl
+bytes_part : (s : List ℕ) (p n : ℕ) → Bytes s → Bytes (take n (drop p s))
+bytes_part s p n B k = by (ltb k n) refl
+  where
+    by : (b : Bool) → ltb k n ≡ b → get_or (take n (drop p s)) k 0 < 256
+    by true e = rw (get_or-take n (drop p s) k 0 (ltb-true k n e), get_or-drop p s k 0) (B (p + k))
+    by false e = rw (get_or-eq_default (take n (drop p s)) 0 {n = k} (omega (arith, ltb-false k n e, length-take n (drop p s)))) (omega arith)
 
-  -- the first word differs; word m
-  pub first_differs : (i j n : ℕ) → i + suc n ≤ length s → j + suc n ≤ length t → (get_or s i 0 ≡ get_or t j 0 → ⊥) → same_runs s i t j (suc n) ≡ false
-  first_differs i j n fit_s fit_t e = runs_next i j n fit_s fit_t ∙ rw (ne_eqb (get_or s i 0) (get_or t j 0) e) refl
-
-  pub word_differs : (m i j n : ℕ) → i + (m + suc n) ≤ length s → j + (m + suc n) ≤ length t → (get_or s (i + m) 0 ≡ get_or t (j + m) 0 → ⊥) → same_runs s i t j (m + suc n) ≡ false
-  word_differs m i j n fit_s fit_t e =
-      runs_split m i j (suc n) fit_s fit_t
-      ∙ rw (first_differs (i + m) (j + m) n (omega arith) (omega arith) e) (no (same_runs s i t j m))
-    where
-      no : (b : Bool) → pick b false false ≡ false
-      no true = refl
-      no false = refl
-
-  -- five words are the same: the sixth decides
-  pub sixth_word : (i j : ℕ) → i + 6 ≤ length s → j + 6 ≤ length t → get_or s i 0 ≡ get_or t j 0 → get_or s (i + 1) 0 ≡ get_or t (j + 1) 0 → get_or s (i + 2) 0 ≡ get_or t (j + 2) 0
-      → get_or s (i + 3) 0 ≡ get_or t (j + 3) 0 → get_or s (i + 4) 0 ≡ get_or t (j + 4) 0 → same_runs s i t j 6 ≡ eqb (get_or s (i + 5) 0) (get_or t (j + 5) 0)
-  sixth_word i j fit_s fit_t e₀ e₁ e₂ e₃ e₄ =
-      let on : (k l n : ℕ) → k + suc n ≤ length s → l + suc n ≤ length t → get_or s k 0 ≡ get_or t l 0 → same_runs s k t l (suc n) ≡ same_runs s (k + 1) t (l + 1) n =
-      λ k l n f g e. runs_next k l n f g ∙ rw (eq-eqb (get_or s k 0) (get_or t l 0) e) refl in
-      let a : (k : ℕ) → k + 1 + 1 ≡ k + 2 = λ k. omega arith in
-      let b : (k : ℕ) → k + 2 + 1 ≡ k + 3 = λ k. omega arith in
-      let c : (k : ℕ) → k + 3 + 1 ≡ k + 4 = λ k. omega arith in
-      let d : (k : ℕ) → k + 4 + 1 ≡ k + 5 = λ k. omega arith in
-      on i j 5 fit_s fit_t e₀
-      ∙ rw (a i, a j) at (on (i + 1) (j + 1) 4 (omega arith) (omega arith) e₁)
-      ∙ rw (b i, b j) at (on (i + 2) (j + 2) 3 (omega arith) (omega arith) e₂)
-      ∙ rw (c i, c j) at (on (i + 3) (j + 3) 2 (omega arith) (omega arith) e₃)
-      ∙ rw (d i, d j) at (on (i + 4) (j + 4) 1 (omega arith) (omega arith) e₄)
-      ∙ runs_next (i + 5) (j + 5) 0 (omega arith) (omega arith) ∙ last (eqb (get_or s (i + 5) 0) (get_or t (j + 5) 0))
-    where
-      last : (b : Bool) → pick b true false ≡ b
-      last true = refl
-      last false = refl
-
-  -- those from record m on, of n
-  module _ (i j n m : ℕ) (less : m < n) (fit_s : i + 6 * n ≤ length s) (fit_t : j + 6 * n ≤ length t) where
-    step : same_runs s (i + 6 * m) t (j + 6 * m) (6 * n - 6 * m) ≡ pick (same_runs s (i + 6 * m) t (j + 6 * m) 6) (same_runs s (i + 6 * (m + 1)) t (j + 6 * (m + 1)) (6 * n - 6 * (m + 1))) false
-    step =
-        let x : 6 * n - 6 * m ≡ 6 + (6 * n - 6 * (m + 1)) = omega arith in
-        let y : i + 6 * (m + 1) ≡ i + 6 * m + 6 = omega arith in
-        let z : j + 6 * (m + 1) ≡ j + 6 * m + 6 = omega arith in
-        rw (x, y, z) (runs_split 6 (i + 6 * m) (j + 6 * m) (6 * n - 6 * (m + 1)) (omega arith) (omega arith))
-
-    pub runs_on : same_runs s (i + 6 * m) t (j + 6 * m) 6 ≡ true → same_runs s (i + 6 * m) t (j + 6 * m) (6 * n - 6 * m) ≡ same_runs s (i + 6 * (m + 1)) t (j + 6 * (m + 1)) (6 * n - 6 * (m + 1))
-    runs_on e = step ∙ rw e refl
-
-    pub runs_apart : same_runs s (i + 6 * m) t (j + 6 * m) 6 ≡ false → same_runs s (i + 6 * m) t (j + 6 * m) (6 * n - 6 * m) ≡ false
-    runs_apart e = step ∙ rw e refl
+module _ (s t : List ℕ) (S : Bytes s) (T : Bytes t) (i j n : ℕ) (fit_s : 4 * (i + n) ≤ length s) (fit_t : 4 * (j + n) ≤ length t) where
+  pub bytes_same : (r : Bool) → r ≡ bytes_eq (take (4 * n) (drop (4 * i) s)) (take (4 * n) (drop (4 * j) t)) → r ≡ same_runs (words s) i (words t) j n
+  bytes_same r e =
+      let a : List ℕ = take (4 * n) (drop (4 * i) s) in
+      let b : List ℕ = take (4 * n) (drop (4 * j) t) in
+      let la : length a ≡ 4 * n = length-take-le (4 * n) (drop (4 * i) s) (omega (arith, length-drop (4 * i) s)) in
+      let lb : length b ≡ 4 * n = length-take-le (4 * n) (drop (4 * j) t) (omega (arith, length-drop (4 * j) t)) in
+      let wa : words a ≡ take n (drop i (words s)) = words_take n (drop (4 * i) s) ∙ ap (take n) (words_drop i s) in
+      let wb : words b ≡ take n (drop j (words t)) = words_take n (drop (4 * j) t) ∙ ap (take n) (words_drop j t) in
+      let d = bytes_eq-Decides a b in
+      let w = words_decide (words a) (words b) in
+      let back : words a ≡ words b → a ≡ b = words_inj a b (la ∙ sym lb) (omega arith) (bytes_part s (4 * i) (4 * n) S) (bytes_part t (4 * j) (4 * n) T) in
+      e ∙ same_from_decides (bytes_eq a b) (same_words (words a) (words b)) d ((λ h. back (w.0 h)), λ h. w.1 (ap words h)) ∙ ap₂ same_words wa wb
 
 -- ---- words of atoms
 same_both : (xs ys u v : List ℕ) → length xs ≡ length ys → same_words (xs ++ u) (ys ++ v) ≡ (same_words xs ys && same_words u v)

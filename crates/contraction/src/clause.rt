@@ -1,6 +1,7 @@
 // Clauses as they stand in the lent tables, and a clause in hand.
 ghost use Rattle.std.specs.Prelude.{◌≡◌, true, List, ◌∷◌, ◌++◌, ℕ, ◌+◌, ◌*◌, ◌/◌, ◌<◌, ◌≤◌, length, drop};
 ghost use Rattle.words.specs.Words.{words};
+ghost use Rattle.ir.specs.Roles.{role_id};
 ghost use Rattle.ir.specs.Scratch.{alternatives_at};
 ghost use Rattle.ir.specs.declared.atom.Atom.{Atom};
 ghost use Rattle.rules.specs.Base.{contains};
@@ -12,20 +13,23 @@ ghost use Rattle.reflexive.specs.Flags.{FlagsHeld};
 ghost use Rattle.tables.specs.Tabled.{Run, Tabled, TableThere, ClauseAt, ClauseThere};
 ghost use Rattle.contraction.specs.InHands.{in_hand_bytes, ClauseInHand, PlainRun, HandThere};
 ghost use Rattle.contraction.specs.SameLaws.{same_runs};
-ghost use Rattle.contraction.specs.Sizes.{has_size, BehindSize};
+ghost use Rattle.contraction.specs.Sizes.{has_size};
 
+use ir::atom::Atom;
+use ir::record;
+use ir::role::Role;
 use reflexive::ids::FLAGS;
 use tables::read;
 
 // The first atom in hand: word HANDS.
 pub const HAND: usize = 13500;
 
-// Whether a role is reflexive, by its code.
-pub fn is_flagged(scratch: &[u8], code: u32) -> bool
-    requires { (code < 2 * most_roles) × (4 * alternatives_at ≤ length scratch.now) }
-    ensures { (set : List ℕ) → FlagsHeld (words scratch.now) set → result ≡ contains set (code / 2) }
+// Whether a role is reflexive.
+pub fn is_flagged(scratch: &[u8], role: Role) -> bool
+    requires { (role_id role < most_roles) × (4 * alternatives_at ≤ length scratch.now) }
+    ensures { (set : List ℕ) → FlagsHeld (words scratch.now) set → result ≡ contains set (role_id role) }
 {
-    words::get_word(scratch, FLAGS + (code / 2) as usize) != 0
+    words::get_word(scratch, FLAGS + role.role_id() as usize) != 0
 }
 
 // Body atom i is a role atom over a reflexive role.
@@ -33,49 +37,23 @@ pub fn is_reflexive(scratch: &[u8], body: &[u8], i: u32) -> bool
     requires { PlainRun body.now × (24 * i < length body.now) × (4 * alternatives_at ≤ length scratch.now) }
     ensures { (set : List ℕ) (before after : List Atom) (x : Atom) → FlagsHeld (words scratch.now) set → Run body.now (before ++ (x ∷ after)) → i ≡ length before → result ≡ is_reflexive set x }
 {
-    let at = 6 * (i as usize);
-    if words::get_word(body, at) != 2 {
+    let Some(a) = record::get_atom(body, i as usize) else {
         return false;
+    };
+    match a {
+        Atom::Role(role, _, _) => is_flagged(scratch, role),
+        _ => false,
     }
-    is_flagged(scratch, words::get_word(body, at + 1))
-}
-
-// The record of s from word i on is that of t from word j on.
-pub fn same_record(s: &[u8], i: usize, t: &[u8], j: usize) -> bool
-    requires { (4 * (i + 6) ≤ length s.now) × (4 * (j + 6) ≤ length t.now) }
-    ensures { result ≡ same_runs (words s.now) i (words t.now) j 6 }
-{
-    if words::get_word(s, i) != words::get_word(t, j) {
-        return false;
-    }
-    if words::get_word(s, i + 1) != words::get_word(t, j + 1) {
-        return false;
-    }
-    if words::get_word(s, i + 2) != words::get_word(t, j + 2) {
-        return false;
-    }
-    if words::get_word(s, i + 3) != words::get_word(t, j + 3) {
-        return false;
-    }
-    if words::get_word(s, i + 4) != words::get_word(t, j + 4) {
-        return false;
-    }
-    words::get_word(s, i + 5) == words::get_word(t, j + 5)
 }
 
 // n records of s from word i on are those of t from word j on.
-fn same_records(s: &[u8], i: usize, t: &[u8], j: usize, n: usize) -> bool
+pub fn same_records(s: &[u8], i: usize, t: &[u8], j: usize, n: usize) -> bool
     requires { (4 * (i + 6 * n) ≤ length s.now) × (4 * (j + 6 * n) ≤ length t.now) }
     ensures { result ≡ same_runs (words s.now) i (words t.now) j (6 * n) }
 {
-    let mut m: usize = 0;
-    while m < n {
-        if !same_record(s, i + 6 * m, t, j + 6 * m) {
-            return false;
-        }
-        m += 1;
-    }
-    true
+    let (from, to) = (4 * i, 4 * j);
+    let long = 24 * n;
+    s[from..from + long] == t[to..to + long]
 }
 
 // Clause i has nb body atoms and nh head atoms.
@@ -83,26 +61,7 @@ fn has_size(clauses: &[u8], i: u32, nb: u32, nh: u32) -> bool
     requires { 4 * (clause_words * i + clause_words) ≤ length clauses.now }
     ensures { result ≡ has_size (words clauses.now) nb nh i }
 {
-    if read::body_count(clauses, i) != nb {
-        return false;
-    }
-    read::head_count(clauses, i) == nh
-}
-
-// The last of that size among the clauses from `from` up to `to`, and one more; `from` where there is none.
-fn behind_size(clauses: &[u8], nb: u32, nh: u32, from: u32, to: u32) -> u32
-    requires { (4 * (clause_words * to) ≤ length clauses.now) × (from ≤ to) }
-    ensures { BehindSize (words clauses.now) nb nh from to result }
-{
-    let mut c = to;
-    while from < c {
-        let last = c - 1;
-        if has_size(clauses, last, nb, nh) {
-            return c;
-        }
-        c = last;
-    }
-    from
+    read::body_count(clauses, i) == nb && read::head_count(clauses, i) == nh
 }
 
 // The clause in hand, of nb and nh atoms, equals clause c of the tables, which has as many.
@@ -127,13 +86,10 @@ pub fn is_among(
     requires { HandThere (words scratch.now) nb nh × TableThere (words clauses.now) (words atoms.now) to × (from ≤ to) × (in_hand_bytes ≤ length scratch.now) }
     ensures { (l : List Clause) (x : Clause) → Tabled (words clauses.now) (words atoms.now) to l → ClauseInHand (words scratch.now) nb nh x → result ≡ contains_clause (drop from l) x }
 {
-    let mut c = behind_size(clauses, nb, nh, from, to);
-    while from < c {
-        let last = c - 1;
-        if is_clause(scratch, clauses, atoms, nb, nh, last) {
+    for c in (from..to).rev() {
+        if has_size(clauses, c, nb, nh) && is_clause(scratch, clauses, atoms, nb, nh, c) {
             return true;
         }
-        c = behind_size(clauses, nb, nh, from, last);
     }
     false
 }

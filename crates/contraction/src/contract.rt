@@ -18,7 +18,7 @@ ghost use Rattle.contraction.specs.Contracting.{Substituted};
 
 use crate::clause;
 use crate::clause::HAND;
-use ir::record::Read;
+use ir::atom::Atom;
 use ir::{atom, record};
 
 // Atom i of the run with `keep` for the variable `drop`, as record `to` of scratch.
@@ -26,7 +26,7 @@ fn put_one(scratch: &mut [u8], run: &[u8], i: usize, to: usize, drop: u32, keep:
     requires { AtomThere (words run.now) i × (24 * to + 24 ≤ length scratch.old) }
     ensures { (x : Atom) → At (words run.now) (6 * i) (six x) → words scratch.new ≡ sets (words scratch.old) (6 * to) (six (substitute_atom x (replaced drop keep))) }
 {
-    let Read::Atom(a) = record::get_atom(run, i) else {
+    let Some(a) = record::get_atom(run, i) else {
         return;
     };
     record::put_atom(scratch, to, atom::substitute_atom(a, drop, keep));
@@ -38,11 +38,8 @@ fn put_substituted(scratch: &mut [u8], run: &[u8], to: usize, drop: u32, keep: u
     ensures substituted { Substituted run.now to drop keep (words scratch.new) }
     ensures scratch_unchanged { take (6 * to) (words scratch.new) ≡ take (6 * to) (words scratch.old) }
 {
-    let count = run.len() / 24;
-    let mut i: usize = 0;
-    while i < count {
+    for i in 0..run.len() / 24 {
         put_one(scratch, run, i, to + i, drop, keep);
-        i += 1;
     }
 }
 
@@ -67,6 +64,7 @@ pub fn put_contracted(scratch: &mut [u8], body: &[u8], head: &[u8], i: u32)
 {
     let at = i as usize;
     let last = body.len() / 24 - 1;
+    // two words decide: an atom read back would be matched for its kind once more
     let src = words::get_word(body, 6 * at + 4);
     let tgt = words::get_word(body, 6 * at + 5);
     let keep = kept_var(src, tgt);
@@ -83,12 +81,10 @@ fn in_body(scratch: &[u8], nb: u32, i: usize) -> bool
     requires { (24 * (hand_at + nb) ≤ length scratch.now) × (24 * (i + 1) ≤ length scratch.now) }
     ensures { (b : List Atom) (x : Atom) → nb ≡ length b → At (words scratch.now) (6 * hand_at) (flat b) → At (words scratch.now) (6 * i) (six x) → result ≡ contains_atom b x }
 {
-    let mut j: u32 = 0;
-    while j < nb {
-        if clause::same_record(scratch, 6 * i, scratch, 6 * (HAND + j as usize)) {
+    for j in 0..nb as usize {
+        if clause::same_records(scratch, 6 * i, scratch, 6 * (HAND + j), 1) {
             return true;
         }
-        j += 1;
     }
     false
 }
@@ -98,13 +94,13 @@ fn is_self_loop(scratch: &[u8], i: usize) -> bool
     requires { AtomThere (words scratch.now) i × (4 * alternatives_at ≤ length scratch.now) }
     ensures { (set : List ℕ) (x : Atom) → FlagsHeld (words scratch.now) set → At (words scratch.now) (6 * i) (six x) → result ≡ is_self_loop set x }
 {
-    if words::get_word(scratch, 6 * i) != 2 {
+    let Some(a) = record::get_atom(scratch, i) else {
         return false;
+    };
+    match a {
+        Atom::Role(role, u, v) => u == v && clause::is_flagged(scratch, role),
+        _ => false,
     }
-    if words::get_word(scratch, 6 * i + 4) != words::get_word(scratch, 6 * i + 5) {
-        return false;
-    }
-    clause::is_flagged(scratch, words::get_word(scratch, 6 * i + 1))
 }
 
 // The clause in hand always holds: a head atom is in the body, or is a self-loop.
@@ -112,16 +108,11 @@ pub fn is_trivial(scratch: &[u8], nb: u32, nh: u32) -> bool
     requires { HandThere (words scratch.now) nb nh × (in_hand_bytes ≤ length scratch.now) }
     ensures { (set : List ℕ) (x : Clause) → FlagsHeld (words scratch.now) set → ClauseInHand (words scratch.now) nb nh x → result ≡ is_trivial set x }
 {
-    let mut j: u32 = 0;
-    while j < nh {
-        let i = HAND + nb as usize + j as usize;
-        if in_body(scratch, nb, i) {
+    for j in 0..nh as usize {
+        let i = HAND + nb as usize + j;
+        if in_body(scratch, nb, i) || is_self_loop(scratch, i) {
             return true;
         }
-        if is_self_loop(scratch, i) {
-            return true;
-        }
-        j += 1;
     }
     false
 }

@@ -6,8 +6,8 @@ use Rattle.words.specs.Words.{words}
 use Rattle.ir.specs.Roles.{role_of}
 use Rattle.ir.specs.Scratch.{roles_at, alternatives_at}
 use Rattle.ir.specs.declared.counters.Counters.{Counters}
-use Rattle.ir.specs.declared.answer.Answer.{Answer}
-use Rattle.ir.specs.declared.answer.Answer.TheVariants.{Done, Refused}
+use Rattle.ir.specs.Answer.{Answer}
+use Rattle.ir.specs.Answer.{Done, Refused}
 use Rattle.ir.specs.declared.atom.Atom.{Atom}
 use Rattle.rules.specs.Base.{ok, refused, contains}
 use Rattle.rules.specs.State.{Clause, Env, Out, push}

@@ -1,18 +1,19 @@
 -- One head atom: what is read of it, the loop that it gives, and what stands in the tables after it. Assumes nothing.
-use Rattle.std.specs.Prelude.{◌≡◌, true, List, [], ◌∷◌, ◌++◌, ℕ, suc, ◌+◌, ◌*◌, ◌/◌, ◌<◌, ◌≤◌, length, get_or, take, drop}
+use Rattle.std.specs.Prelude.{◌≡◌, true, None, Some, List, [], ◌∷◌, ◌++◌, ℕ, suc, ◌+◌, ◌*◌, ◌/◌, ◌<◌, ◌≤◌, length, get_or, take, drop}
 use Rattle.std.proofs.Math.Path.{refl}
 use Rattle.std.proofs.Common.{sym, subst, ◌∙◌, arith, lt-ltb, le-ltb, length-append, get_or-take, length-take-le}
 use Prim.{tt}
 use Rattle.std.proofs.Math.Seq.{split_at}
 use Rattle.words.specs.Words.{words}
-use Rattle.ir.specs.Roles.{role_of, role_code_lem}
-use Rattle.ir.specs.Records.{six, words_of}
+use Rattle.ir.specs.Qualifiers.{Qualifier}
+use Rattle.ir.specs.Roles.{role_id, role_code, role_of, role_code_lem}
+use Rattle.ir.specs.Records.{six, words_of, atom_at, Read}
 use Rattle.ir.specs.declared.role.Role.{Role}
 use Rattle.ir.specs.declared.counters.Counters.{Counters}
 use Rattle.ir.specs.declared.atom.Atom.{Atom}
 use Rattle.ir.specs.declared.atom.Atom.TheVariants.{Class, Exists, AtMost, AtLeast, Equal, Role as RoleAtom}
 use Rattle.rules.specs.Base.{ok, refused, contains}
-use Rattle.rules.specs.State.{Clause, clause, Env, Out, with}
+use Rattle.rules.specs.State.{Clause, Env, Out, with}
 use Rattle.rules.specs.Invariants.{Bounds, AtomIn, ClauseIn}
 use Rattle.rules.specs.Deck.{most_roles}
 use Rattle.rules.proofs.BoundLaws.{clauses_grow}
@@ -21,11 +22,11 @@ use Rattle.rules.proofs.ReflexiveLaws.{loop_clause, loop_in, next_var_below}
 use Rattle.rules.specs.EachLaws.{each_nth}
 use Rattle.tables.specs.Tabled.{body_count, head_count, At, Run, no_clause, ClauseAt, Tabled, ClauseThere}
 use Rattle.tables.specs.ClauseLaws.{clause_at}
-use Rattle.tables.specs.AtomLaws.{kind_is, role_is, source_is, run_nth}
+use Rattle.tables.specs.AtomLaws.{kind_is, role_is, source_is, read_is, run_nth}
 use Rattle.hands.specs.Hands.{InHand}
 use Rattle.contraction.specs.InHands.{hand_at, ClauseInHand, HandThere}
 use Rattle.contraction.specs.PlainLaws.{plain_in, plain_clause}
-use Rattle.contraction.specs.FlagWords.{code_id}
+use Rattle.contraction.specs.FlagWords.{code_id, code_small}
 use Rattle.counted.specs.StandingLaws.{nth}
 use Rattle.counted.specs.SelfLoops.{push_new, push_over, push_of, Looping}
 use Rattle.counted.specs.LoopingLaws.{looping_tabled, looping_within}
@@ -56,6 +57,15 @@ pub record AtomIs (x : Atom) (code v : ℕ) : Type 0 where
   pub kind_is : (words_of x).0 ≡ 4
   pub code_is : code ≡ (words_of x).1
   pub var_is : v ≡ (words_of x).4
+
+-- any other
+not_four : (x : Atom) → ((q : Role) (u : Qualifier) (n v : ℕ) → x ≡ AtMost q u n v → ⊥) → get_or (six x) 0 0 ≡ 4 → ⊥
+not_four (Class _ _) f h = omega arith
+not_four (RoleAtom _ _ _) f h = omega arith
+not_four (Exists _ _ _) f h = omega arith
+not_four (AtMost q u n v) f h = f q u n v refl
+not_four (AtLeast _ _ _ _) f h = omega arith
+not_four (Equal _ _) f h = omega arith
 
 -- the loop in hand, as it was made of clause i
 pub record Made (c a w : List ℕ) (i code v fresh : ℕ) : Type 0 where
@@ -147,10 +157,38 @@ module _ (k : Counters) (c a : List ℕ) (from : ℕ) (L : Looping k c a from) (
     pub atom_room : 24 * j + 24 ≤ length hs
     atom_room = omega (arith, row.below, (H here row.placed).long)
 
-    pub code_small : get_or (words hs) (6 * j + 1) 0 < 2 * most_roles
-    code_small =
-        rw (role_is (words hs) j (head_at here j) row.atom)
-        (plain_in L.bounds L.fresh L.vars L.roles L.classes (head_at here j) (each_nth (AtomIn L.bounds L.fresh L.vars) here.head j (Equal 0 0) inside.head_in row.below)).role
+    -- as it was read
+    module _ (r : Read) (er : r ≡ atom_at (words hs) j) where
+      pub read_no : r ≡ None → ⊥
+      read_no e =
+          let z : Some (head_at here j) ≡ None = sym (read_is (words hs) j (head_at here j) row.atom) ∙ sym er ∙ e in
+          let y : ◌≡◌ {A = ℕ} 0 1 = cc in
+          omega arith
+
+      module _ (x : Atom) (e : r ≡ Some x) where
+        read_head : head_at here j ≡ x
+        read_head = let z : Some (head_at here j) ≡ Some x = sym (read_is (words hs) j (head_at here j) row.atom) ∙ sym er ∙ e in cc
+
+        stands : At (words hs) (6 * j) (six x)
+        stands = subst (λ (y : Atom). At (words hs) (6 * j) (six y)) read_head row.atom
+
+        pub read_other : ((q : Role) (u : Qualifier) (n v : ℕ) → x ≡ AtMost q u n v → ⊥) → get_or (words hs) (6 * j) 0 ≡ 4 → ⊥
+        read_other f h = not_four x f (sym (kind_is (words hs) j x stands) ∙ h)
+
+        module _ (q : Role) (u : Qualifier) (n v : ℕ) (f : x ≡ AtMost q u n v) where
+          pub read_at_most : Atom4 hs j (role_code q) v
+          read_at_most =
+              let K : At (words hs) (6 * j) (six (AtMost q u n v)) = subst (λ (y : Atom). At (words hs) (6 * j) (six y)) f stands in
+              record {
+                kind_is = kind_is (words hs) j (AtMost q u n v) K;
+                code_is = sym (role_is (words hs) j (AtMost q u n v) K);
+                var_is = sym (source_is (words hs) j (AtMost q u n v) K);
+              }
+
+          pub role_small : role_id q < most_roles
+          role_small =
+              let P = plain_in L.bounds L.fresh L.vars L.roles L.classes (head_at here j) (each_nth (AtomIn L.bounds L.fresh L.vars) here.head j (Equal 0 0) inside.head_in row.below) in
+              code_small q (subst (λ (y : Atom). get_or (six y) 1 0 < 2 * most_roles) (read_head ∙ f) P.role)
 
     -- the loop of an at-most atom, where the body is short enough, in hand
     module _ (code v fresh : ℕ) (w : List ℕ) (A : Atom4 hs j code v) (nb : ℕ) (eb : nb ≡ body_count c i) (short : nb < 256) (M : Made c a w i code v fresh) where

@@ -1,11 +1,10 @@
 -- A loop in hand: a part of the atom table, and two atoms behind it. Assumes nothing.
-use Rattle.std.specs.Prelude.{◌≡◌, List, [], ◌∷◌, ◌++◌, ℕ, ◌+◌, ◌*◌, ◌/◌, ◌<◌, ◌≤◌, ◌^◌, length, take, drop}
-use Rattle.std.proofs.Common.{sym, ap, subst, ◌∙◌, arith, length-append, length-take-le, take-take, take_at}
+use Rattle.std.specs.Prelude.{◌≡◌, List, [], ◌∷◌, ◌++◌, ℕ, ◌+◌, ◌*◌, ◌/◌, ◌≤◌, length, take, drop}
+use Rattle.std.proofs.Common.{sym, ap, ◌∙◌, arith, length-append, length-take-le, take-take, take_at}
 use Rattle.std.proofs.lemmas.List.Edits.{sets, sets-eq}
 use Rattle.std.proofs.Math.Seq.{length-sets}
 use Rattle.words.specs.Words.{words}
 use Rattle.words.specs.Laws.{length_words}
-use Rattle.ir.specs.Roles.{role_id, role_of, id_half}
 use Rattle.ir.specs.Records.{six}
 use Rattle.ir.specs.declared.role.Role.{Role}
 use Rattle.ir.specs.declared.atom.Atom.{Atom}
@@ -27,12 +26,8 @@ hand_put w w' base n b en e fit =
     let t2 : take (6 * base) w' ≡ take (6 * base) w = put_frame base n w w' (flat b) (6 * base) e (omega arith) in
     record { long = en; are = t1 ∙ ap (λ (u : List ℕ). u ++ flat b) (sym t2) }
 
--- ---- a role by its code
-pub role_fits : (c : ℕ) (r : Role) → r ≡ role_of c → c < 2 ^ 32 → role_id r < 2 ^ 31
-role_fits c r e h = let k : role_id r ≡ c / 2 = ap role_id e ∙ id_half c in omega arith
-
 -- ---- the part s, R(v, fresh) and R(v, v)
-module _ (s w w1 w2 w3 : List ℕ) (nb code v fresh : ℕ) (r : Role) (er : r ≡ role_of code) (en : nb ≡ length s / 24) (fit : 6 * (hand_at + nb + 2) ≤ length w)
+module _ (s w w1 w2 w3 : List ℕ) (nb v fresh : ℕ) (r : Role) (en : nb ≡ length s / 24) (fit : 6 * (hand_at + nb + 2) ≤ length w)
     (e1 : w1 ≡ sets w (6 * hand_at) (words s)) (e2 : w2 ≡ sets w1 (6 * (hand_at + nb)) (six (RoleAtom r v fresh))) (e3 : w3 ≡ sets w2 (6 * (hand_at + nb + 1)) (six (RoleAtom r v v))) where
   l1 : length w1 ≡ length w
   l1 = ap length e1 ∙ length-sets w (6 * hand_at) (words s)
@@ -40,7 +35,7 @@ module _ (s w w1 w2 w3 : List ℕ) (nb code v fresh : ℕ) (r : Role) (er : r �
   l2 : length w2 ≡ length w
   l2 = ap length e2 ∙ length-sets w1 (6 * (hand_at + nb)) (six (RoleAtom r v fresh)) ∙ l1
 
-  pub loop_hand : (b : List Atom) → Run s b → InHand w3 hand_at (length b + 1 + 1) ((b ++ (RoleAtom (role_of code) v fresh ∷ [])) ++ (RoleAtom (role_of code) v v ∷ []))
+  pub loop_hand : (b : List Atom) → Run s b → InHand w3 hand_at (length b + 1 + 1) ((b ++ (RoleAtom r v fresh ∷ [])) ++ (RoleAtom r v v ∷ []))
   loop_hand b R =
       let x : Atom = RoleAtom r v fresh in
       let y : Atom = RoleAtom r v v in
@@ -49,8 +44,7 @@ module _ (s w w1 w2 w3 : List ℕ) (nb code v fresh : ℕ) (r : Role) (er : r �
       let i1 : InHand w1 hand_at nb b = hand_put w w1 hand_at nb b (sym n) a (omega arith) in
       let i2 : InHand w2 hand_at (nb + 1) (b ++ (x ∷ [])) = hand_more hand_at nb w1 w2 b x e2 (omega (arith, l1)) i1 in
       let q : hand_at + (nb + 1) ≡ hand_at + nb + 1 = omega arith in
-      rw n (subst (λ (z : Role). InHand w3 hand_at (nb + 1 + 1) ((b ++ (RoleAtom z v fresh ∷ [])) ++ (RoleAtom z v v ∷ []))) er
-      (hand_more hand_at (nb + 1) w2 w3 (b ++ (x ∷ [])) y (rw q e3) (omega (arith, l2)) i2))
+      rw n (hand_more hand_at (nb + 1) w2 w3 (b ++ (x ∷ [])) y (rw q e3) (omega (arith, l2)) i2)
 
   pub loop_frame : RunThere s → take (6 * hand_at) w3 ≡ take (6 * hand_at) w
   loop_frame T =

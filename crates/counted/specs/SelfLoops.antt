@@ -4,8 +4,8 @@ use Prim.{Unit, tt}
 use Rattle.ir.specs.Roles.{role_id}
 use Rattle.ir.specs.declared.role.Role.{Role}
 use Rattle.ir.specs.declared.counters.Counters.{Counters}
-use Rattle.ir.specs.declared.answer.Answer.{Answer}
-use Rattle.ir.specs.declared.answer.Answer.TheVariants.{Done, Refused}
+use Rattle.ir.specs.Answer.{Answer}
+use Rattle.ir.specs.Answer.{Done, Refused}
 use Rattle.ir.specs.declared.atom.Atom.{Atom}
 use Rattle.ir.specs.declared.atom.Atom.TheVariants.{Class, Exists, AtMost, AtLeast, Equal, Role as RoleAtom}
 use Rattle.rules.specs.Base.{Res, ok, ◌>>=◌, ◌>>◌, return, contains}

@@ -1,6 +1,6 @@
 -- The greatest variable of a run of atoms, by the last two words of each record. Assumes nothing.
-use Rattle.std.specs.Prelude.{◌≡◌, refl, ℕ, suc, ◌+◌, ◌*◌, ◌/◌, ◌<◌, ◌≤◌, ◌^◌, ltb, length, get_or, drop}
-use Rattle.std.proofs.Common.{sym, ◌∙◌, arith, lt-ltb, le-ltb, drop_of_length-le, drop-cons}
+use Rattle.std.specs.Prelude.{◌≡◌, refl, Bool, true, false, max, ℕ, suc, ◌+◌, ◌*◌, ◌/◌, ◌<◌, ◌≤◌, ◌^◌, ltb, length, get_or, drop}
+use Rattle.std.proofs.Common.{sym, ◌∙◌, arith, ltb-true, ltb-false, le-ltb, drop_of_length-le, drop-cons}
 use Rattle.std.proofs.Math.Path.{ap}
 use mathlib.Core.List.{List, ◌∷◌, ◌++◌}
 use Rattle.words.specs.Words.{words}
@@ -44,20 +44,21 @@ next_atom : (x : Atom) (m : List Atom) (g g2 : ℕ) → g2 ≡ up_to (up_to g (w
 unfolding atoms_vars
 next_atom x m g g2 e = step_vars x g (atoms_vars m) ∙ ap (λ (y : ℕ). max_var y (atoms_vars m)) (sym e)
 
--- the greater of two, as the code finds it
-pub up_more : (m v : ℕ) → m < v → up_to m v ≡ v
-up_more m v h = rw (lt-ltb m v h) refl
-
-pub up_same : (m v : ℕ) → v ≤ m → up_to m v ≡ m
-up_same m v h = rw (le-ltb m v h) refl
+-- the greater of two
+up_max : (m v : ℕ) → up_to m v ≡ max m v
+up_max m v = by (ltb m v) refl
+  where
+    by : (b : Bool) → ltb m v ≡ b → pick b v m ≡ max m v
+    by true e = let h = ltb-true m v e in omega (arith, h)
+    by false e = let h = ltb-false m v e in omega (arith, h)
 
 module _ (s : List ℕ) where
   pub vars_start : VarsAt s 0 0
   vars_start = record { within = omega arith; rest = λ l R. refl }
 
-  pub vars_next : (i g u v g1 g2 : ℕ) → VarsAt s i g → i < length s / 24 → u ≡ get_or (words s) (6 * i + 4) 0 → v ≡ get_or (words s) (6 * i + 5) 0
-      → g1 ≡ up_to g u → g2 ≡ up_to g1 v → VarsAt s (i + 1) g2
-  vars_next i g u v g1 g2 A lt eu ev e1 e2 = record {
+  pub vars_next : (i g u v g2 : ℕ) → VarsAt s i g → i < length s / 24 → u ≡ get_or (words s) (6 * i + 4) 0 → v ≡ get_or (words s) (6 * i + 5) 0
+      → g2 ≡ max (max g u) v → VarsAt s (i + 1) g2
+  vars_next i g u v g2 A lt eu ev e = record {
     within = omega arith;
     rest = λ l R.
         let h : i < length l = omega (arith, R.long) in
@@ -67,7 +68,7 @@ module _ (s : List ℕ) where
         let q : drop i l ≡ x ∷ drop (suc i) l = drop-cons l i no_atom h in
         let u4 : u ≡ (words_of x).4 = eu ∙ source_is (words s) i x X in
         let v5 : v ≡ (words_of x).5 = ev ∙ target_is (words s) i x X in
-        let z : g2 ≡ up_to (up_to g (words_of x).4) (words_of x).5 = rw (e2, e1, u4, v5) refl in
+        let z : g2 ≡ up_to (up_to g (words_of x).4) (words_of x).5 = e ∙ sym (up_max (max g u) v) ∙ ap (λ (y : ℕ). up_to y v) (sym (up_max g u)) ∙ rw (u4, v5) refl in
         A.rest l R ∙ ap (λ (t : List Atom). max_var g (atoms_vars t)) q ∙ next_atom x (drop (suc i) l) g g2 z ∙ ap (λ (y : ℕ). max_var g2 (atoms_vars (drop y l))) (sym p);
   }
 

@@ -1,11 +1,11 @@
 // add_counted_self_loops: R(v, v) where an at-most atom over a reflexive R counts it.
 ghost use Rattle.std.specs.Prelude.{◌≡◌, List, [], ◌∷◌, ◌++◌, ℕ, ◌+◌, ◌*◌, ◌<◌, ◌≤◌, ◌^◌, length, take};
 ghost use Rattle.words.specs.Words.{words};
-ghost use Rattle.ir.specs.Roles.{role_of};
+ghost use Rattle.ir.specs.Roles.{role_id};
 ghost use Rattle.ir.specs.declared.atom.Atom.{Atom};
 ghost use Rattle.ir.specs.declared.atom.Atom.TheVariants.{Role as RoleAtom};
+ghost use Rattle.rules.specs.Deck.{most_roles};
 ghost use Rattle.rules.specs.Reflexive.{max_var, atoms_vars, add_counted_self_loops};
-ghost use Rattle.tables.specs.Drawn.{Sized};
 ghost use Rattle.tables.specs.Good.{Good};
 ghost use Rattle.hands.specs.Hands.{InHand, four};
 ghost use Rattle.tables.specs.Tabled.{head_count, Run, RunThere};
@@ -13,14 +13,16 @@ ghost use Rattle.contraction.specs.InHands.{in_hand_bytes, hand_at};
 ghost use Rattle.contraction.specs.Passes.{Standing, StandingBelowAfter, Drawn, Passed};
 ghost use Rattle.counted.specs.SelfLoops.{loop_at, loops_at, Looping, LoopedAfter};
 ghost use Rattle.counted.specs.VarLaws.{VarsThere};
+ghost use Rattle.ir.specs.Answer.{done};
+ghost use Rattle.tables.specs.Lending.{SameReferences};
 
 use contraction::clause;
 use contraction::clause::HAND;
-use ir::answer::Answer;
 use ir::atom::Atom;
-use ir::counters::Counters;
 use ir::record;
+use ir::refusal::Refusal;
 use ir::role::Role;
+use tables::lent::Tables;
 use tables::read;
 
 // One more than the greatest variable of the run's atoms.
@@ -28,128 +30,102 @@ fn next_var_of(run: &[u8]) -> u32
     requires { VarsThere run.now }
     ensures { (l : List Atom) → Run run.now l → result ≡ max_var 0 (atoms_vars l) + 1 }
 {
-    let count = run.len() / 24;
+    // two words of each, whatever its kind
     let mut greatest: u32 = 0;
-    let mut i: usize = 0;
-    while i < count {
+    for i in 0..run.len() / 24 {
         let u = words::get_word(run, 6 * i + 4);
         let v = words::get_word(run, 6 * i + 5);
-        if greatest < u {
-            greatest = u;
-        }
-        if greatest < v {
-            greatest = v;
-        }
-        i += 1;
+        greatest = greatest.max(u).max(v);
     }
     greatest + 1
 }
 
 // The body, R(v, fresh) behind it, and R(v, v).
-fn put_loop(scratch: &mut [u8], body: &[u8], code: u32, v: u32, fresh: u32)
-    requires { RunThere body.now × (length body.now < 24 * 256) × (in_hand_bytes ≤ length scratch.old) }
-    ensures in_hand { (b : List Atom) → Run body.now b → InHand (words scratch.new) hand_at (length b + 1 + 1) ((b ++ (RoleAtom (role_of code) v fresh ∷ [])) ++ (RoleAtom (role_of code) v v ∷ [])) }
+fn put_loop(scratch: &mut [u8], body: &[u8], role: Role, v: u32, fresh: u32)
+    requires { RunThere body.now × (length body.now < 24 * 256) × (role_id role < most_roles) × (in_hand_bytes ≤ length scratch.old) }
+    ensures in_hand { (b : List Atom) → Run body.now b → InHand (words scratch.new) hand_at (length b + 1 + 1) ((b ++ (RoleAtom role v fresh ∷ [])) ++ (RoleAtom role v v ∷ [])) }
     ensures scratch_unchanged { take (6 * hand_at) (words scratch.new) ≡ take (6 * hand_at) (words scratch.old) }
 {
     let nb = body.len() / 24;
     words::copy_words(scratch, 6 * HAND, body);
-    let role = Role::of_code(code);
     record::put_atom(scratch, HAND + nb, Atom::Role(role, v, fresh));
     record::put_atom(scratch, HAND + nb + 1, Atom::Role(role, v, v));
 }
 
 // Head atom j of clause c; the loops so far are the clauses from `from` on.
 fn loop_of(
+    lent: &mut Tables<'_>,
     scratch: &mut [u8],
-    clauses: &mut [u8],
-    atoms: &mut [u8],
-    k: Counters,
     c: u32,
     j: u32,
     from: u32,
-) -> Answer
-    requires { Looping k (words clauses.old) (words atoms.old) from × (c < from) × (j < head_count (words clauses.old) c) × Good k × (in_hand_bytes ≤ length scratch.old) × Sized (length clauses.old) (length atoms.old) 0 }
-    ensures fact { let old = four (words scratch.old) (words clauses.old) (words atoms.old) in
-        let new = four (words scratch.new) (words clauses.new) (words atoms.new) in
-        ((d : List ℕ) → Passed (loop_at from c j) k (old d) (new d) result) }
-    ensures looped_after { LoopedAfter from (words clauses.old) (words clauses.new) (words atoms.new) result }
+) -> Result<(), Refusal>
+    requires { Looping lent.old.counters (words lent.old.clauses.now) (words lent.old.atoms.now) from × (c < from) × (j < head_count (words lent.old.clauses.now) c) × Good lent.old.counters × (in_hand_bytes ≤ length scratch.old) }
+    ensures references { SameReferences lent.old lent.new }
+    ensures deferrals { lent.new.deferrals.now ≡ lent.old.deferrals.now }
+    ensures fact { let old = four (words scratch.old) (words lent.old.clauses.now) (words lent.old.atoms.now) in
+        let new = four (words scratch.new) (words lent.new.clauses.now) (words lent.new.atoms.now) in
+        ((d : List ℕ) → Passed (loop_at from c j) lent.old.counters (old d) (new d) (done lent.new.counters result)) }
+    ensures looped_after { LoopedAfter from (words lent.old.clauses.now) (words lent.new.clauses.now) (words lent.new.atoms.now) (done lent.new.counters result) }
 {
-    let head = read::head_of(clauses, atoms, c);
-    let at = 6 * (j as usize);
-    let code = words::get_word(head, at + 1);
-    if words::get_word(head, at) != 4 || !clause::is_flagged(scratch, code) {
-        return Answer::Done(k, 0);
+    let clauses = &mut *lent.clauses;
+    let atoms = &mut *lent.atoms;
+    let Some(a) = record::get_atom(read::head_of(clauses, atoms, c), j as usize) else {
+        return Ok(());
+    };
+    let Atom::AtMost(role, _, _, v) = a else {
+        return Ok(());
+    };
+    if !clause::is_flagged(scratch, role) {
+        return Ok(());
     }
     let nb = read::body_count(clauses, c);
     if 256 <= nb {
-        return Answer::Refused(12);
+        return Err(Refusal::NoRoom);
     }
-    let v = words::get_word(head, at + 4);
     let fresh = next_var_of(read::atoms_of(clauses, atoms, c));
-    put_loop(scratch, read::body_of(clauses, atoms, c), code, v, fresh);
-    if clause::is_among(scratch, clauses, atoms, nb + 1, 1, from, k.clauses) {
-        return Answer::Done(k, 0);
+    put_loop(scratch, read::body_of(clauses, atoms, c), role, v, fresh);
+    let end = lent.counters.clauses;
+    if clause::is_among(scratch, clauses, atoms, nb + 1, 1, from, end) {
+        return Ok(());
     }
-    hands::push_run(scratch, clauses, atoms, k, HAND, nb + 1, 1)
+    hands::push_run(lent, scratch, HAND, nb + 1, 1)
 }
 
 // The head atoms of clause c.
 fn loops_of_head(
+    lent: &mut Tables<'_>,
     scratch: &mut [u8],
-    clauses: &mut [u8],
-    atoms: &mut [u8],
-    k: Counters,
     c: u32,
     from: u32,
-) -> Answer
-    requires { Looping k (words clauses.old) (words atoms.old) from × (c < from) × Good k × (in_hand_bytes ≤ length scratch.old) × Sized (length clauses.old) (length atoms.old) 0 }
-    ensures fact { let old = four (words scratch.old) (words clauses.old) (words atoms.old) in
-        let new = four (words scratch.new) (words clauses.new) (words atoms.new) in
-        ((d : List ℕ) → Passed (loops_at from c) k (old d) (new d) result) }
-    ensures looped_after { LoopedAfter from (words clauses.old) (words clauses.new) (words atoms.new) result }
+) -> Result<(), Refusal>
+    requires { Looping lent.old.counters (words lent.old.clauses.now) (words lent.old.atoms.now) from × (c < from) × Good lent.old.counters × (in_hand_bytes ≤ length scratch.old) }
+    ensures references { SameReferences lent.old lent.new }
+    ensures deferrals { lent.new.deferrals.now ≡ lent.old.deferrals.now }
+    ensures fact { let old = four (words scratch.old) (words lent.old.clauses.now) (words lent.old.atoms.now) in
+        let new = four (words scratch.new) (words lent.new.clauses.now) (words lent.new.atoms.now) in
+        ((d : List ℕ) → Passed (loops_at from c) lent.old.counters (old d) (new d) (done lent.new.counters result)) }
+    ensures looped_after { LoopedAfter from (words lent.old.clauses.now) (words lent.new.clauses.now) (words lent.new.atoms.now) (done lent.new.counters result) }
 {
-    let nh = read::head_count(clauses, c);
-    let mut l = k;
-    let mut j: u32 = 0;
-    while j < nh {
-        match loop_of(scratch, clauses, atoms, l, c, j, from) {
-            Answer::Done(m, _) => {
-                l = m;
-            }
-            Answer::Refused(e) => {
-                return Answer::Refused(e);
-            }
-        }
-        j += 1;
+    let clauses = &mut *lent.clauses;
+    for j in 0..read::head_count(clauses, c) {
+        loop_of(lent, scratch, c, j, from)?;
     }
-    Answer::Done(l, 0)
+    Ok(())
 }
 
-pub fn add_counted_self_loops(
-    scratch: &mut [u8],
-    clauses: &mut [u8],
-    atoms: &mut [u8],
-    k: Counters,
-) -> Answer
-    requires { Standing k (words clauses.old) (words atoms.old) × ((d : List ℕ) × Drawn k (words clauses.old) (words atoms.old) d) × Good k × (338400 ≤ length scratch.old) × Sized (length clauses.old) (length atoms.old) 0 }
-    ensures fact { let old = four (words scratch.old) (words clauses.old) (words atoms.old) in
-        let new = four (words scratch.new) (words clauses.new) (words atoms.new) in
-        ((d : List ℕ) → Passed (λ env set. add_counted_self_loops env set) k (old d) (new d) result) }
-    ensures standing_below_after { StandingBelowAfter (2 ^ 31 + 1) (words clauses.new) (words atoms.new) result }
+pub fn add_counted_self_loops(lent: &mut Tables<'_>, scratch: &mut [u8]) -> Result<(), Refusal>
+    requires { Standing lent.old.counters (words lent.old.clauses.now) (words lent.old.atoms.now) × ((d : List ℕ) × Drawn lent.old.counters (words lent.old.clauses.now) (words lent.old.atoms.now) d) × Good lent.old.counters × (338400 ≤ length scratch.old) }
+    ensures references { SameReferences lent.old lent.new }
+    ensures deferrals { lent.new.deferrals.now ≡ lent.old.deferrals.now }
+    ensures fact { let old = four (words scratch.old) (words lent.old.clauses.now) (words lent.old.atoms.now) in
+        let new = four (words scratch.new) (words lent.new.clauses.now) (words lent.new.atoms.now) in
+        ((d : List ℕ) → Passed (λ env set. add_counted_self_loops env set) lent.old.counters (old d) (new d) (done lent.new.counters result)) }
+    ensures standing_below_after { StandingBelowAfter (2 ^ 31 + 1) (words lent.new.clauses.now) (words lent.new.atoms.now) (done lent.new.counters result) }
 {
-    let from = k.clauses;
-    let mut l = k;
-    let mut c: u32 = 0;
-    while c < from {
-        match loops_of_head(scratch, clauses, atoms, l, c, from) {
-            Answer::Done(m, _) => {
-                l = m;
-            }
-            Answer::Refused(e) => {
-                return Answer::Refused(e);
-            }
-        }
-        c += 1;
+    let from = lent.counters.clauses;
+    for c in 0..from {
+        loops_of_head(lent, scratch, c, from)?;
     }
-    Answer::Done(l, 0)
+    Ok(())
 }

@@ -100,7 +100,7 @@ impl<'a> Row<'a> {
         true
     }
 
-    // The two lines have the same numbers.
+    // The two lines have the same numbers. A line is bytes of the deck, so that no derived equality has it.
     pub fn same_numbers(&self, other: &Row) -> bool
         ensures { result ≡ same_words (numbers self.now) (numbers other.now) }
     {

@@ -1,19 +1,10 @@
 -- What decompose_wide_bodies asks of the lent tables.
-use Rattle.std.specs.Prelude.{◌≡◌, Result, Ok, Err, List, ℕ, ◌≤◌}
-use Rattle.ir.specs.declared.answer.Answer.{Answer}
-use Rattle.ir.specs.declared.answer.Answer.TheVariants.{Done, Refused}
+use Rattle.std.specs.Prelude.{◌≡◌, List, ℕ, ◌≤◌}
 use Rattle.ir.specs.declared.counters.Counters.{Counters}
-use Rattle.ir.specs.declared.refusal.Refusal.{Refusal}
-use Rattle.ir.specs.Refusals.{refusal_number}
 use Rattle.rules.specs.Deck.{most_roles}
 use Rattle.rules.specs.State.{Env, Out}
 use Rattle.rules.specs.Invariants.{Each, Bounds, ClauseIn}
 use Rattle.tables.specs.Drawn.{tables, show, Lent}
-
--- the code's answer, with a refusal's number
-abbrev pub answer_of : Result (Counters × ℕ) Refusal → Answer
-answer_of (Ok r) = Done r.0 r.1
-answer_of (Err e) = Refused (refusal_number e)
 
 -- the words c and a of the clause and atom tables, beside some deferrals, are drawn from a state whose clauses name roles that
 -- there may be, and classes that were taken

@@ -3,15 +3,17 @@ ghost use Rattle.std.specs.Prelude.{◌≡◌, List, ℕ, ◌*◌, ◌<◌, ◌�
 ghost use Rattle.words.specs.Words.{words};
 ghost use Rattle.rules.specs.State.{Clause};
 ghost use Rattle.rules.specs.Branches.{decompose_wide_bodies};
+ghost use Rattle.ir.specs.Answer.{answer};
 ghost use Rattle.tables.specs.Drawn.{shown, after, Sized};
+ghost use Rattle.tables.specs.Lending.{SameReferences};
 ghost use Rattle.branches.specs.Layout.{work_words};
-ghost use Rattle.decomposition.specs.Decomposing.{Decomposing, answer_of};
+ghost use Rattle.decomposition.specs.Decomposing.{Decomposing};
 ghost use Rattle.decomposition.specs.Turning.{Listed, Passed, TurnThere, TurnedBy, AllPassed, EndThere};
 
 use crate::{one, place};
 use branches::memo::Naming;
-use ir::counters::Counters;
 use ir::refusal::Refusal;
+use tables::lent::Tables;
 use tables::read;
 
 // After some clauses: the branches, the atoms so far, and how many bodies are new.
@@ -22,7 +24,7 @@ pub struct Progress {
     pub rewritten: u32,
 }
 
-// Clause c, behind the atoms so far.
+// Clause c, behind the atoms so far. It has two of the lent tables: with all of them it would say again what it leaves alone.
 pub fn turn(
     scratch: &mut [u8],
     clauses: &mut [u8],
@@ -62,20 +64,19 @@ pub fn turn(
 }
 
 // The branches behind the clauses, and zeros behind them; how many bodies are new.
-pub fn finish(
-    scratch: &[u8],
-    clauses: &mut [u8],
-    atoms: &mut [u8],
-    k: Counters,
-    p: Progress,
-) -> Result<(Counters, u32), Refusal>
-    requires { EndThere k (words scratch.now) (words clauses.old) (words atoms.old) p.naming p.atoms p.rewritten × (4 * work_words ≤ length scratch.now) × Sized (length clauses.old) (length atoms.old) 0 }
-    ensures { (c₀ a₀ : List ℕ) (D : Decomposing k c₀ a₀) → AllPassed k c₀ a₀ D (words scratch.now) (words clauses.old) (words atoms.old) p.naming p.atoms p.rewritten → after (answer_of result) (words clauses.new) (words atoms.new) D.deferrals ≡ shown (λ n. n) k D.env.rooms (decompose_wide_bodies D.env D.state) }
+pub fn finish(lent: &mut Tables<'_>, scratch: &[u8], p: Progress) -> Result<u32, Refusal>
+    requires { EndThere lent.old.counters (words scratch.now) (words lent.old.clauses.now) (words lent.old.atoms.now) p.naming p.atoms p.rewritten × (4 * work_words ≤ length scratch.now) }
+    ensures references { SameReferences lent.old lent.new }
+    ensures deferrals { lent.new.deferrals.now ≡ lent.old.deferrals.now }
+    ensures did { (c₀ a₀ : List ℕ) (D : Decomposing lent.old.counters c₀ a₀) → AllPassed lent.old.counters c₀ a₀ D (words scratch.now) (words lent.old.clauses.now) (words lent.old.atoms.now) p.naming p.atoms p.rewritten → after (answer lent.new.counters result) (words lent.new.clauses.now) (words lent.new.atoms.now) D.deferrals ≡ shown (λ n. n) lent.old.counters D.env.rooms (decompose_wide_bodies D.env D.state) }
 {
     let s = p.naming;
     let to = p.atoms;
+    let k = lent.counters;
     let last = k.clauses + s.named;
     let end = to + s.used;
+    let clauses = &mut *lent.clauses;
+    let atoms = &mut *lent.atoms;
     if read::clause_room(clauses) < last as usize {
         return Err(Refusal::NoRoom);
     }
@@ -85,10 +86,8 @@ pub fn finish(
     place::put_named(scratch, clauses, atoms, s, k.clauses, to);
     let left = k.atoms.saturating_sub(end);
     words::clear_words(atoms, 6 * (end as usize), 6 * (left as usize));
-    let next = s.first + s.named;
-    let mut l = k;
-    l.clauses = last;
-    l.atoms = end;
-    l.next_class = next;
-    Ok((l, p.rewritten))
+    lent.counters.clauses = last;
+    lent.counters.atoms = end;
+    lent.counters.next_class = s.first + s.named;
+    Ok(p.rewritten)
 }

@@ -1,5 +1,6 @@
 -- The heads that cover a class, one member after the other. Assumes nothing.
-use Rattle.std.specs.Prelude.{◌≡◌, Bool, true, false, ltb, length, get_or, take}
+use Rattle.std.specs.Prelude.{◌≡◌, Bool, true, false, ltb, length, get_or, take, Result, Ok, Err}
+use Rattle.std.specs.Prelude as Code
 use Rattle.std.proofs.Math.Path.{refl, sym, ap}
 use Rattle.std.proofs.Common.{subst, ◌∙◌, lt-ltb, le-ltb, length-append, take-take}
 use mathlib.Core.List.{List, [], ◌∷◌, ◌++◌}
@@ -11,8 +12,11 @@ use Rattle.std.proofs.lemmas.List.Edits.{sets}
 use Rattle.ir.specs.Records.{six}
 use Rattle.ir.specs.Scratch.{hands_at}
 use Rattle.ir.specs.declared.counters.Counters.{Counters}
-use Rattle.ir.specs.declared.answer.Answer.{Answer}
-use Rattle.ir.specs.declared.answer.Answer.TheVariants.{Refused}
+use Rattle.ir.specs.declared.refusal.Refusal.{Refusal}
+use Rattle.ir.specs.declared.refusal.Refusal.TheVariants.{NoRoom}
+use Rattle.ir.specs.Refusals.{refusal_number}
+use Rattle.ir.specs.Answer.{Answer}
+use Rattle.ir.specs.Answer.{Refused}
 use Rattle.ir.specs.declared.atom.Atom.{Atom}
 use Rattle.ir.specs.declared.atom.Atom.TheVariants.{Class}
 use Rattle.ir.specs.declared.deferral.Deferral.TheVariants.{DisjointUnionCovering}
@@ -30,12 +34,8 @@ use Rattle.hands.specs.Hands.{InHand, four, EnvIn, Did}
 use Rattle.hands.specs.HandLaws.{put_frame, hand_more}
 use Rattle.antecedents.specs.WriteLaws.{hands_word, hands_pool}
 use Rattle.leaves.specs.StepLaws.{env_kept}
-use Rattle.leaves.specs.Classes.{class_in}
-use Rattle.leaves.specs.declared.read.ClassId.{ClassId}
-use Rattle.leaves.specs.declared.read.ClassId.TheVariants as ClassIs
+use Rattle.leaves.specs.Classes.{option_in}
 use Rattle.axioms.specs.RoleLaws.{hand_one}
-use Rattle.disjointness.specs.declared.cover.Heads.{Heads}
-use Rattle.disjointness.specs.declared.cover.Heads.TheVariants.{All, Missing, Long}
 use Rattle.disjointness.specs.Covers.{Members, Covering, all, missing, long, one_more, with_head, heads_of, cover_by, Outcome, HeadsDid, HeadsSo, HeadsAt}
 
 -- the rule, by its heads
@@ -92,34 +92,34 @@ module _ (k : Counters) (i count : ℕ) (w₀ w : List ℕ) (j m : ℕ) (H : Hel
       let f : i + (j + 1) ≡ i + j + 1 = omega arith in
       rw (e, f, m_is) refl
 
-  module _ (o : ClassId) (eo : (env : Env) → EnvIn env k w → class_in o ≡ class_id_of env (concept_at w m)) where
+  module _ (o : Code.Option ℕ) (eo : (env : Env) → EnvIn env k w → option_in o ≡ class_id_of env (concept_at w m)) where
     next_is : (env : Env) (hs : List Atom) → EnvIn env k w₀ → heads_of env (pool_of w₀ k.concepts) (run w₀ (i + j) (count - j)) hs
-        ≡ with_head (λ more. heads_of env (pool_of w₀ k.concepts) (run w₀ (i + (j + 1)) (count - (j + 1))) more) hs (class_in o)
+        ≡ with_head (λ more. heads_of env (pool_of w₀ k.concepts) (run w₀ (i + (j + 1)) (count - (j + 1))) more) hs (option_in o)
     unfolding heads_of
     next_is env hs E =
         ap (λ (l : List ℕ). heads_of env (pool_of w₀ k.concepts) l hs) run_next
         ∙ ap (with_head (λ more. heads_of env (pool_of w₀ k.concepts) (run w₀ (i + (j + 1)) (count - (j + 1))) more) hs)
         (ap (class_id_of env) (sym concept_is) ∙ sym (eo env (env_kept env k w₀ w 13501 (omega arith) A.frame E)))
 
-    pub heads_missing : o ≡ ClassIs.None → HeadsDid k i count w₀ w Missing
+    pub heads_missing : o ≡ Code.None → HeadsDid k i count w₀ w (Ok false)
     heads_missing q = record {
       equal = λ env x E h. let S = A.so env x E h in
-          subst (Outcome 13500 count w x Missing) (sym (S.rest ∙ next_is env S.heads E ∙ ap (λ (z : ClassId). with_head (λ more. heads_of env (pool_of w₀ k.concepts) (run w₀ (i + (j + 1)) (count - (j + 1))) more) S.heads (class_in z)) q)) tt;
+          subst (Outcome 13500 count w x (Ok false)) (sym (S.rest ∙ next_is env S.heads E ∙ ap (λ (z : Code.Option ℕ). with_head (λ more. heads_of env (pool_of w₀ k.concepts) (run w₀ (i + (j + 1)) (count - (j + 1))) more) S.heads (option_in z)) q)) tt;
       frame = A.frame;
       few = λ z. absurd (let y : ◌≡◌ {A = ℕ} 0 1 = cc in omega arith);
     }
 
-    module _ (c : ℕ) (q : o ≡ ClassIs.Some c) where
+    module _ (c : ℕ) (q : o ≡ Code.Some c) where
       found : (env : Env) (x : Atom) (E : EnvIn env k w₀) (S : HeadsSo env (pool_of w₀ k.concepts) i count w₀ x w j) → heads_of env (pool_of w₀ k.concepts) (run w₀ i count) []
           ≡ one_more (λ more. heads_of env (pool_of w₀ k.concepts) (run w₀ (i + (j + 1)) (count - (j + 1))) more) S.heads c (ltb (length S.heads) 256)
-      found env x E S = S.rest ∙ next_is env S.heads E ∙ ap (λ (z : ClassId). with_head (λ more. heads_of env (pool_of w₀ k.concepts) (run w₀ (i + (j + 1)) (count - (j + 1))) more) S.heads (class_in z)) q
+      found env x E S = S.rest ∙ next_is env S.heads E ∙ ap (λ (z : Code.Option ℕ). with_head (λ more. heads_of env (pool_of w₀ k.concepts) (run w₀ (i + (j + 1)) (count - (j + 1))) more) S.heads (option_in z)) q
 
-      pub heads_long : 256 ≤ j → HeadsDid k i count w₀ w Long
+      pub heads_long : 256 ≤ j → HeadsDid k i count w₀ w (Err NoRoom)
       heads_long h = record {
         equal = λ env x E y. let S = A.so env x E y in
             let z : heads_of env (pool_of w₀ k.concepts) (run w₀ i count) [] ≡ long
             = found env x E S ∙ ap (λ (b : Bool). one_more (λ more. heads_of env (pool_of w₀ k.concepts) (run w₀ (i + (j + 1)) (count - (j + 1))) more) S.heads c b) (le-ltb (length S.heads) 256 (omega (arith, h, S.long))) in
-            subst (Outcome 13500 count w x Long) (sym z) tt;
+            subst (Outcome 13500 count w x (Err NoRoom)) (sym z) refl;
         frame = A.frame;
         few = λ z. absurd (let y : ◌≡◌ {A = ℕ} 0 1 = cc in omega arith);
       }
@@ -144,7 +144,7 @@ module _ (k : Counters) (i count : ℕ) (w₀ w : List ℕ) (j m : ℕ) (H : Hel
                 };
           }
 
-pub heads_all : (k : Counters) (i count : ℕ) (w₀ w : List ℕ) (j : ℕ) → HeadsAt k i count w₀ w j → count ≤ j → HeadsDid k i count w₀ w All
+pub heads_all : (k : Counters) (i count : ℕ) (w₀ w : List ℕ) (j : ℕ) → HeadsAt k i count w₀ w j → count ≤ j → HeadsDid k i count w₀ w (Ok true)
 unfolding heads_of tab
 heads_all k i count w₀ w j A h =
     let q : j ≡ count = omega (arith, h, A.within) in
@@ -152,7 +152,7 @@ heads_all k i count w₀ w j A h =
       equal = λ env x E y. let S = A.so env x E y in
           let e : count - j ≡ 0 = omega arith in
           let z : heads_of env (pool_of w₀ k.concepts) (run w₀ i count) [] ≡ all S.heads = S.rest ∙ rw e refl in
-          subst (Outcome 13500 count w x All) (sym z) (record { hand = subst (λ (n : ℕ). InHand w 13500 (1 + n) (x ∷ S.heads)) q S.hand; few = omega (arith, A.few) });
+          subst (Outcome 13500 count w x (Ok true)) (sym z) (record { hand = subst (λ (n : ℕ). InHand w 13500 (1 + n) (x ∷ S.heads)) q S.hand; few = omega (arith, A.few) });
       frame = A.frame;
       few = λ z. omega (arith, A.few);
     }
@@ -168,7 +168,7 @@ module _ (k : Counters) (class i count : ℕ) (w w1 w2 : List ℕ) (e1 : w1 ≡ 
   one : InHand w1 13500 1 (Class class 0 ∷ [])
   one = hand_one 13500 w w1 (Class class 0) e1 fit
 
-  module _ (r : Heads) (D : HeadsDid k i count w1 w2 r) where
+  module _ (r : Result Bool Refusal) (D : HeadsDid k i count w1 w2 r) where
     pub whole_frame : take (6 * 13500) w2 ≡ take (6 * 13500) w
     whole_frame = sym (take-take (6 * 13500) (6 * (13500 + 1)) w2 (omega arith)) ∙ ap (take (6 * 13500)) D.frame ∙ take-take (6 * 13500) (6 * (13500 + 1)) w1 (omega arith) ∙ first
 
@@ -181,19 +181,19 @@ module _ (k : Counters) (class i count : ℕ) (w w1 w2 : List ℕ) (e1 : w1 ≡ 
         (D.equal env (Class class 0) (env_kept env k w w1 13500 (omega arith) first E) one))
 
     module _ (c a d c' a' d' : List ℕ) (z : Answer) (g : GoodAnswer z) (q : KeptAnswer k z) where
-      all_by : (env : Env) (s : Out) (X : Covering) → Outcome 13500 count w2 (Class class 0) All X
+      all_by : (env : Env) (s : Out) (X : Covering) → Outcome 13500 count w2 (Class class 0) (Ok true) X
           → ((h : List Atom) → InHand w2 13500 (1 + count) (Class class 0 ∷ h) → after z c' a' d ≡ shown (λ _. 0) k env.rooms (push env (Class class 0 ∷ []) h s))
           → after z c' a' d ≡ shown (λ _. 0) k env.rooms (cover_by env class X s)
       all_by env s (all hs) O P = P hs O.hand
       all_by env s missing O P = absurd O
       all_by env s long O P = absurd O
 
-      pub cover_all : r ≡ All
+      pub cover_all : r ≡ Ok true
           → ((env : Env) (b h : List Atom) (s : Out) (d : List ℕ) → 1 ≡ length b → InHand w2 13500 (1 + count) (b ++ h) → Lent env.rooms c a d → tables k c a d ≡ show k env.rooms s → after z c' a' d ≡ shown (λ _. 0) k env.rooms (push env b h s))
           → Did (λ _. 0) 0 (λ env f b s. cover env (pool_of w k.concepts) class (run w i count) [] s) k 13500 0 (four w c a d) (four w2 c' a' d) z
       cover_all e P = record {
         equal = λ env f b s lo E y t.
-            all_by env s (heads_of env (pool_of w k.concepts) (run w i count) []) (subst (λ (u : Heads). Outcome 13500 count w2 (Class class 0) u (heads_of env (pool_of w k.concepts) (run w i count) [])) e (outcome env E.read))
+            all_by env s (heads_of env (pool_of w k.concepts) (run w i count) []) (subst (λ (u : Result Bool Refusal). Outcome 13500 count w2 (Class class 0) u (heads_of env (pool_of w k.concepts) (run w i count) [])) e (outcome env E.read))
             (λ h I. P env (Class class 0 ∷ []) h s d refl I E.lent t)
             ∙ ap (shown (λ _. 0) k env.rooms) (sym (cover_by_lem env (pool_of w k.concepts) class (run w i count) [] s));
         frame = whole_frame;
@@ -201,18 +201,18 @@ module _ (k : Counters) (class i count : ℕ) (w w1 w2 : List ℕ) (e1 : w1 ≡ 
         kept = q;
       }
 
-      missing_by : (env : Env) (s : Out) (X : Covering) → Outcome 13500 count w2 (Class class 0) Missing X
+      missing_by : (env : Env) (s : Out) (X : Covering) → Outcome 13500 count w2 (Class class 0) (Ok false) X
           → after z c a d' ≡ shown (λ _. 0) k env.rooms (defer env DisjointUnionCovering s) → after z c a d' ≡ shown (λ _. 0) k env.rooms (cover_by env class X s)
       missing_by env s (all hs) O P = absurd O
       missing_by env s missing O P = P
       missing_by env s long O P = absurd O
 
-      pub cover_missing : r ≡ Missing
+      pub cover_missing : r ≡ Ok false
           → ((env : Env) (s : Out) (c a : List ℕ) → Lent env.rooms c a d → tables k c a d ≡ show k env.rooms s → after z c a d' ≡ shown (λ _. 0) k env.rooms (defer env DisjointUnionCovering s))
           → Did (λ _. 0) 0 (λ env f b s. cover env (pool_of w k.concepts) class (run w i count) [] s) k 13500 0 (four w c a d) (four w2 c a d') z
       cover_missing e P = record {
         equal = λ env f b s lo E y t.
-            missing_by env s (heads_of env (pool_of w k.concepts) (run w i count) []) (subst (λ (u : Heads). Outcome 13500 count w2 (Class class 0) u (heads_of env (pool_of w k.concepts) (run w i count) [])) e (outcome env E.read))
+            missing_by env s (heads_of env (pool_of w k.concepts) (run w i count) []) (subst (λ (u : Result Bool Refusal). Outcome 13500 count w2 (Class class 0) u (heads_of env (pool_of w k.concepts) (run w i count) [])) e (outcome env E.read))
             (P env s c a E.lent t)
             ∙ ap (shown (λ _. 0) k env.rooms) (sym (cover_by_lem env (pool_of w k.concepts) class (run w i count) [] s));
         frame = whole_frame;
@@ -220,15 +220,15 @@ module _ (k : Counters) (class i count : ℕ) (w w1 w2 : List ℕ) (e1 : w1 ≡ 
         kept = q;
       }
 
-    long_by : (env : Env) (s : Out) (X : Covering) → Outcome 13500 count w2 (Class class 0) Long X → refused 12 ≡ shown (λ _. 0) k env.rooms (cover_by env class X s)
-    long_by env s (all hs) O = absurd O
-    long_by env s missing O = absurd O
-    long_by env s long O = refl
+    long_by : (env : Env) (s : Out) (o : Refusal) (X : Covering) → Outcome 13500 count w2 (Class class 0) (Err o) X → refused (refusal_number o) ≡ shown (λ _. 0) k env.rooms (cover_by env class X s)
+    long_by env s o (all hs) O = absurd O
+    long_by env s o missing O = absurd O
+    long_by env s o long O = ap refused O
 
-    pub cover_long : (c a d : List ℕ) → r ≡ Long → Did (λ _. 0) 0 (λ env f b s. cover env (pool_of w k.concepts) class (run w i count) [] s) k 13500 0 (four w c a d) (four w2 c a d) (Refused 12)
-    cover_long c a d e = record {
+    pub cover_long : (c a d : List ℕ) (o : Refusal) → r ≡ Err o → Did (λ _. 0) 0 (λ env f b s. cover env (pool_of w k.concepts) class (run w i count) [] s) k 13500 0 (four w c a d) (four w2 c a d) (Refused (refusal_number o))
+    cover_long c a d o e = record {
       equal = λ env f b s lo E y t.
-          long_by env s (heads_of env (pool_of w k.concepts) (run w i count) []) (subst (λ (u : Heads). Outcome 13500 count w2 (Class class 0) u (heads_of env (pool_of w k.concepts) (run w i count) [])) e (outcome env E.read))
+          long_by env s o (heads_of env (pool_of w k.concepts) (run w i count) []) (subst (λ (u : Result Bool Refusal). Outcome 13500 count w2 (Class class 0) u (heads_of env (pool_of w k.concepts) (run w i count) [])) e (outcome env E.read))
           ∙ ap (shown (λ _. 0) k env.rooms) (sym (cover_by_lem env (pool_of w k.concepts) class (run w i count) [] s));
       frame = whole_frame;
       good = tt;

@@ -1,10 +1,12 @@
 -- The heads that cover a class: all of them, or why there are none.
 use Rattle.axioms.specs.RoleAxioms.{hand_at}
-use Rattle.std.specs.Prelude.{◌≡◌, Bool, true, false, List, [], ◌∷◌, ◌++◌, ℕ, ◌+◌, ◌*◌, ◌-◌, ◌<◌, ◌≤◌, ltb, length, get_or, take}
+use Rattle.std.specs.Prelude.{◌≡◌, Bool, true, false, List, [], ◌∷◌, ◌++◌, ℕ, ◌+◌, ◌*◌, ◌-◌, ◌<◌, ◌≤◌, ltb, length, get_or, take, Result, Ok, Err}
 use Rattle.std.proofs.Math.Option.{Option, none, some}
 use Prim.{Unit}
 use Rattle.ir.specs.Scratch.{hands_at}
 use Rattle.ir.specs.declared.counters.Counters.{Counters}
+use Rattle.ir.specs.declared.refusal.Refusal.{Refusal}
+use Rattle.ir.specs.Refusals.{refusal_number}
 use Rattle.ir.specs.declared.atom.Atom.{Atom}
 use Rattle.ir.specs.declared.atom.Atom.TheVariants.{Class}
 use Rattle.ir.specs.declared.deferral.Deferral.TheVariants.{DisjointUnionCovering}
@@ -13,8 +15,6 @@ use Rattle.rules.specs.Pool.{Pool, at}
 use Rattle.rules.specs.State.{Env, E, class_id_of, push, defer}
 use Rattle.pool.specs.Layout.{run, pool_of}
 use Rattle.hands.specs.Hands.{InHand, EnvIn}
-use Rattle.disjointness.specs.declared.cover.Heads.{Heads}
-use Rattle.disjointness.specs.declared.cover.Heads.TheVariants.{All, Missing, Long}
 
 -- the `count` words from i on are concepts, and lie below the hands
 pub record Members (w : List ℕ) (k : Counters) (i count : ℕ) : Type 0 where
@@ -44,26 +44,27 @@ cover_by env class (all hs) = push env (Class class 0 ∷ []) hs
 cover_by env class missing = defer env DisjointUnionCovering
 cover_by env class long = refuse 12
 
--- the code's answer, with the words at exit: x stands first in hand, the heads behind it
+-- the words at exit: x stands first in hand, the heads behind it
 pub record AllIn (base count : ℕ) (w : List ℕ) (x : Atom) (hs : List Atom) : Type 0 where
   pub hand : InHand w base (1 + count) (x ∷ hs)
   pub few : count ≤ 256
 
-abbrev pub Outcome : ℕ → ℕ → List ℕ → Atom → Heads → Covering → Type 0
-Outcome base count w x All (all hs) = AllIn base count w x hs
-Outcome base count w x All missing = ⊥
-Outcome base count w x All long = ⊥
-Outcome base count w x Missing (all hs) = ⊥
-Outcome base count w x Missing missing = Unit {0}
-Outcome base count w x Missing long = ⊥
-Outcome base count w x Long (all hs) = ⊥
-Outcome base count w x Long missing = ⊥
-Outcome base count w x Long long = Unit {0}
+-- the code's answer: whether each member has a head, or that they are too many
+abbrev pub Outcome : ℕ → ℕ → List ℕ → Atom → Result Bool Refusal → Covering → Type 0
+Outcome base count w x (Ok true) (all hs) = AllIn base count w x hs
+Outcome base count w x (Ok true) missing = ⊥
+Outcome base count w x (Ok true) long = ⊥
+Outcome base count w x (Ok false) (all hs) = ⊥
+Outcome base count w x (Ok false) missing = Unit {0}
+Outcome base count w x (Ok false) long = ⊥
+Outcome base count w x (Err e) (all hs) = ⊥
+Outcome base count w x (Err e) missing = ⊥
+Outcome base count w x (Err e) long = refusal_number e ≡ 12
 
-pub record HeadsDid (k : Counters) (i count : ℕ) (w w' : List ℕ) (r : Heads) : Type 0 where
+pub record HeadsDid (k : Counters) (i count : ℕ) (w w' : List ℕ) (r : Result Bool Refusal) : Type 0 where
   pub equal : (env : Env) (x : Atom) → EnvIn env k w → InHand w hand_at 1 (x ∷ []) → Outcome hand_at count w' x r (heads_of env (pool_of w k.concepts) (run w i count) [])
   pub frame : take (6 * (hand_at + 1)) w' ≡ take (6 * (hand_at + 1)) w
-  pub few : r ≡ All → count ≤ 256
+  pub few : r ≡ Ok true → count ≤ 256
 
 -- j members are done
 pub record HeadsSo (env : Env) (pool : Pool) (i count : ℕ) (w₀ : List ℕ) (x : Atom) (w : List ℕ) (j : ℕ) : Type 0 where

@@ -2,9 +2,11 @@
 use Rattle.std.specs.Prelude.{◌≡◌, refl, List, ℕ, suc, ◌<◌}
 use Rattle.std.proofs.Common.{sym, ap, subst, ◌∙◌, arith}
 use Rattle.std.proofs.Math.Option.{Option, none, some}
+use Rattle.std.specs.Prelude as Code
 use Rattle.ir.specs.declared.counters.Counters.{Counters}
-use Rattle.ir.specs.declared.answer.Encoded.{Encoded}
-use Rattle.ir.specs.declared.answer.Encoded.TheVariants.{Found, Unsupported, Refused}
+use Rattle.ir.specs.Encoded.{Encoded, encoded}
+use Rattle.ir.specs.Encoded.{Found, Unsupported, Refused}
+use Rattle.ir.specs.declared.answer.Alternatives.{Alternatives as Counts}
 use Rattle.rules.specs.Base.{Res, ok, refused}
 use Rattle.rules.specs.Pool.{Pool}
 use Rattle.rules.specs.Post.{Post, gives}
@@ -17,9 +19,10 @@ use Rattle.hands.specs.Hands.{EnvIn}
 use Rattle.leaves.specs.StepLaws.{show_alike, visits_are, limit_is, var_is_lem}
 use Rattle.antecedents.specs.States.{Counted, varied, summary}
 use Rattle.antecedents.specs.PickLaws.{fine_counted}
+use Rattle.antecedents.specs.Counts.{GoodEncoded}
 use Rattle.disjointness.specs.Turns.{Has}
 use Rattle.axioms.specs.QuietLaws.{Quiet, encode_quiet, drawn_quiet}
-use Rattle.axioms.specs.MemberLaws.{FoundIs, found_is, alike_varied}
+use Rattle.axioms.specs.MemberLaws.{FoundIs, found_is, alike_varied, AlikeEncoded}
 
 -- what encode_antecedent promises of its answer r
 abbrev pub Tells : List ℕ → Counters → ℕ → Encoded → Type 0
@@ -59,6 +62,19 @@ as_found k n count j r q X e = found_ended k n count X (found_is k n count j X (
 
 abbrev pub as_none : (k n : Counters) (r : Encoded) → r ≡ Unsupported n → (X : Res Out (Option Alternatives)) → r ≡ summary k X → Ended k n X
 as_none k n r q X e = none_ended k n X (none_is k n X (sym q ∙ e))
+
+-- with alternatives or without
+pub ended_ok : (k n : Counters) (o : Code.Option Counts) (X : Res Out (Option Alternatives)) → encoded n (Code.Ok o) ≡ summary k X → Ended k n X
+ended_ok k n (Code.Some p) X e = as_found k n p.count p.longest (Found n p.count p.longest) refl X e
+ended_ok k n Code.None X e = as_none k n (Unsupported n) refl X e
+
+pub alike_ok : (k n : Counters) (o : Code.Option Counts) → AlikeEncoded k (encoded n (Code.Ok o)) → Alike k n
+alike_ok k n (Code.Some p) A = A
+alike_ok k n Code.None A = A
+
+pub good_ok : (n : Counters) (o : Code.Option Counts) → GoodEncoded (encoded n (Code.Ok o)) → Good n
+good_ok n (Code.Some p) g = g
+good_ok n Code.None g = g
 
 -- ---- the state
 pub counted_drawn : (k : Counters) (rooms : Rooms) (s : Out) (c a d : List ℕ) → tables k c a d ≡ show k rooms s → Counted k s

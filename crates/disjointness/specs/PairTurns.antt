@@ -3,8 +3,8 @@ use Rattle.std.specs.Prelude.{◌≡◌, Bool, List, ◌++◌, ℕ, ◌-◌, ◌
 use Prim.{Unit}
 use Rattle.words.specs.Words.{words}
 use Rattle.ir.specs.declared.counters.Counters.{Counters}
-use Rattle.ir.specs.declared.answer.Answer.{Answer}
-use Rattle.ir.specs.declared.answer.Encoded.{Encoded}
+use Rattle.ir.specs.Answer.{Answer}
+use Rattle.ir.specs.Encoded.{Encoded}
 use Rattle.ir.specs.declared.atom.Atom.{Atom}
 use Rattle.rules.specs.Base.{◌>>=◌, for_each}
 use Rattle.rules.specs.Pool.{Pool}

@@ -2,14 +2,16 @@
 use Rattle.std.specs.Prelude.{◌≡◌, refl, Bool, true, false, List, ℕ, suc, ◌<◌}
 use Rattle.std.proofs.Common.{sym, ap, subst, ◌∙◌, arith}
 use Rattle.std.proofs.Math.Option.{Option}
+use Rattle.std.specs.Prelude as Code
 use Prim.{Unit, tt}
 use Rattle.words.specs.Words.{words}
 use Rattle.ir.specs.Counts.{vars_restarted}
 use Rattle.ir.specs.declared.counters.Counters.{Counters}
-use Rattle.ir.specs.declared.answer.Answer.{Answer}
-use Rattle.ir.specs.declared.answer.Answer.TheVariants as Answers
-use Rattle.ir.specs.declared.answer.Encoded.{Encoded}
-use Rattle.ir.specs.declared.answer.Encoded.TheVariants.{Found, Refused}
+use Rattle.ir.specs.Answer.{Answer}
+use Rattle.ir.specs.Answer as Answers
+use Rattle.ir.specs.Encoded.{Encoded, encoded}
+use Rattle.ir.specs.Encoded.{Found, Unsupported, Refused}
+use Rattle.ir.specs.declared.answer.Alternatives.{Alternatives as Counts}
 use Rattle.ir.specs.declared.deferral.Deferral.TheVariants.{DisjointAntecedent}
 use Rattle.rules.specs.Base.{Res, ok, refused, then}
 use Rattle.rules.specs.Pool.{Pool}
@@ -30,7 +32,7 @@ use Rattle.axioms.specs.MemberLaws.{AlikeEncoded, encoded_alike, found_is, found
 use Rattle.disjointness.specs.TurnLaws.{sourced_kept}
 use Rattle.disjointness.specs.Pairs.{unencoded, pair_rule}
 use Rattle.disjointness.specs.PairTurns.{PushedPairs, GaveUp, First, pair_from}
-use Rattle.disjointness.specs.EncodedLaws.{Tells, Ended, found_ended, refused_is, as_found, counted_drawn, ended_alike, ended_drawn, told_drawn, found_has}
+use Rattle.disjointness.specs.EncodedLaws.{Tells, Ended, found_ended, refused_is, as_found, as_none, counted_drawn, ended_alike, ended_drawn, told_drawn, found_has}
 
 -- ---- a pair that cannot be encoded
 pub gave_up : (k : Counters) (deferred : Bool) (d d' : List ℕ) (r : Answer) → deferred ≡ true
@@ -157,6 +159,20 @@ module _ (s : List ℕ) (x y : ℕ) (first : Encoded) (F : First s x y first) wh
         good = D.good;
         kept = kept_then F.counters m z (alike_then F.counters l m A B) D.kept;
       }
+
+-- not both have alternatives
+module _ (s : List ℕ) (x y : ℕ) (l m : Counters) (deferred : Bool) (c a d d' : List ℕ) (z : Answer) where
+  pub unpaired : (o o' : Code.Option Counts) (F : First s x y (encoded l (Code.Ok o))) → Tells (words s) l y (encoded m (Code.Ok o')) → Good m → ((p q : Counts) → o ≡ Code.Some p → o' ≡ Code.Some q → ⊥)
+      → GaveUp m deferred d d' z → SecondDid s x y (encoded l (Code.Ok o)) F deferred c a d (four (words s) c a d') z
+  unpaired (Code.Some p) (Code.Some q) F C g n U = absurd (n p q refl refl)
+  unpaired (Code.Some p) Code.None F C g n U =
+      let r : Encoded = Found l p.count p.longest in
+      second_given_up s x y r F deferred c a d l (as_found F.counters l p.count p.longest r refl) (first_alike s x y r F) (Unsupported m) C m (as_none l m (Unsupported m) refl) d' z (λ env X Y p q u. refl) (encoded_alike (words s) l y (Unsupported m) C) g U
+  unpaired Code.None (Code.Some q) F C g n U =
+      let r : Encoded = Found m q.count q.longest in
+      second_given_up s x y (Unsupported l) F deferred c a d l (as_none F.counters l (Unsupported l) refl) (first_alike s x y (Unsupported l) F) r C m (as_found l m q.count q.longest r refl) d' z (λ env X Y p q u. refl) (encoded_alike (words s) l y r C) g U
+  unpaired Code.None Code.None F C g n U =
+      second_given_up s x y (Unsupported l) F deferred c a d l (as_none F.counters l (Unsupported l) refl) (first_alike s x y (Unsupported l) F) (Unsupported m) C m (as_none l m (Unsupported m) refl) d' z (λ env X Y p q u. refl) (encoded_alike (words s) l y (Unsupported m) C) g U
 
 -- ---- and the variables begin again before
 abbrev pub first_restarted : (s : List ℕ) (k k1 : Counters) (x y : ℕ) (r : Encoded) → k1 ≡ vars_restarted k → Encoding s k → Good k → x < k.concepts → y < k.concepts → Tells (words s) k1 x r → GoodEncoded r → First s x y r

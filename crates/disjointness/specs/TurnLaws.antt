@@ -7,8 +7,8 @@ use Prim.{Unit, tt}
 use Rattle.std.proofs.Math.ListN.{drop, drop_of_length-le}
 use Rattle.ir.specs.Scratch.{hands_at}
 use Rattle.ir.specs.declared.counters.Counters.{Counters}
-use Rattle.ir.specs.declared.answer.Answer.{Answer}
-use Rattle.ir.specs.declared.answer.Answer.TheVariants.{Done, Refused}
+use Rattle.ir.specs.Answer.{Answer}
+use Rattle.ir.specs.Answer.{Done, Refused}
 use Rattle.ir.specs.declared.atom.Atom.{Atom}
 use Rattle.rules.specs.Base.{Res, ok, refused, then, for_each}
 use Rattle.rules.specs.State.{Env, Rooms, Out, E}

@@ -2,37 +2,37 @@
 ghost use Rattle.std.specs.Prelude.{ℕ, ◌+◌, ◌<◌, ◌≤◌, ◌^◌, length};
 ghost use Rattle.words.specs.Words.{words};
 ghost use Rattle.pool.specs.Layout.{pool_of};
-ghost use Rattle.tables.specs.Drawn.{Sized};
 ghost use Rattle.tables.specs.Good.{Good};
-ghost use Rattle.hands.specs.Hands.{four, Did};
+ghost use Rattle.hands.specs.Hands.{Did, four_of};
 ghost use Rattle.axioms.specs.RoleAxioms.{hand_at, in_hand_bytes};
 ghost use Rattle.axioms.specs.Bodies.{Encoding, member_rule};
+ghost use Rattle.ir.specs.Answer.{done};
+ghost use Rattle.tables.specs.Lending.{SameReferences};
 
 use axioms::bodies;
-use ir::answer::{Answer, Encoded};
-use ir::counters::Counters;
 use ir::deferral::Deferral;
+use ir::refusal::Refusal;
+use tables::lent::Tables;
 
 pub fn union_member(
+    lent: &mut Tables<'_>,
     scratch: &mut [u8],
-    clauses: &mut [u8],
-    atoms: &mut [u8],
-    deferrals: &mut [u8],
-    k: Counters,
     class: u32,
     m: u32,
-) -> Answer
-    requires { Encoding scratch.old k × (m < k.concepts) × (in_hand_bytes ≤ length scratch.old) × (class + 1 < 2 ^ 32) × Sized (length clauses.old) (length atoms.old) (length deferrals.old) × Good k }
-    ensures { let old = four (words scratch.old) (words clauses.old) (words atoms.old) (words deferrals.old) in
-        let new = four (words scratch.new) (words clauses.new) (words atoms.new) (words deferrals.new) in
-        Did (λ _. 0) 0 (λ env f b s. member_rule env (pool_of old.scratch k.concepts) class m s) k hand_at 0 old new result }
+) -> Result<(), Refusal>
+    requires { Encoding scratch.old lent.old.counters × (m < lent.old.counters.concepts) × (in_hand_bytes ≤ length scratch.old) × (class + 1 < 2 ^ 32) × Good lent.old.counters }
+    ensures references { SameReferences lent.old lent.new }
+    ensures did { let old = four_of (words scratch.old) lent.old in
+        let new = four_of (words scratch.new) lent.new in
+        Did (λ _. 0) 0 (λ env f b s. member_rule env (pool_of old.scratch lent.old.counters.concepts) class m s) lent.old.counters hand_at 0 old new (done lent.new.counters result) }
 {
-    let l = k.restart_vars();
-    match antecedents::encode_antecedent(scratch, l, m) {
-        Encoded::Found(n, count, _) => {
-            bodies::push_bodies(scratch, clauses, atoms, n, m, count, 1, class)
-        }
-        Encoded::Unsupported(n) => tables::defer(deferrals, n, Deferral::DisjointUnionMember),
-        Encoded::Refused(e) => Answer::Refused(e),
+    lent.counters.restart_vars();
+    match antecedents::encode_antecedent(scratch, &mut lent.counters, m)? {
+        Some(alternatives) => bodies::push_bodies(lent, scratch, m, alternatives.count, 1, class),
+        None => tables::defer(
+            lent.deferrals,
+            &mut lent.counters,
+            Deferral::DisjointUnionMember,
+        ),
     }
 }

@@ -1,8 +1,9 @@
 -- Bodies and heads in hand, and what a call that emits does to the lent tables.
 use Rattle.std.specs.Prelude.{◌≡◌, false, List, ◌++◌, ℕ, ◌+◌, ◌*◌, ◌<◌, ◌≤◌, length, take}
+use Rattle.words.specs.Words.{words}
 use Rattle.ir.specs.Options.{card_disjunct_atoms, equal_names}
 use Rattle.ir.specs.declared.counters.Counters.{Counters}
-use Rattle.ir.specs.declared.answer.Answer.{Answer}
+use Rattle.ir.specs.Answer.{Answer}
 use Rattle.ir.specs.declared.atom.Atom.{Atom}
 use Rattle.rules.specs.Base.{Res, contains}
 use Rattle.rules.specs.Deck.{most_classes}
@@ -11,6 +12,7 @@ use Rattle.rules.specs.Run.{flat}
 use Rattle.rules.specs.Post.{Post}
 use Rattle.inverse.specs.Layout.{RolesHeld}
 use Rattle.ontology.specs.Layout.{KeysHeld}
+use Rattle.tables.specs.declared.lent.Tables.{Tables}
 use Rattle.tables.specs.Drawn.{tables, show, shown, after, Lent}
 use Rattle.tables.specs.Good.{GoodAnswer, KeptAnswer}
 use Rattle.waiting.specs.Limits.{Waits}
@@ -29,6 +31,10 @@ pub record Four : Type 0 where
 
 abbrev pub four : (w c a d : List ℕ) → Four
 four w c a d = record { scratch = w; clauses = c; atoms = a; deferrals = d }
+
+-- scratch's words beside the lent tables'
+abbrev pub four_of : List ℕ → Tables → Four
+four_of w t = four w (words t.clauses.now) (words t.atoms.now) (words t.deferrals.now)
 
 -- what does not change, as it stands in the counters and in scratch
 pub record EnvIn (env : Env) (k : Counters) (w : List ℕ) : Type 0 where

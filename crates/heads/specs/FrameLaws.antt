@@ -14,7 +14,8 @@ use Rattle.pool.specs.Layout.{pool_words, members_at, field, is_list, concept_at
 use Rattle.pool.specs.declared.record.Record.{Record}
 use Rattle.pool.specs.HeldLaws.{pool_at, pool_kept, held_kept, used_rises, list_grows, list_full, list_within, list_below}
 use Rattle.pool.specs.Tabs.{tab_each}
-use Rattle.tables.specs.Drawn.{Sized}
+use Rattle.tables.specs.declared.lent.Tables.{Tables}
+use Rattle.tables.specs.Lending.{SameReferences}
 use Rattle.tables.specs.Good.{Good, Alike}
 use Rattle.waiting.specs.Limits.{appended}
 use Rattle.waiting.specs.LimitLaws.{appended_below}
@@ -114,6 +115,18 @@ member_of_lem s s' k top c start count i p R ab e N l q =
     let z : members_at + (start + i) ≡ members_at + start + i = omega arith in
     q ∙ member_on s s' k top R ab e (start + i) (omega (arith, N.within)) ∙ ap (λ (j : ℕ). get_or (words s) j 0) z
 
+-- and what the turn knows of it
+pub record Member (s s' : List ℕ) (k k' : Counters) (c start i p : ℕ) : Type 0 where
+  pub is : p ≡ get_or (words s) (members_at + start + i) 0
+  pub less : p < c
+  pub pool : pool_of (words s') k'.concepts ≡ pool_of (words s) k.concepts
+
+pub member : (s s' : List ℕ) (k k' : Counters) (top c start count i p : ℕ) → Reading s k → Alike k k' → hands_at ≤ 6 * top → take (6 * top) (words s') ≡ take (6 * top) (words s) → Run (words s) c start count → i < count
+    → p ≡ get_or (words s') (members_at + (start + i)) 0 → Member s s' k k' c start i p
+member s s' k k' top c start count i p R A ab e N l q =
+    let is : p ≡ get_or (words s) (members_at + start + i) 0 = member_of_lem s s' k top c start count i p R ab e N l q in
+    record { is = is; less = omega (arith, is, N.below i l); pool = pool_alike (words s') k k' A ∙ pool_on s s' k top R ab e }
+
 -- a call above what is in hand, on a concept that is no larger
 pub emitting_on : (s s' : List ℕ) (k k' : Counters) (base n c base' n' c' top : ℕ) → Emitting s k base n c → Alike k k' → Good k' → base ≤ top → take (6 * top) (words s') ≡ take (6 * top) (words s) → length s' ≡ length s
     → c' ≤ c → base ≤ base' → n' ≤ 256 → base' + n' + room_of (words s) c' ≤ base + n + room_of (words s) c → Emitting s' k' base' n' c'
@@ -167,18 +180,9 @@ module _ (s : List ℕ) (k : Counters) (R : Reading s k) (c : ℕ) (h : c < k.co
   filler_below = rw filler_is (parts_child c (concept_at (words s) c) g (R.ready.held.records c h).below)
 
 -- ---- the lent tables
-pub sized_on : (c a d c' a' d' : ℕ) → c' ≡ c → a' ≡ a → d' ≡ d → Sized c a d → Sized c' a' d'
-sized_on c a d c' a' d' x y z S = record { clauses = rw x S.clauses; atoms = rw y S.atoms; deferrals = rw z S.deferrals }
+pub same_then : (t t' t'' : Tables) → SameReferences t t' → SameReferences t' t'' → SameReferences t t''
+same_then t t' t'' a b = (b.0 ∙ a.0, b.1 ∙ a.1, b.2 ∙ a.2, b.3 ∙ a.3, b.4 ∙ a.4, b.5 ∙ a.5)
 
-pub sized_two : (c a d c' a' : ℕ) → c' ≡ c → a' ≡ a → Sized c a d → Sized c' a' 0
-sized_two c a d c' a' x y S = record { clauses = rw x S.clauses; atoms = rw y S.atoms; deferrals = omega arith }
-
-pub sized_one : (c a d d' : ℕ) → d' ≡ d → Sized c a d → Sized 0 0 d'
-sized_one c a d d' z S = record { clauses = omega arith; atoms = omega arith; deferrals = rw z S.deferrals }
-
--- a fresh number fits
-pub var_fits : (k : Counters) → Good k → k.next_var + 1 < 2 ^ 32
-var_fits k g = omega (arith, g.most, g.seen, g.vars)
-
+-- a fresh class fits
 pub class_fits : (k : Counters) → Good k → k.next_class + 1 < 2 ^ 32
 class_fits k g = omega (arith, g.most, g.seen, g.names)

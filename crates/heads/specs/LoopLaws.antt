@@ -2,7 +2,7 @@
 use Rattle.std.specs.Prelude.{◌≡◌, refl, ℕ, suc, ◌+◌, ◌*◌, ◌-◌, ◌≤◌, ◌<◌}
 use Rattle.std.proofs.Common.{sym, ap, ◌∙◌, lt-ltb, le-ltb}
 use Rattle.std.proofs.Math.Path.{subst}
-use mathlib.Core.List.{List, [], ◌∷◌, ◌++◌, append-nil, append_assoc}
+use mathlib.Core.List.{List, [], ◌∷◌, ◌++◌, append_assoc}
 use Rattle.std.proofs.Math.Option.{Option, none, some}
 use Prim.{Unit, tt}
 use native.Mathlib.Omega.{arith}
@@ -12,10 +12,10 @@ use Rattle.words.specs.Words.{words}
 use Rattle.ir.specs.Records.{six}
 use Rattle.ir.specs.Scratch.{hands_at}
 use Rattle.ir.specs.declared.counters.Counters.{Counters}
-use Rattle.ir.specs.declared.answer.Answer.{Answer}
-use Rattle.ir.specs.declared.answer.Answer.TheVariants.{Done, Refused}
-use Rattle.ir.specs.declared.answer.Headed.{Headed}
-use Rattle.ir.specs.declared.answer.Headed.TheVariants as Head
+use Rattle.ir.specs.Answer.{Answer}
+use Rattle.ir.specs.Answer.{Done, Refused}
+use Rattle.ir.specs.Headed.{Headed}
+use Rattle.ir.specs.Headed as Head
 use Rattle.ir.specs.declared.atom.Atom.{Atom}
 use Rattle.ir.specs.declared.deferral.Deferral.TheVariants.{HeadOrDisjunct}
 use Rattle.rules.specs.Base.{Res, ok, refused, then, for_each}
@@ -26,12 +26,14 @@ use Rattle.rules.specs.State.{Env, Out, with, push, defer}
 use Rattle.rules.specs.Heads.{emit_by, emit_step, head_atom_for, heads, head_or, push_heads}
 use Rattle.pool.specs.Layout.{run}
 use Rattle.pool.specs.Tabs.{tab_next, tab_end}
+use Rattle.tables.specs.declared.lent.Tables.{Tables as Lending}
+use Rattle.tables.specs.Lending.{SameReferences}
 use Rattle.tables.specs.Drawn.{Tables, tables, show, shown, after, Lent}
 use Rattle.tables.specs.Good.{Good, GoodAnswer, Alike, KeptAnswer}
-use Rattle.hands.specs.Hands.{InHand, Four, four, EnvHeld, Did}
+use Rattle.hands.specs.Hands.{InHand, Four, four, four_of, EnvHeld, Did}
 use Rattle.hands.specs.HandLaws.{put_frame, hand_kept, hand_more}
 use Rattle.leaves.specs.Made.{headed, shown_atom, GoodHeaded, KeptHeaded, DidAtom}
-use Rattle.leaves.specs.StepLaws.{words_long, alike_same, alike_then, shown_alike, shown_atom_alike, kept_then, env_alike, env_kept, lent_kept, after_done, after_no, drawn_alike}
+use Rattle.leaves.specs.StepLaws.{words_long, alike_then, shown_alike, shown_atom_alike, kept_then, env_alike, env_kept, lent_kept, after_done, after_no, drawn_alike}
 use Rattle.heads.specs.FrameLaws.{frame_less}
 
 -- tables of the same sizes
@@ -43,15 +45,15 @@ pub record SameSizes (x y : Four) : Type 0 where
 pub sizes_on : (w w' c a d c' a' d' : List ℕ) → length c' ≡ length c → length a' ≡ length a → length d' ≡ length d → SameSizes (four w (words c) (words a) (words d)) (four w' (words c') (words a') (words d'))
 sizes_on w w' c a d c' a' d' x y z = record { clauses = words_long c c' x; atoms = words_long a a' y; deferrals = words_long d d' z }
 
+pub sizes_of : (w w' : List ℕ) (t t' : Lending) → SameReferences t t' → SameSizes (four_of w t) (four_of w' t')
+sizes_of w w' t t' R = sizes_on w w' t.clauses.now t.atoms.now t.deferrals.now t'.clauses.now t'.atoms.now t'.deferrals.now R.3 R.4 R.5
+
 -- what does not change, as it stands after some turns
 pub held_on : (env : Env) (k₀ k : Counters) (x₀ x : Four) (top : ℕ) → Alike k₀ k → hands_at ≤ 6 * top → take (6 * top) x.scratch ≡ take (6 * top) x₀.scratch → SameSizes x₀ x → EnvHeld env k₀ x₀ → EnvHeld env k x
 held_on env k₀ k x₀ x top A ab fr S E = record {
   read = env_alike env k₀ k x.scratch A (env_kept env k₀ x₀.scratch x.scratch top ab fr E.read);
   lent = lent_kept env.rooms x₀.clauses x₀.atoms x₀.deferrals x.clauses x.atoms x.deferrals S.clauses S.atoms S.deferrals E.lent;
 }
-
-pub run_first : (w : List ℕ) (a count : ℕ) → run w (a + 0) (count - 0) ≡ run w a count
-run_first w a count = let e : a + 0 ≡ a = omega arith in let f : count - 0 ≡ count = omega arith in rw (e, f) refl
 
 -- ---- And
 pub record Turn (P : Pool) (w₀ : List ℕ) (a count : ℕ) (k₀ : Counters) (base n c v : ℕ) (x₀ x : Four) (k : Counters) (i : ℕ) : Type 0 where
@@ -64,15 +66,6 @@ pub record Turn (P : Pool) (w₀ : List ℕ) (a count : ℕ) (k₀ : Counters) (
       → Y ≡ shown (λ _. 0) k₀ env.rooms (for_each (λ p. emit_by env P f b p v) (run w₀ a count) s)
 
 module _ (P : Pool) (w₀ : List ℕ) (a count : ℕ) (k₀ : Counters) (base n c v : ℕ) (x₀ : Four) where
-  pub turn_first : Good k₀ → Turn P w₀ a count k₀ base n c v x₀ x₀ k₀ 0
-  turn_first g = record {
-    within = omega arith;
-    good = g;
-    alike = alike_same k₀;
-    frame = refl;
-    rest = λ env f b s Y lo E i t go. go s t ∙ ap (λ (l : List ℕ). shown (λ _. 0) k₀ env.rooms (for_each (λ p. emit_by env P f b p v) l s)) (run_first w₀ a count);
-  }
-
   module _ (x : Four) (k : Counters) (i : ℕ) (T : Turn P w₀ a count k₀ base n c v x₀ x k i) where
     pub turn_end : (e : Concept) → e ≡ And (run w₀ a count) → count ≤ i → Did (λ _. 0) c (λ env f b s. emit_step env P (λ h d u. emit_by env P f h d u) b v e s) k₀ base n x₀ x (Done k 0)
     unfolding emit_step for_each
@@ -167,17 +160,6 @@ pub record Turned (P : Pool) (w₀ : List ℕ) (a count : ℕ) (k₀ : Counters)
       → Y ≡ shown (λ _. 0) k₀ env.rooms (or_from env P f b v (run w₀ a count) [] s)
 
 module _ (P : Pool) (w₀ : List ℕ) (a count : ℕ) (k₀ : Counters) (base n c v : ℕ) (x₀ : Four) where
-  pub or_first : Good k₀ → Turned P w₀ a count k₀ base n c v x₀ x₀ k₀ 0
-  or_first g = record {
-    within = omega arith;
-    few = omega arith;
-    good = g;
-    alike = alike_same k₀;
-    frame = refl;
-    rest = λ env f b s Y lo E i t go. let z : n + 0 ≡ n = omega arith in
-        go s [] refl (rw (z, append-nil b) i) t ∙ ap (λ (l : List ℕ). shown (λ _. 0) k₀ env.rooms (or_from env P f b v l [] s)) (run_first w₀ a count);
-  }
-
   module _ (e : Concept) (q : e ≡ Or (run w₀ a count)) (x : Four) (k : Counters) (i : ℕ) (T : Turned P w₀ a count k₀ base n c v x₀ x k i) (ab : hands_at ≤ 6 * base) (S : SameSizes x₀ x) where
     -- the clause, at the end
     pub or_end : (c' a' : List ℕ) (r : Answer) → count ≤ i → GoodAnswer r → KeptAnswer k r

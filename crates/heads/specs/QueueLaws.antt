@@ -13,9 +13,9 @@ use Rattle.ir.specs.Options.{equal_names}
 use Rattle.ir.specs.Records.{six}
 use Rattle.ir.specs.Scratch.{hands_at, limits_at, limits_words}
 use Rattle.ir.specs.declared.counters.Counters.{Counters}
-use Rattle.ir.specs.declared.counters.Visit.TheVariants.{Begun}
+use Rattle.ir.specs.Visit.{Begun}
 use Rattle.ir.specs.declared.role.Role.{Role}
-use Rattle.ir.specs.declared.answer.Headed.TheVariants as Head
+use Rattle.ir.specs.Headed as Head
 use Rattle.ir.specs.declared.atom.Atom.{Atom}
 use Rattle.ir.specs.declared.atom.Atom.TheVariants.{Class, Role as RoleAtom}
 use Rattle.rules.specs.Base.{Res, ok, refused, then}

@@ -1,5 +1,5 @@
 -- The loops of And and Or: what waits after the turns to come waits after the whole. Assumes nothing.
-use Rattle.std.specs.Prelude.{◌≡◌, refl, List, [], ◌∷◌, ◌++◌, ℕ, suc, ◌+◌, ◌*◌, ◌-◌, ◌≤◌, ◌<◌, length}
+use Rattle.std.specs.Prelude.{◌≡◌, List, [], ◌∷◌, ◌++◌, ℕ, suc, ◌+◌, ◌*◌, ◌-◌, ◌≤◌, ◌<◌, length}
 use Rattle.std.proofs.Common.{sym, subst, arith, lt-ltb}
 use Rattle.std.proofs.Math.Option.{Option, none, some}
 use Prim.{Unit}
@@ -8,10 +8,10 @@ use Rattle.std.proofs.lemmas.List.Edits.{sets}
 use Rattle.ir.specs.Records.{six}
 use Rattle.ir.specs.Scratch.{hands_at, limits_at}
 use Rattle.ir.specs.declared.counters.Counters.{Counters}
-use Rattle.ir.specs.declared.answer.Answer.{Answer}
-use Rattle.ir.specs.declared.answer.Answer.TheVariants.{Done}
-use Rattle.ir.specs.declared.answer.Headed.{Headed}
-use Rattle.ir.specs.declared.answer.Headed.TheVariants as Head
+use Rattle.ir.specs.Answer.{Answer}
+use Rattle.ir.specs.Answer.{Done}
+use Rattle.ir.specs.Headed.{Headed}
+use Rattle.ir.specs.Headed as Head
 use Rattle.ir.specs.declared.atom.Atom.{Atom}
 use Rattle.ir.specs.declared.deferral.Deferral.TheVariants.{HeadOrDisjunct}
 use Rattle.rules.specs.Base.{Res, ok, refused, then, for_each}
@@ -32,7 +32,7 @@ use Rattle.rules.proofs.WholeLaws.{push_leaves, defer_leaves}
 use Rattle.hands.specs.QueueLaws.{waiting_kept, waiting_done}
 use Rattle.leaves.specs.Made.{headed, shown_atom, DidAtom}
 use Rattle.leaves.specs.StepLaws.{drawn_alike, hand_zero}
-use Rattle.heads.specs.LoopLaws.{SameSizes, held_on, run_first, Turn, went, one, or_from, Turned, asked, first_of_lem, next, turn}
+use Rattle.heads.specs.LoopLaws.{SameSizes, held_on, Turn, went, one, or_from, Turned, asked, first_of_lem, next, turn}
 
 -- ---- And
 pub record TurnQueues (P : Pool) (w₀ : List ℕ) (a count : ℕ) (k₀ : Counters) (base n c v : ℕ) (x₀ x : Four) (k : Counters) (i : ℕ) : Type 0 where
@@ -41,11 +41,6 @@ pub record TurnQueues (P : Pool) (w₀ : List ℕ) (a count : ℕ) (k₀ : Count
       → Waiting w p (for_each (λ d. emit_by env P f b d v) (run w₀ a count) s)
 
 module _ (P : Pool) (w₀ : List ℕ) (a count : ℕ) (k₀ : Counters) (base n c v : ℕ) (x₀ : Four) where
-  pub turn_queues_first : TurnQueues P w₀ a count k₀ base n c v x₀ x₀ k₀ 0
-  turn_queues_first = record {
-    rest = λ env f b s p w lo E i t W go. subst (λ (l : List ℕ). Waiting w p (for_each (λ d. emit_by env P f b d v) l s)) (run_first w₀ a count) (go s t W);
-  }
-
   module _ (x : Four) (k : Counters) (i : ℕ) (T : TurnQueues P w₀ a count k₀ base n c v x₀ x k i) where
     pub turn_queues_end : (e : Concept) → e ≡ And (run w₀ a count) → count ≤ i → Queues c (λ env f b s. emit_step env P (λ h d u. emit_by env P f h d u) b v e s) k₀ base n x₀ x
     unfolding emit_step for_each
@@ -98,11 +93,6 @@ pub record TurnedQueues (P : Pool) (w₀ : List ℕ) (a count : ℕ) (k₀ : Cou
       → Waiting w p (or_from env P f b v (run w₀ a count) [] s)
 
 module _ (P : Pool) (w₀ : List ℕ) (a count : ℕ) (k₀ : Counters) (base n c v : ℕ) (x₀ : Four) where
-  pub or_queues_first : TurnedQueues P w₀ a count k₀ base n c v x₀ x₀ k₀ 0
-  or_queues_first = record {
-    rest = λ env f b s p w lo E i t W go. subst (λ (l : List ℕ). Waiting w p (or_from env P f b v l [] s)) (run_first w₀ a count) (go s [] refl t W);
-  }
-
   module _ (e : Concept) (q : e ≡ Or (run w₀ a count)) (x : Four) (k : Counters) (i : ℕ) (T : TurnedQueues P w₀ a count k₀ base n c v x₀ x k i) where
     -- the clause, at the end
     pub or_queues_end : (y : Four) → y.scratch ≡ x.scratch → count ≤ i → Queues c (λ env f b s. emit_step env P (λ h d u. emit_by env P f h d u) b v e s) k₀ base n x₀ y

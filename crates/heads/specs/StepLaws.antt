@@ -14,12 +14,12 @@ use Rattle.ir.specs.Counts.{tick, visited, fresh_var, fresh_class}
 use Rattle.ir.specs.Records.{six, Fits}
 use Rattle.ir.specs.Scratch.{hands_at}
 use Rattle.ir.specs.declared.counters.Counters.{Counters}
-use Rattle.ir.specs.declared.counters.Visit.TheVariants.{Begun, Full}
+use Rattle.ir.specs.Visit.{Begun, Full}
 use Rattle.ir.specs.declared.role.Role.{Role}
-use Rattle.ir.specs.declared.answer.Answer.{Answer}
-use Rattle.ir.specs.declared.answer.Answer.TheVariants.{Done, Refused}
-use Rattle.ir.specs.declared.answer.Headed.{Headed}
-use Rattle.ir.specs.declared.answer.Headed.TheVariants as Head
+use Rattle.ir.specs.Answer.{Answer}
+use Rattle.ir.specs.Answer.{Done, Refused}
+use Rattle.ir.specs.Headed.{Headed}
+use Rattle.ir.specs.Headed as Head
 use Rattle.ir.specs.declared.atom.Atom.{Atom}
 use Rattle.ir.specs.declared.atom.Atom.TheVariants.{Class, Role as RoleAtom}
 use Rattle.rules.specs.Base.{Res, ok, refused, then}
@@ -176,63 +176,6 @@ module _ (env : Env) (P : Pool) where
   form_named emit (Max n r d) h = pick_named (is_top (at P d)) h
 
 module _ (P : Pool) where
-  pick_and_lem : (t : Bool) → FormIs.And ≡ pick t FormIs.Leaf FormIs.Named → ⊥
-  pick_and_lem true h = absurd (let z : ◌≡◌ {A = ℕ} 0 1 = cc in omega arith)
-  pick_and_lem false h = absurd (let z : ◌≡◌ {A = ℕ} 0 1 = cc in omega arith)
-
-  pub kind_and : (e : Concept) → FormIs.And ≡ form_of P e → (plain e).kind ≡ 7
-  kind_and Top h = absurd (let z : ◌≡◌ {A = ℕ} 0 1 = cc in omega arith)
-  kind_and Bot h = absurd (let z : ◌≡◌ {A = ℕ} 0 1 = cc in omega arith)
-  kind_and (Atomic a) h = absurd (let z : ◌≡◌ {A = ℕ} 0 1 = cc in omega arith)
-  kind_and (Nominal i) h = absurd (let z : ◌≡◌ {A = ℕ} 0 1 = cc in omega arith)
-  kind_and (SelfRestriction r) h = absurd (let z : ◌≡◌ {A = ℕ} 0 1 = cc in omega arith)
-  kind_and (Not d) h = absurd (let z : ◌≡◌ {A = ℕ} 0 1 = cc in omega arith)
-  kind_and (And l) h = refl
-  kind_and (Or l) h = absurd (let z : ◌≡◌ {A = ℕ} 0 1 = cc in omega arith)
-  kind_and (Some r d) h = absurd (let z : ◌≡◌ {A = ℕ} 0 1 = cc in omega arith)
-  kind_and (All r d) h = absurd (let z : ◌≡◌ {A = ℕ} 0 1 = cc in omega arith)
-  kind_and (Min zero r d) h = absurd (let z : ◌≡◌ {A = ℕ} 0 1 = cc in omega arith)
-  kind_and (Min (suc n) r d) h = absurd (pick_and_lem (is_top (at P d)) h)
-  kind_and (Max n r d) h = absurd (pick_and_lem (is_top (at P d)) h)
-
-  pick_or_lem : (t : Bool) → FormIs.Or ≡ pick t FormIs.Leaf FormIs.Named → ⊥
-  pick_or_lem true h = absurd (let z : ◌≡◌ {A = ℕ} 0 1 = cc in omega arith)
-  pick_or_lem false h = absurd (let z : ◌≡◌ {A = ℕ} 0 1 = cc in omega arith)
-
-  pub kind_or : (e : Concept) → FormIs.Or ≡ form_of P e → (plain e).kind ≡ 8
-  kind_or Top h = absurd (let z : ◌≡◌ {A = ℕ} 0 1 = cc in omega arith)
-  kind_or Bot h = absurd (let z : ◌≡◌ {A = ℕ} 0 1 = cc in omega arith)
-  kind_or (Atomic a) h = absurd (let z : ◌≡◌ {A = ℕ} 0 1 = cc in omega arith)
-  kind_or (Nominal i) h = absurd (let z : ◌≡◌ {A = ℕ} 0 1 = cc in omega arith)
-  kind_or (SelfRestriction r) h = absurd (let z : ◌≡◌ {A = ℕ} 0 1 = cc in omega arith)
-  kind_or (Not d) h = absurd (let z : ◌≡◌ {A = ℕ} 0 1 = cc in omega arith)
-  kind_or (And l) h = absurd (let z : ◌≡◌ {A = ℕ} 0 1 = cc in omega arith)
-  kind_or (Or l) h = refl
-  kind_or (Some r d) h = absurd (let z : ◌≡◌ {A = ℕ} 0 1 = cc in omega arith)
-  kind_or (All r d) h = absurd (let z : ◌≡◌ {A = ℕ} 0 1 = cc in omega arith)
-  kind_or (Min zero r d) h = absurd (let z : ◌≡◌ {A = ℕ} 0 1 = cc in omega arith)
-  kind_or (Min (suc n) r d) h = absurd (pick_or_lem (is_top (at P d)) h)
-  kind_or (Max n r d) h = absurd (pick_or_lem (is_top (at P d)) h)
-
-  pick_all : (t : Bool) → FormIs.All ≡ pick t FormIs.Leaf FormIs.Named → ⊥
-  pick_all true h = absurd (let z : ◌≡◌ {A = ℕ} 0 1 = cc in omega arith)
-  pick_all false h = absurd (let z : ◌≡◌ {A = ℕ} 0 1 = cc in omega arith)
-
-  pub kind_all : (e : Concept) → FormIs.All ≡ form_of P e → (plain e).kind ≡ 10
-  kind_all Top h = absurd (let z : ◌≡◌ {A = ℕ} 0 1 = cc in omega arith)
-  kind_all Bot h = absurd (let z : ◌≡◌ {A = ℕ} 0 1 = cc in omega arith)
-  kind_all (Atomic a) h = absurd (let z : ◌≡◌ {A = ℕ} 0 1 = cc in omega arith)
-  kind_all (Nominal i) h = absurd (let z : ◌≡◌ {A = ℕ} 0 1 = cc in omega arith)
-  kind_all (SelfRestriction r) h = absurd (let z : ◌≡◌ {A = ℕ} 0 1 = cc in omega arith)
-  kind_all (Not d) h = absurd (let z : ◌≡◌ {A = ℕ} 0 1 = cc in omega arith)
-  kind_all (And l) h = absurd (let z : ◌≡◌ {A = ℕ} 0 1 = cc in omega arith)
-  kind_all (Or l) h = absurd (let z : ◌≡◌ {A = ℕ} 0 1 = cc in omega arith)
-  kind_all (Some r d) h = absurd (let z : ◌≡◌ {A = ℕ} 0 1 = cc in omega arith)
-  kind_all (All r d) h = refl
-  kind_all (Min zero r d) h = absurd (let z : ◌≡◌ {A = ℕ} 0 1 = cc in omega arith)
-  kind_all (Min (suc n) r d) h = absurd (pick_all (is_top (at P d)) h)
-  kind_all (Max n r d) h = absurd (pick_all (is_top (at P d)) h)
-
   pub named_restricts : (e : Concept) → FormIs.Named ≡ form_of P e → Restricts e
   named_restricts Top h = absurd (let z : ◌≡◌ {A = ℕ} 0 1 = cc in omega arith)
   named_restricts Bot h = absurd (let z : ◌≡◌ {A = ℕ} 0 1 = cc in omega arith)

@@ -1,4 +1,5 @@
 // emit_head, head_atom_for and atomic_name_of, which call each other: the pair of a concept's id and a rank falls.
+// Atoms in hand are told by their first record and their number, two numbers, as `Did` has them.
 ghost use Rattle.std.specs.Prelude.{◌≡◌, List, ℕ, suc, ◌+◌, ◌≤◌, length};
 ghost use Rattle.std.proofs.Math.Option.{Option, none};
 ghost use Rattle.words.specs.Words.{words};
@@ -7,58 +8,54 @@ ghost use Rattle.rules.specs.Base.{Res};
 ghost use Rattle.rules.specs.State.{Env, Out};
 ghost use Rattle.rules.specs.Heads.{emit_by, emit_step, atomic_name_of, name_or, head_atom_for};
 ghost use Rattle.pool.specs.Layout.{field, concept_at, pool_of};
-ghost use Rattle.tables.specs.Drawn.{Sized};
-ghost use Rattle.hands.specs.Hands.{four, Did, Queues};
+ghost use Rattle.hands.specs.Hands.{Did, Queues, four_of};
 ghost use Rattle.leaves.specs.Classes.{Restricts};
 ghost use Rattle.leaves.specs.Leaves.{name_filler};
 ghost use Rattle.leaves.specs.Made.{Small, DidAtom};
 ghost use Rattle.heads.specs.Emits.{Emitting};
+ghost use Rattle.ir.specs.Answer.{answer, done};
+ghost use Rattle.ir.specs.Headed.{headed};
+ghost use Rattle.tables.specs.Lending.{SameReferences};
 
 use crate::limit;
-use ir::answer::{Answer, Headed};
 use ir::atom::Atom;
-use ir::counters::{Counters, Visit};
 use ir::deferral::Deferral;
 use ir::record;
+use ir::refusal::Refusal;
 use leaves::disjunct::Disjunct;
 use leaves::form::Form;
-use leaves::read::ClassId;
 use leaves::{after, disjunct, form, leaf, read};
 use pool::record as concept;
+use tables::lent::Tables;
 
 #[cycle(atomic_name_of_emit_all_emit_head_emit_or_emit_under_head_atom_for_name_filler_name_new)]
 pub fn emit_head(
+    lent: &mut Tables<'_>,
     scratch: &mut [u8],
-    clauses: &mut [u8],
-    atoms: &mut [u8],
-    deferrals: &mut [u8],
-    k: Counters,
     base: usize,
     n: u32,
     c: u32,
     v: u32,
-) -> Answer
-    requires { Emitting scratch.old k base n c × Sized (length clauses.old) (length atoms.old) (length deferrals.old) }
-    ensures { let old = four (words scratch.old) (words clauses.old) (words atoms.old) (words deferrals.old) in
-        let new = four (words scratch.new) (words clauses.new) (words atoms.new) (words deferrals.new) in
-        let rule : Env → ℕ → List Atom → Out → Res Out (Unit {0}) = λ env f b s. emit_by env (pool_of old.scratch k.concepts) f b c v s in
-        Did (λ _. 0) (suc c) rule k base n old new result × Queues (suc c) rule k base n old new }
+) -> Result<(), Refusal>
+    requires { Emitting scratch.old lent.old.counters base n c }
+    ensures references { SameReferences lent.old lent.new }
+    ensures did { let old = four_of (words scratch.old) lent.old in
+        let new = four_of (words scratch.new) lent.new in
+        let rule : Env → ℕ → List Atom → Out → Res Out (Unit {0}) = λ env f b s. emit_by env (pool_of old.scratch lent.old.counters.concepts) f b c v s in
+        Did (λ _. 0) (suc c) rule lent.old.counters base n old new (done lent.new.counters result) × Queues (suc c) rule lent.old.counters base n old new }
 {
-    let Visit::Begun(l) = k.visit() else {
-        return Answer::Refused(10);
-    };
-    match form::form_of(scratch, l, c) {
+    lent.counters.visit()?;
+    match form::form_of(scratch, lent.counters, c) {
         Form::Leaf => {
-            let x = leaf::leaf_of(scratch, l, c, v);
-            leaf::emit_leaf(scratch, clauses, atoms, deferrals, l, base, n, x)
+            let x = leaf::leaf_of(scratch, lent.counters, c, v);
+            leaf::emit_leaf(lent, scratch, base, n, x)
         }
-        Form::And => emit_all(scratch, clauses, atoms, deferrals, l, base, n, c, v),
-        Form::Or => emit_or(scratch, clauses, atoms, deferrals, l, base, n, c, v),
-        Form::All => emit_under(scratch, clauses, atoms, deferrals, l, base, n, c, v),
+        Form::And => emit_all(lent, scratch, base, n, c, v),
+        Form::Or => emit_or(lent, scratch, base, n, c, v),
+        Form::All => emit_under(lent, scratch, base, n, c, v),
         Form::Named => {
-            let top = base + n as usize;
-            let r = name_filler(scratch, clauses, atoms, deferrals, l, top, c);
-            after::emit_named(scratch, clauses, atoms, l, r, base, n, c, v)
+            let q = name_filler(lent, scratch, base + n as usize, c)?;
+            after::emit_named(lent, scratch, base, n, c, v, q)
         }
     }
 }
@@ -66,159 +63,122 @@ pub fn emit_head(
 // All: one variable and one body atom more.
 #[cycle(atomic_name_of_emit_all_emit_head_emit_or_emit_under_head_atom_for_name_filler_name_new)]
 fn emit_under(
+    lent: &mut Tables<'_>,
     scratch: &mut [u8],
-    clauses: &mut [u8],
-    atoms: &mut [u8],
-    deferrals: &mut [u8],
-    k: Counters,
     base: usize,
     n: u32,
     c: u32,
     v: u32,
-) -> Answer
-    requires { Emitting scratch.old k base n c × Sized (length clauses.old) (length atoms.old) (length deferrals.old) × (field (words scratch.old) c 0 ≡ 10) × (k.next_var ≤ k.visits + 3) }
-    ensures { let old = four (words scratch.old) (words clauses.old) (words atoms.old) (words deferrals.old) in
-        let new = four (words scratch.new) (words clauses.new) (words atoms.new) (words deferrals.new) in
-        let pool = pool_of old.scratch k.concepts in
+) -> Result<(), Refusal>
+    requires { Emitting scratch.old lent.old.counters base n c × (field (words scratch.old) c 0 ≡ 10) × (lent.old.counters.next_var ≤ lent.old.counters.visits + 3) }
+    ensures references { SameReferences lent.old lent.new }
+    ensures did { let old = four_of (words scratch.old) lent.old in
+        let new = four_of (words scratch.new) lent.new in
+        let pool = pool_of old.scratch lent.old.counters.concepts in
         let rule : Env → ℕ → List Atom → Out → Res Out (Unit {0}) = λ env f b s. emit_step env pool (λ h d u. emit_by env pool f h d u) b v (concept_at old.scratch c) s in
-        Did (λ _. 0) c rule k base n old new result × Queues c rule k base n old new }
+        Did (λ _. 0) c rule lent.old.counters base n old new (done lent.new.counters result) × Queues c rule lent.old.counters base n old new }
 {
     if 256 <= n {
-        return Answer::Refused(12);
+        return Err(Refusal::NoRoom);
     }
-    let y = k.next_var;
-    let l = k.fresh_var();
-    let role = read::canon(scratch, k, c);
+    let role = read::canon(scratch, lent.counters, c);
     let d = concept::child(scratch, c);
-    let top = base + n as usize;
-    record::put_atom(scratch, top, Atom::Role(role, v, y));
-    let m = n + 1;
-    emit_head(scratch, clauses, atoms, deferrals, l, base, m, d, y)
+    let y = lent.counters.fresh_var();
+    record::put_atom(scratch, base + n as usize, Atom::Role(role, v, y));
+    emit_head(lent, scratch, base, n + 1, d, y)
 }
 
 // And: each member, over the same body.
 #[cycle(atomic_name_of_emit_all_emit_head_emit_or_emit_under_head_atom_for_name_filler_name_new)]
 fn emit_all(
+    lent: &mut Tables<'_>,
     scratch: &mut [u8],
-    clauses: &mut [u8],
-    atoms: &mut [u8],
-    deferrals: &mut [u8],
-    k: Counters,
     base: usize,
     n: u32,
     c: u32,
     v: u32,
-) -> Answer
-    requires { Emitting scratch.old k base n c × Sized (length clauses.old) (length atoms.old) (length deferrals.old) × (field (words scratch.old) c 0 ≡ 7) }
-    ensures { let old = four (words scratch.old) (words clauses.old) (words atoms.old) (words deferrals.old) in
-        let new = four (words scratch.new) (words clauses.new) (words atoms.new) (words deferrals.new) in
-        let pool = pool_of old.scratch k.concepts in
+) -> Result<(), Refusal>
+    requires { Emitting scratch.old lent.old.counters base n c × (field (words scratch.old) c 0 ≡ 7) }
+    ensures references { SameReferences lent.old lent.new }
+    ensures did { let old = four_of (words scratch.old) lent.old in
+        let new = four_of (words scratch.new) lent.new in
+        let pool = pool_of old.scratch lent.old.counters.concepts in
         let rule : Env → ℕ → List Atom → Out → Res Out (Unit {0}) = λ env f b s. emit_step env pool (λ h d u. emit_by env pool f h d u) b v (concept_at old.scratch c) s in
-        Did (λ _. 0) c rule k base n old new result × Queues c rule k base n old new }
+        Did (λ _. 0) c rule lent.old.counters base n old new (done lent.new.counters result) × Queues c rule lent.old.counters base n old new }
 {
     let start = concept::child(scratch, c);
     let count = concept::number(scratch, c);
-    let mut l = k;
-    let mut i: u32 = 0;
-    while i < count {
-        let at = start + i;
-        let p = concept::member(scratch, at);
-        let r = emit_head(scratch, clauses, atoms, deferrals, l, base, n, p, v);
-        match r {
-            Answer::Done(m, _) => {
-                l = m;
-            }
-            Answer::Refused(e) => {
-                return Answer::Refused(e);
-            }
-        }
-        i += 1;
+    for i in 0..count {
+        let p = concept::member(scratch, start + i);
+        emit_head(lent, scratch, base, n, p, v)?;
     }
-    Answer::Done(l, 0)
+    Ok(())
 }
 
 // Or: an atom for each member, in hand above the body.
 #[cycle(atomic_name_of_emit_all_emit_head_emit_or_emit_under_head_atom_for_name_filler_name_new)]
 fn emit_or(
+    lent: &mut Tables<'_>,
     scratch: &mut [u8],
-    clauses: &mut [u8],
-    atoms: &mut [u8],
-    deferrals: &mut [u8],
-    k: Counters,
     base: usize,
     n: u32,
     c: u32,
     v: u32,
-) -> Answer
-    requires { Emitting scratch.old k base n c × Sized (length clauses.old) (length atoms.old) (length deferrals.old) × (field (words scratch.old) c 0 ≡ 8) }
-    ensures { let old = four (words scratch.old) (words clauses.old) (words atoms.old) (words deferrals.old) in
-        let new = four (words scratch.new) (words clauses.new) (words atoms.new) (words deferrals.new) in
-        let pool = pool_of old.scratch k.concepts in
+) -> Result<(), Refusal>
+    requires { Emitting scratch.old lent.old.counters base n c × (field (words scratch.old) c 0 ≡ 8) }
+    ensures references { SameReferences lent.old lent.new }
+    ensures did { let old = four_of (words scratch.old) lent.old in
+        let new = four_of (words scratch.new) lent.new in
+        let pool = pool_of old.scratch lent.old.counters.concepts in
         let rule : Env → ℕ → List Atom → Out → Res Out (Unit {0}) = λ env f b s. emit_step env pool (λ h d u. emit_by env pool f h d u) b v (concept_at old.scratch c) s in
-        Did (λ _. 0) c rule k base n old new result × Queues c rule k base n old new }
+        Did (λ _. 0) c rule lent.old.counters base n old new (done lent.new.counters result) × Queues c rule lent.old.counters base n old new }
 {
     let start = concept::child(scratch, c);
     let count = concept::number(scratch, c);
-    let mut l = k;
-    let mut i: u32 = 0;
-    while i < count {
-        let at = start + i;
-        let p = concept::member(scratch, at);
+    for i in 0..count {
+        let p = concept::member(scratch, start + i);
         let top = base + n as usize + i as usize;
-        let r = head_atom_for(scratch, clauses, atoms, deferrals, l, top, p, v);
-        match r {
-            Headed::Made(m, a) => {
-                if 256 <= i {
-                    return Answer::Refused(12);
-                }
-                record::put_atom(scratch, top, a);
-                l = m;
-            }
-            Headed::Absent(m) => {
-                return tables::defer(deferrals, m, Deferral::HeadOrDisjunct);
-            }
-            Headed::Refused(e) => {
-                return Answer::Refused(e);
-            }
+        let Some(a) = head_atom_for(lent, scratch, top, p, v)? else {
+            return tables::defer(lent.deferrals, &mut lent.counters, Deferral::HeadOrDisjunct);
+        };
+        if 256 <= i {
+            return Err(Refusal::NoRoom);
         }
-        i += 1;
+        record::put_atom(scratch, top, a);
     }
-    hands::push_run(scratch, clauses, atoms, l, base, n, count)
+    hands::push_run(lent, scratch, base, n, count)
 }
 
 // One atom for a disjunct; what it names stands from `base` on.
 #[cycle(atomic_name_of_emit_all_emit_head_emit_or_emit_under_head_atom_for_name_filler_name_new)]
 pub fn head_atom_for(
+    lent: &mut Tables<'_>,
     scratch: &mut [u8],
-    clauses: &mut [u8],
-    atoms: &mut [u8],
-    deferrals: &mut [u8],
-    k: Counters,
     base: usize,
     c: u32,
     v: u32,
-) -> Headed
-    requires { Emitting scratch.old k base 1 c × Sized (length clauses.old) (length atoms.old) (length deferrals.old) }
-    ensures { let old = four (words scratch.old) (words clauses.old) (words atoms.old) (words deferrals.old) in
-        let new = four (words scratch.new) (words clauses.new) (words atoms.new) (words deferrals.new) in
-        let pool = pool_of old.scratch k.concepts in
+) -> Result<Option<Atom>, Refusal>
+    requires { Emitting scratch.old lent.old.counters base 1 c }
+    ensures references { SameReferences lent.old lent.new }
+    ensures did { let old = four_of (words scratch.old) lent.old in
+        let new = four_of (words scratch.new) lent.new in
+        let pool = pool_of old.scratch lent.old.counters.concepts in
         let rule : Env → ℕ → Out → Res Out (Option Atom) = λ env f s. head_atom_for env pool (λ h d u. emit_by env pool f h d u) c v s in
-        DidAtom (suc c) rule k base old new result × Queues (suc c) (λ env f b s. rule env f s) k base 0 old new }
+        DidAtom (suc c) rule lent.old.counters base old new (headed lent.new.counters result) × Queues (suc c) (λ env f b s. rule env f s) lent.old.counters base 0 old new }
 {
-    let Visit::Begun(l) = k.visit() else {
-        return Headed::Refused(10);
-    };
-    match disjunct::disjunct_of(scratch, l, c, v) {
-        Disjunct::Ready(a) => Headed::Made(l, a),
-        Disjunct::Negated(a) => disjunct::name_negated(scratch, clauses, atoms, l, base, a, v),
-        Disjunct::Absent => Headed::Absent(l),
+    lent.counters.visit()?;
+    match disjunct::disjunct_of(scratch, lent.counters, c, v) {
+        Disjunct::Ready(a) => Ok(Some(a)),
+        Disjunct::Negated(a) => disjunct::name_negated(lent, scratch, base, a, v),
+        Disjunct::Absent => Ok(None),
         Disjunct::Whole => {
-            let r = atomic_name_of(scratch, clauses, atoms, deferrals, l, base, c);
-            after::class_atom(l, r, v)
+            let q = atomic_name_of(lent, scratch, base, c)?;
+            Ok(Some(Atom::Class(q, v)))
         }
         Disjunct::Filler => {
-            let r = name_filler(scratch, clauses, atoms, deferrals, l, base, c);
-            after::filler_after(scratch, l, r, c, v)
+            let q = name_filler(lent, scratch, base, c)?;
+            let a = disjunct::filler_atom(scratch, lent.counters, c, v, q);
+            Ok(Some(a))
         }
     }
 }
@@ -226,74 +186,60 @@ pub fn head_atom_for(
 // The class that names the filler of restriction c; a limit's filler that is named anew waits.
 #[cycle(atomic_name_of_emit_all_emit_head_emit_or_emit_under_head_atom_for_name_filler_name_new)]
 fn name_filler(
+    lent: &mut Tables<'_>,
     scratch: &mut [u8],
-    clauses: &mut [u8],
-    atoms: &mut [u8],
-    deferrals: &mut [u8],
-    k: Counters,
     base: usize,
     c: u32,
-) -> Answer
-    requires { Emitting scratch.old k base 0 c × Sized (length clauses.old) (length atoms.old) (length deferrals.old) × Restricts (concept_at (words scratch.old) c) }
-    ensures { let old = four (words scratch.old) (words clauses.old) (words atoms.old) (words deferrals.old) in
-        let new = four (words scratch.new) (words clauses.new) (words atoms.new) (words deferrals.new) in
-        let pool = pool_of old.scratch k.concepts in
+) -> Result<u32, Refusal>
+    requires { Emitting scratch.old lent.old.counters base 0 c × Restricts (concept_at (words scratch.old) c) }
+    ensures references { SameReferences lent.old lent.new }
+    ensures did { let old = four_of (words scratch.old) lent.old in
+        let new = four_of (words scratch.new) lent.new in
+        let pool = pool_of old.scratch lent.old.counters.concepts in
         let rule : Env → ℕ → List Atom → Out → Res Out ℕ = λ env f b s. name_filler env pool (atomic_name_of env pool (λ h d u. emit_by env pool f h d u)) (concept_at old.scratch c) s in
-        Did (λ q. q) c rule k base 0 old new result × Small result × Queues c rule k base 0 old new }
+        Did (λ q. q) c rule lent.old.counters base 0 old new (answer lent.new.counters result) × Small (answer lent.new.counters result) × Queues c rule lent.old.counters base 0 old new }
 {
     let d = concept::child(scratch, c);
-    limit::wait(scratch, k, c, d);
-    atomic_name_of(scratch, clauses, atoms, deferrals, k, base, d)
+    limit::wait(scratch, lent.counters, c, d);
+    atomic_name_of(lent, scratch, base, d)
 }
 
 // The class that names c: its own, or a fresh one below it.
 #[cycle(atomic_name_of_emit_all_emit_head_emit_or_emit_under_head_atom_for_name_filler_name_new)]
 pub fn atomic_name_of(
+    lent: &mut Tables<'_>,
     scratch: &mut [u8],
-    clauses: &mut [u8],
-    atoms: &mut [u8],
-    deferrals: &mut [u8],
-    k: Counters,
     base: usize,
     c: u32,
-) -> Answer
-    requires { Emitting scratch.old k base 1 c × Sized (length clauses.old) (length atoms.old) (length deferrals.old) }
-    ensures { let old = four (words scratch.old) (words clauses.old) (words atoms.old) (words deferrals.old) in
-        let new = four (words scratch.new) (words clauses.new) (words atoms.new) (words deferrals.new) in
-        let pool = pool_of old.scratch k.concepts in
+) -> Result<u32, Refusal>
+    requires { Emitting scratch.old lent.old.counters base 1 c }
+    ensures references { SameReferences lent.old lent.new }
+    ensures did { let old = four_of (words scratch.old) lent.old in
+        let new = four_of (words scratch.new) lent.new in
+        let pool = pool_of old.scratch lent.old.counters.concepts in
         let rule : Env → ℕ → List Atom → Out → Res Out ℕ = λ env f b s. atomic_name_of env pool (λ h d u. emit_by env pool f h d u) c s in
-        Did (λ q. q) (suc c) rule k base 0 old new result × Small result × Queues (suc c) rule k base 0 old new }
+        Did (λ q. q) (suc c) rule lent.old.counters base 0 old new (answer lent.new.counters result) × Small (answer lent.new.counters result) × Queues (suc c) rule lent.old.counters base 0 old new }
 {
-    let Visit::Begun(l) = k.visit() else {
-        return Answer::Refused(10);
-    };
-    match read::class_id_of(scratch, l, c) {
-        ClassId::Some(a) => Answer::Done(l, a),
-        ClassId::None => name_new(scratch, clauses, atoms, deferrals, l, base, c),
+    lent.counters.visit()?;
+    match read::class_id_of(scratch, lent.counters, c) {
+        Some(a) => Ok(a),
+        None => name_new(lent, scratch, base, c),
     }
 }
 
 // A fresh class below c: its body stands from `base` on.
 #[cycle(atomic_name_of_emit_all_emit_head_emit_or_emit_under_head_atom_for_name_filler_name_new)]
-fn name_new(
-    scratch: &mut [u8],
-    clauses: &mut [u8],
-    atoms: &mut [u8],
-    deferrals: &mut [u8],
-    k: Counters,
-    base: usize,
-    c: u32,
-) -> Answer
-    requires { Emitting scratch.old k base 1 c × Sized (length clauses.old) (length atoms.old) (length deferrals.old) × (k.next_class ≤ k.visits + 8191) }
-    ensures { let old = four (words scratch.old) (words clauses.old) (words atoms.old) (words deferrals.old) in
-        let new = four (words scratch.new) (words clauses.new) (words atoms.new) (words deferrals.new) in
-        let pool = pool_of old.scratch k.concepts in
+fn name_new(lent: &mut Tables<'_>, scratch: &mut [u8], base: usize, c: u32) -> Result<u32, Refusal>
+    requires { Emitting scratch.old lent.old.counters base 1 c × (lent.old.counters.next_class ≤ lent.old.counters.visits + 8191) }
+    ensures references { SameReferences lent.old lent.new }
+    ensures did { let old = four_of (words scratch.old) lent.old in
+        let new = four_of (words scratch.new) lent.new in
+        let pool = pool_of old.scratch lent.old.counters.concepts in
         let rule : Env → ℕ → List Atom → Out → Res Out ℕ = λ env f b s. name_or env pool (λ h d u. emit_by env pool f h d u) c none s in
-        Did (λ q. q) (suc c) rule k base 0 old new result × Small result × Queues (suc c) rule k base 0 old new }
+        Did (λ q. q) (suc c) rule lent.old.counters base 0 old new (answer lent.new.counters result) × Small (answer lent.new.counters result) × Queues (suc c) rule lent.old.counters base 0 old new }
 {
-    let q = k.next_class;
-    let l = k.fresh_class();
+    let q = lent.counters.fresh_class();
     record::put_atom(scratch, base, Atom::Class(q, 0));
-    let r = emit_head(scratch, clauses, atoms, deferrals, l, base, 1, c, 0);
-    after::with_value(l, r, q)
+    emit_head(lent, scratch, base, 1, c, 0)?;
+    Ok(q)
 }

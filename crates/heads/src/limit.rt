@@ -31,6 +31,7 @@ fn waits(scratch: &[u8], k: Counters, c: u32, d: u32) -> bool
     requires { Reading scratch.now k × (c < k.concepts) × (d < k.concepts) }
     ensures { result ≡ (equal_names k.options && (is_max (concept_at (words scratch.now) c) && anew (concept_at (words scratch.now) d))) }
 {
+    // Three tests: the branches of three operands come to the proof as one case.
     if !options::equal_names(k.options) {
         return false;
     }

@@ -7,10 +7,10 @@ use Prim.{tt}
 use Rattle.words.specs.Words.{words}
 use Rattle.ir.specs.Counts.{vars_restarted}
 use Rattle.ir.specs.declared.counters.Counters.{Counters}
-use Rattle.ir.specs.declared.answer.Answer.{Answer}
-use Rattle.ir.specs.declared.answer.Answer.TheVariants as Answers
-use Rattle.ir.specs.declared.answer.Encoded.{Encoded}
-use Rattle.ir.specs.declared.answer.Encoded.TheVariants.{Found, Unsupported, Refused}
+use Rattle.ir.specs.Answer.{Answer}
+use Rattle.ir.specs.Answer as Answers
+use Rattle.ir.specs.Encoded.{Encoded}
+use Rattle.ir.specs.Encoded.{Found, Unsupported, Refused}
 use Rattle.ir.specs.declared.deferral.Deferral.TheVariants.{Antecedent}
 use Rattle.rules.specs.Base.{Res, M, then, ◌>>=◌, each}
 use Rattle.rules.specs.Pool.{mk_or}

@@ -11,9 +11,9 @@ use Rattle.ir.specs.Counts.{tick, visited, vars_restarted}
 use Rattle.ir.specs.Records.{six}
 use Rattle.ir.specs.Scratch.{hands_at}
 use Rattle.ir.specs.declared.counters.Counters.{Counters}
-use Rattle.ir.specs.declared.counters.Visit.TheVariants.{Begun, Full}
-use Rattle.ir.specs.declared.answer.Answer.{Answer}
-use Rattle.ir.specs.declared.answer.Answer.TheVariants.{Refused}
+use Rattle.ir.specs.Visit.{Begun, Full}
+use Rattle.ir.specs.Answer.{Answer}
+use Rattle.ir.specs.Answer.{Refused}
 use Rattle.ir.specs.declared.atom.Atom.TheVariants.{Class}
 use Rattle.rules.specs.Base.{Res, ok, refused, then, return, ◌>>◌, for_each}
 use Rattle.rules.specs.Concept.{Atomic}

@@ -5,8 +5,8 @@ use Rattle.std.proofs.Math.Option.{Option, none, some}
 use Rattle.words.specs.Words.{words}
 use Rattle.ir.specs.Counts.{vars_restarted}
 use Rattle.ir.specs.declared.counters.Counters.{Counters}
-use Rattle.ir.specs.declared.answer.Encoded.{Encoded}
-use Rattle.ir.specs.declared.answer.Encoded.TheVariants.{Found, Unsupported, Refused}
+use Rattle.ir.specs.Encoded.{Encoded}
+use Rattle.ir.specs.Encoded.{Found, Unsupported, Refused}
 use Rattle.rules.specs.Base.{Res, ok, refused}
 use Rattle.rules.specs.Post.{Post, gives}
 use Rattle.rules.specs.State.{Env, Out, restarted}

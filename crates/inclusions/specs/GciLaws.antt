@@ -6,10 +6,10 @@ use Rattle.std.proofs.Math.Option.{Option}
 use Prim.{Unit, tt}
 use Rattle.ir.specs.Counts.{vars_restarted}
 use Rattle.ir.specs.declared.counters.Counters.{Counters}
-use Rattle.ir.specs.declared.answer.Answer.{Answer}
-use Rattle.ir.specs.declared.answer.Answer.TheVariants as Answers
-use Rattle.ir.specs.declared.answer.Encoded.{Encoded}
-use Rattle.ir.specs.declared.answer.Encoded.TheVariants.{Found, Unsupported, Refused}
+use Rattle.ir.specs.Answer.{Answer}
+use Rattle.ir.specs.Answer as Answers
+use Rattle.ir.specs.Encoded.{Encoded}
+use Rattle.ir.specs.Encoded.{Found, Unsupported, Refused}
 use Rattle.rules.specs.Base.{Res, then}
 use Rattle.rules.specs.State.{Env, Out, restarted, restart_vars}
 use Rattle.rules.specs.Antecedents.{Alternatives}

@@ -4,7 +4,7 @@ use Rattle.std.proofs.Common.{sym, ap, subst, ◌∙◌, arith, take-take, get_o
 use Rattle.words.specs.Words.{words}
 use Rattle.ir.specs.Scratch.{keys_at, alternatives_at, axioms_at, stack_at}
 use Rattle.ir.specs.declared.counters.Counters.{Counters}
-use Rattle.ir.specs.declared.answer.Answer.TheVariants.{Done}
+use Rattle.ir.specs.Answer.{Done}
 use Rattle.rules.specs.Base.{Res, ok, refused}
 use Rattle.rules.specs.Normalize.{St, N}
 use Rattle.rules.specs.Invariants.{Wf, Grown}

@@ -8,8 +8,8 @@ use Rattle.std.specs.Prelude.{ℕ, zero, suc, ◌+◌, ◌<◌, ◌≤◌, get_o
 use Rattle.words.specs.Words.{words}
 use Rattle.ir.specs.Scratch.{stack_at}
 use Rattle.ir.specs.declared.counters.Counters.{Counters}
-use Rattle.ir.specs.declared.answer.Answer.{Answer}
-use Rattle.ir.specs.declared.answer.Answer.TheVariants as Answers
+use Rattle.ir.specs.Answer.{Answer}
+use Rattle.ir.specs.Answer as Answers
 use Rattle.rules.specs.Base.{Res, ok, refused, then}
 use Rattle.rules.specs.Pool.{Pool, at}
 use Rattle.rules.specs.PoolLaws.{grown_refl}
@@ -29,8 +29,8 @@ use Rattle.hands.specs.Hands.{Four, four, EnvHeld}
 use Rattle.antecedents.specs.States.{Counted, varied}
 use Rattle.axioms.specs.QuietLaws.{Quiet, encode_quiet}
 use Rattle.axioms.specs.Wholes.{shown_whole, after_whole, standing, Untouched, Onward, Clausified, WaitingWhole, Queued}
-use Rattle.inclusions.specs.declared.parts.Parts.{Parts}
-use Rattle.inclusions.specs.declared.parts.Parts.TheVariants.{Found, Refused}
+use Rattle.inclusions.specs.Parts.{Parts}
+use Rattle.inclusions.specs.Parts.{Found, Refused}
 use Rattle.inclusions.specs.Parted.{soft_at, hard_at, parted_after, parted_of, Sorted}
 use Rattle.inclusions.specs.Absorbs.{absorb_none, absorb_some, Divided}
 use Rattle.axioms.specs.OnwardLaws.{untouched_then, onward_alike, onward_answer, stands_on, shown_same, clausified_is}

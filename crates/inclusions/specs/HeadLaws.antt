@@ -9,8 +9,8 @@ use Rattle.words.specs.Words.{words}
 use Rattle.words.specs.Laws.{length_words}
 use Rattle.ir.specs.Scratch.{marks_at, stack_at}
 use Rattle.ir.specs.declared.counters.Counters.{Counters}
-use Rattle.ir.specs.declared.answer.Answer.{Answer}
-use Rattle.ir.specs.declared.answer.Answer.TheVariants.{Done, Refused}
+use Rattle.ir.specs.Answer.{Answer}
+use Rattle.ir.specs.Answer.{Done, Refused}
 use Rattle.rules.specs.Base.{Res, each}
 use Rattle.rules.specs.Pool.{mk_and, mk_or, members, most_members}
 use Rattle.rules.specs.Normalize.{St, N, in_pool, push_negation_in, nnf_complement}

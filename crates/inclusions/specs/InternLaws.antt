@@ -5,8 +5,8 @@ use Prim.{tt}
 use Rattle.words.specs.Words.{words}
 use Rattle.ir.specs.Scratch.{marks_at, keys_at, stack_at, hands_at}
 use Rattle.ir.specs.declared.counters.Counters.{Counters}
-use Rattle.ir.specs.declared.answer.Answer.{Answer}
-use Rattle.ir.specs.declared.answer.Answer.TheVariants.{Done, Refused}
+use Rattle.ir.specs.Answer.{Answer}
+use Rattle.ir.specs.Answer.{Done, Refused}
 use Rattle.rules.specs.Base.{Res, ok, refused, M, then}
 use Rattle.rules.specs.Pool.{Pool, mk_and, mk_or}
 use Rattle.rules.specs.Normalize.{St, N, back_in, in_pool}

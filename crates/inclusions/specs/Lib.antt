@@ -10,4 +10,5 @@ pub mod HeadLaws
 pub mod InternLaws
 pub mod NormalLaws
 pub mod PartLaws
+pub mod Parts
 pub mod Parted

@@ -4,8 +4,8 @@ use Rattle.std.proofs.Common.{ap, subst, ◌∙◌, arith}
 use Prim.{Unit, tt}
 use Rattle.words.specs.Words.{words}
 use Rattle.ir.specs.declared.counters.Counters.{Counters}
-use Rattle.ir.specs.declared.answer.Answer.{Answer}
-use Rattle.ir.specs.declared.answer.Answer.TheVariants as Answers
+use Rattle.ir.specs.Answer.{Answer}
+use Rattle.ir.specs.Answer as Answers
 use Rattle.rules.specs.Base.{Res, ok, refused, M, then, ◌>>=◌}
 use Rattle.rules.specs.Pool.{Pool}
 use Rattle.rules.specs.Normalize.{St, N, back_in, in_pool}

@@ -11,8 +11,8 @@ use Rattle.words.specs.Words.{words}
 use Rattle.ir.specs.Counts.{vars_restarted}
 use Rattle.ir.specs.Scratch.{stack_at, limits_at}
 use Rattle.ir.specs.declared.counters.Counters.{Counters}
-use Rattle.ir.specs.declared.answer.Encoded.{Encoded}
-use Rattle.ir.specs.declared.answer.Encoded.TheVariants as Encodeds
+use Rattle.ir.specs.Encoded.{Encoded}
+use Rattle.ir.specs.Encoded as Encodeds
 use Rattle.rules.specs.Base.{Res, ok, refused, then}
 use Rattle.rules.specs.Pool.{Pool, at, members}
 use Rattle.rules.specs.Post.{Post, gives}
@@ -38,7 +38,7 @@ use Rattle.heads.specs.FrameLaws.{frame_less}
 use Rattle.axioms.specs.RoleLaws.{alike_restart}
 use Rattle.axioms.specs.QuietLaws.{Quiet, encode_quiet}
 use Rattle.axioms.specs.MemberLaws.{AlikeEncoded, encoded_alike}
-use Rattle.inclusions.specs.declared.parts.Parts.TheVariants.{Found, Refused}
+use Rattle.inclusions.specs.Parts.{Found, Refused}
 use Rattle.inclusions.specs.Conjuncts.{count_in, conjunct_in, member_in, conjunct_below, conjunct_inside, and_room, count_few, members_few, conjuncts_are, conjunct_kept}
 use Rattle.inclusions.specs.Parted.{soft_at, hard_at, stopped, parted_after, parted_of, Sorted}
 

@@ -4,8 +4,8 @@ use Prim.{Unit}
 use Rattle.words.specs.Words.{words}
 use Rattle.ir.specs.Scratch.{keys_at, stack_at, hands_at}
 use Rattle.ir.specs.declared.counters.Counters.{Counters}
-use Rattle.ir.specs.declared.answer.Answer.{Answer}
-use Rattle.ir.specs.declared.answer.Answer.TheVariants as Answers
+use Rattle.ir.specs.Answer.{Answer}
+use Rattle.ir.specs.Answer as Answers
 use Rattle.rules.specs.Base.{Res, ok, refused, return, each, ◌>>=◌}
 use Rattle.rules.specs.Pool.{mk_and, mk_or, members, most_members}
 use Rattle.rules.specs.Normalize.{St, N, in_pool, nnf_complement}
@@ -19,8 +19,7 @@ use Rattle.tables.specs.Good.{Good, Alike}
 use Rattle.waiting.specs.Limits.{Behind}
 use Rattle.leaves.specs.Reading.{Reading}
 use Rattle.antecedents.specs.States.{varied}
-use Rattle.inclusions.specs.declared.parts.Parts.{Parts}
-use Rattle.inclusions.specs.declared.parts.Parts.TheVariants.{Found, Refused}
+use Rattle.inclusions.specs.Parts.{Parts, Found, Refused}
 
 -- the lists' first words, and the bytes of scratch that both need
 abbrev pub soft_at : ℕ

@@ -11,10 +11,12 @@ ghost use Rattle.tables.specs.Good.{Good};
 ghost use Rattle.leaves.specs.Reading.{Reading};
 ghost use Rattle.antecedents.specs.States.{Counted};
 ghost use Rattle.inclusions.specs.Conjuncts.{count_in, conjunct_in, MemberIn};
+ghost use Rattle.inclusions.specs.Parts.{parts};
 ghost use Rattle.inclusions.specs.Parted.{soft_at, hard_at, in_parts_bytes, head_alone, head_over, soft_and_of, parted_after, parted_of, PartsIn, Normalised};
+ghost use Rattle.ir.specs.Answer.{answer};
 
-use ir::answer::{Answer, Encoded};
 use ir::counters::Counters;
+use ir::refusal::Refusal;
 use ir::scratch::{HANDS, MARKS, STACK};
 use normalize::nnf;
 use pool::layout::{AND, MEMBERS};
@@ -25,11 +27,11 @@ const SOFT: usize = HANDS;
 
 const HARD: usize = STACK;
 
-// How many soft and hard conjuncts there are, or a refusal.
+// How many soft and hard conjuncts there are.
 #[derive(Clone, Copy)]
-pub enum Parts {
-    Found(Counters, u32, u32),
-    Refused(u32),
+pub struct Parts {
+    pub soft: u32,
+    pub hard: u32,
 }
 
 // How many top-level conjuncts concept c has.
@@ -58,74 +60,65 @@ fn conjunct(scratch: &[u8], c: u32, i: u32) -> u32
 }
 
 // Each conjunct of c is encoded; those that have no alternatives are hard.
-pub fn partition(scratch: &mut [u8], k: Counters, c: u32) -> Parts
-    requires { Reading scratch.old k × Good k × (c < k.concepts) × (in_parts_bytes ≤ length scratch.old) }
-    ensures scratch_after { (env : Env) (s : Out) → Counted k s → parted_after result (words scratch.new) ≡ parted_of k (partition env (pool_of (words scratch.old) k.concepts) (conjuncts c (at (pool_of (words scratch.old) k.concepts) c)) [] [] s) }
-    ensures parts_in { PartsIn k c (words scratch.old) (words scratch.new) result }
+pub fn partition(scratch: &mut [u8], k: &mut Counters, c: u32) -> Result<Parts, Refusal>
+    requires { Reading scratch.old k.old × Good k.old × (c < k.old.concepts) × (in_parts_bytes ≤ length scratch.old) }
+    ensures scratch_after { (env : Env) (s : Out) → Counted k.old s → parted_after (parts k.new result) (words scratch.new) ≡ parted_of k.old (partition env (pool_of (words scratch.old) k.old.concepts) (conjuncts c (at (pool_of (words scratch.old) k.old.concepts) c)) [] [] s) }
+    ensures parts_in { PartsIn k.old c (words scratch.old) (words scratch.new) (parts k.new result) }
     ensures scratch_unchanged { take stack_at (words scratch.new) ≡ take stack_at (words scratch.old) }
 {
-    let n = conjunct_count(scratch, c);
-    let mut l = k;
     let mut soft: u32 = 0;
     let mut hard: u32 = 0;
-    while soft + hard < n {
-        let p = conjunct(scratch, c, soft + hard);
-        let m = l.restart_vars();
-        match antecedents::encode_antecedent(scratch, m, p) {
-            Encoded::Found(o, _, _) => {
+    for i in 0..conjunct_count(scratch, c) {
+        let p = conjunct(scratch, c, i);
+        k.restart_vars();
+        match antecedents::encode_antecedent(scratch, k, p)? {
+            Some(_) => {
                 words::put_word(scratch, SOFT + soft as usize, p);
                 soft += 1;
-                l = o;
             }
-            Encoded::Unsupported(o) => {
+            None => {
                 words::put_word(scratch, HARD + hard as usize, p);
                 hard += 1;
-                l = o;
-            }
-            Encoded::Refused(e) => {
-                return Parts::Refused(e);
             }
         }
     }
-    Parts::Found(l, soft, hard)
+    Ok(Parts { soft, hard })
 }
 
 // The negation of sub, or sup.
-pub fn head_alone(scratch: &mut [u8], k: Counters, sub: u32, sup: u32) -> Answer
-    requires { Reading scratch.old k × Good k × (sub < k.concepts) × (sup < k.concepts) × (in_parts_bytes ≤ length scratch.old) }
-    ensures { Normalised (head_alone sub sup) k scratch.old scratch.new result }
+pub fn head_alone(scratch: &mut [u8], k: &mut Counters, sub: u32, sup: u32) -> Result<u32, Refusal>
+    requires { Reading scratch.old k.old × Good k.old × (sub < k.old.concepts) × (sup < k.old.concepts) × (in_parts_bytes ≤ length scratch.old) }
+    ensures { Normalised (head_alone sub sup) k.old scratch.old scratch.new (answer k.new result) }
 {
-    match nnf::push_negation_in(scratch, k, sub) {
-        Answer::Done(l, negated) => {
-            words::put_word(scratch, HARD, negated);
-            words::put_word(scratch, HARD + 1, sup);
-            joint::mk_or(scratch, l, MARKS, HARD, 2)
-        }
-        Answer::Refused(e) => Answer::Refused(e),
-    }
+    let negated = nnf::push_negation_in(scratch, k, sub)?;
+    words::put_word(scratch, HARD, negated);
+    words::put_word(scratch, HARD + 1, sup);
+    joint::mk_or(scratch, k, MARKS, HARD, 2)
 }
 
 // The negations of the hard conjuncts of sub, or sup.
-pub fn head_over(scratch: &mut [u8], k: Counters, hard: u32, sub: u32, sup: u32) -> Answer
-    requires { Reading scratch.old k × Good k × (sub < k.concepts) × (sup < k.concepts) × (in_parts_bytes ≤ length scratch.old) × Each (λ d. d < sub) (run (words scratch.old) hard_at hard) × (hard + members (pool_of (words scratch.old) sub) ≤ most_members) }
-    ensures { Normalised (head_over (run (words scratch.old) hard_at hard) sup) k scratch.old scratch.new result }
+pub fn head_over(
+    scratch: &mut [u8],
+    k: &mut Counters,
+    hard: u32,
+    sub: u32,
+    sup: u32,
+) -> Result<u32, Refusal>
+    requires { Reading scratch.old k.old × Good k.old × (sub < k.old.concepts) × (sup < k.old.concepts) × (in_parts_bytes ≤ length scratch.old) × Each (λ d. d < sub) (run (words scratch.old) hard_at hard) × (hard + members (pool_of (words scratch.old) sub) ≤ most_members) }
+    ensures { Normalised (head_over (run (words scratch.old) hard_at hard) sup) k.old scratch.old scratch.new (answer k.new result) }
 {
-    match nnf::normal_run(scratch, k, HARD, hard, HARD + hard as usize, sub, true) {
-        Answer::Done(l, _) => {
-            words::put_word(scratch, HARD + hard as usize, sup);
-            joint::mk_or(scratch, l, MARKS, HARD, hard + 1)
-        }
-        Answer::Refused(e) => Answer::Refused(e),
-    }
+    nnf::normal_run(scratch, k, HARD, hard, HARD + hard as usize, sub, true)?;
+    words::put_word(scratch, HARD + hard as usize, sup);
+    joint::mk_or(scratch, k, MARKS, HARD, hard + 1)
 }
 
 // The conjunction of the soft conjuncts.
-pub fn soft_and(scratch: &mut [u8], k: Counters, soft: u32) -> Answer
-    requires { Reading scratch.old k × Good k × (soft ≤ most_members) × (in_parts_bytes ≤ length scratch.old) × Each (λ d. d < k.concepts) (run (words scratch.old) soft_at soft) }
-    ensures { Normalised (soft_and_of (run (words scratch.old) soft_at soft)) k scratch.old scratch.new result }
+pub fn soft_and(scratch: &mut [u8], k: &mut Counters, soft: u32) -> Result<u32, Refusal>
+    requires { Reading scratch.old k.old × Good k.old × (soft ≤ most_members) × (in_parts_bytes ≤ length scratch.old) × Each (λ d. d < k.old.concepts) (run (words scratch.old) soft_at soft) }
+    ensures { Normalised (soft_and_of (run (words scratch.old) soft_at soft)) k.old scratch.old scratch.new (answer k.new result) }
 {
     if soft == 1 {
-        return Answer::Done(k, words::get_word(scratch, SOFT));
+        return Ok(words::get_word(scratch, SOFT));
     }
     joint::mk_and(scratch, k, MARKS, SOFT, soft)
 }

@@ -2,8 +2,8 @@
 use Rattle.std.specs.Prelude.{ℕ, ◌+◌, ltb}
 use Rattle.ir.specs.Pick.{pick}
 use Rattle.ir.specs.declared.counters.Counters.{Counters}
-use Rattle.ir.specs.declared.counters.Visit.{Visit}
-use Rattle.ir.specs.declared.counters.Visit.TheVariants.{Begun, Full}
+use Rattle.ir.specs.Visit.{Visit}
+use Rattle.ir.specs.Visit.{Begun, Full}
 
 abbrev pub counters : (visits limit concepts members var class clauses atoms deferrals line base options : ℕ) → Counters
 counters v l p m x q c a d n b o = record {

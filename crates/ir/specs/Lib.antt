@@ -2,9 +2,15 @@ pub mod Pick
 pub mod Roles
 pub mod Scratch
 pub mod Atoms
+pub mod Qualifiers
 pub mod Records
 pub mod Refusals
 pub mod Deferrals
 pub mod Options
+pub mod Visit
 pub mod Counts
 pub mod RecordLaws
+pub mod Answer
+pub mod Headed
+pub mod Encoded
+pub mod Lined

@@ -9,22 +9,22 @@ use Rattle.ir.specs.Pick.{pick}
 use Rattle.ir.specs.Roles.{role_code, role_of, role_code_lem, code_role}
 use Rattle.ir.specs.declared.atom.Atom.{Atom}
 use Rattle.ir.specs.declared.atom.Atom.TheVariants.{Class, Exists, AtMost, AtLeast, Equal, Role as RoleAtom}
-use Rattle.ir.specs.declared.atom.Qualifier.{Qualifier}
-use Rattle.ir.specs.declared.atom.Qualifier.TheVariants.{Unqualified, Qualified}
+use Rattle.ir.specs.Qualifiers.{Qualifier}
+use Rattle.std.specs.Prelude.{None, Some}
 use Rattle.ir.specs.declared.record.AtomWords.{AtomWords}
-use Rattle.ir.specs.declared.record.Read.{Read}
-use Rattle.ir.specs.declared.record.Read.TheVariants.{NoAtom, Atom as ReadAtom}
+use Rattle.ir.specs.Records.{Read}
+use Rattle.std.specs.Prelude.{None, Some}
 use Rattle.ir.specs.Records.{qualifier_word, qualifier_of, words_of, six, six_of, record_at, read_words, atom_at, read_of, unused_words, class_read, role_read, exists_read, at_most_read, at_least_read, equal_read, same_words, same_atom}
 
 pub qualifier_word_lem : (q : Qualifier) → qualifier_of (qualifier_word q) ≡ q
-qualifier_word_lem Unqualified = refl
-qualifier_word_lem (Qualified k) =
+qualifier_word_lem None = refl
+qualifier_word_lem (Some k) =
     let e : eqb (k + 1) 0 ≡ false = ne_eqb (k + 1) 0 (λ (z : k + 1 ≡ 0). absurd (omega arith)) in
     let d : k + 1 - 1 ≡ k = omega arith in
     rw (e, d) refl
 
 -- an atom's words are read as the atom
-pub read_six_lem : (a : Atom) → read_words (words_of a) ≡ ReadAtom a
+pub read_six_lem : (a : Atom) → read_words (words_of a) ≡ Some a
 unfolding read_of class_read role_read exists_read at_most_read at_least_read equal_read
 read_six_lem (Class k v) =
     let e : eqb (k + 1) 0 ≡ false = ne_eqb (k + 1) 0 (λ (z : k + 1 ≡ 0). absurd (omega arith)) in
@@ -35,8 +35,8 @@ read_six_lem (Exists r k v) =
     let e : eqb (k + 1) 0 ≡ false = ne_eqb (k + 1) 0 (λ (z : k + 1 ≡ 0). absurd (omega arith)) in
     let d : k + 1 - 1 ≡ k = omega arith in
     rw (e, d, role_code_lem r) refl
-read_six_lem (AtMost r q n v) = ap (λ (s : Qualifier). ReadAtom (AtMost (role_of (role_code r)) s n v)) (qualifier_word_lem q) ∙ rw (role_code_lem r) refl
-read_six_lem (AtLeast r q n v) = ap (λ (s : Qualifier). ReadAtom (AtLeast (role_of (role_code r)) s n v)) (qualifier_word_lem q) ∙ rw (role_code_lem r) refl
+read_six_lem (AtMost r q n v) = ap (λ (s : Qualifier). Some (AtMost (role_of (role_code r)) s n v)) (qualifier_word_lem q) ∙ rw (role_code_lem r) refl
+read_six_lem (AtLeast r q n v) = ap (λ (s : Qualifier). Some (AtLeast (role_of (role_code r)) s n v)) (qualifier_word_lem q) ∙ rw (role_code_lem r) refl
 read_six_lem (Equal u v) = refl
 
 -- ---- the other way: words that are read as an atom are that atom's
@@ -44,8 +44,8 @@ six_words : (kind r k n u v : ℕ) → AtomWords
 six_words kind r k n u v = record { 0 = kind; 1 = r; 2 = k; 3 = n; 4 = u; 5 = v }
 
 again : Read → AtomWords → AtomWords
-again (ReadAtom a) w = words_of a
-again NoAtom w = w
+again (Some a) w = words_of a
+again None w = w
 
 by_test : (b : Bool) (x y : Read) (w : AtomWords) → (b ≡ true → again x w ≡ w) → (b ≡ false → again y w ≡ w) → again (pick b x y) w ≡ w
 by_test true x y w f g = f refl
@@ -69,7 +69,7 @@ positive (suc n) f = omega arith
 qualifier_back : (k : ℕ) → qualifier_word (qualifier_of k) ≡ k
 qualifier_back k = go (eqb k 0) refl
   where
-    go : (b : Bool) → eqb k 0 ≡ b → qualifier_word (pick b Unqualified (Qualified (k - 1))) ≡ k
+    go : (b : Bool) → eqb k 0 ≡ b → qualifier_word (pick b None (Some (k - 1))) ≡ k
     go true e = sym (eqb-true k 0 e)
     go false e = positive k (eqb-false k 0 e)
 
@@ -77,8 +77,8 @@ module _ (kind r k n u v : ℕ) where
   class_again : kind ≡ 1 → again (class_read r k n u v) (six_words kind r k n u v) ≡ six_words kind r k n u v
   unfolding class_read six_words again
   class_again e =
-      by_test (unused_words r n v) (pick (eqb k 0) NoAtom (ReadAtom (Class (k - 1) u))) NoAtom (six_words kind r k n u v)
-      (λ z. by_test (eqb k 0) NoAtom (ReadAtom (Class (k - 1) u)) (six_words kind r k n u v) (λ y. refl)
+      by_test (unused_words r n v) (pick (eqb k 0) None (Some (Class (k - 1) u))) None (six_words kind r k n u v)
+      (λ z. by_test (eqb k 0) None (Some (Class (k - 1) u)) (six_words kind r k n u v) (λ y. refl)
       (λ y. let q = unused_zeros r n v z in
       same_six 1 0 (k - 1 + 1) 0 u 0 kind r k n u v (sym e) (sym q.0) (positive k (eqb-false k 0 y)) (sym q.1) refl (sym q.2)))
       (λ z. refl)
@@ -86,7 +86,7 @@ module _ (kind r k n u v : ℕ) where
   role_again : kind ≡ 2 → again (role_read r k n u v) (six_words kind r k n u v) ≡ six_words kind r k n u v
   unfolding role_read six_words again
   role_again e =
-      by_test (unused_words k n 0) (ReadAtom (RoleAtom (role_of r) u v)) NoAtom (six_words kind r k n u v)
+      by_test (unused_words k n 0) (Some (RoleAtom (role_of r) u v)) None (six_words kind r k n u v)
       (λ z. let q = unused_zeros k n 0 z in
       same_six 2 (role_code (role_of r)) 0 0 u v kind r k n u v (sym e) (code_role r) (sym q.0) (sym q.1) refl refl)
       (λ z. refl)
@@ -94,8 +94,8 @@ module _ (kind r k n u v : ℕ) where
   exists_again : kind ≡ 3 → again (exists_read r k n u v) (six_words kind r k n u v) ≡ six_words kind r k n u v
   unfolding exists_read six_words again
   exists_again e =
-      by_test (unused_words n v 0) (pick (eqb k 0) NoAtom (ReadAtom (Exists (role_of r) (k - 1) u))) NoAtom (six_words kind r k n u v)
-      (λ z. by_test (eqb k 0) NoAtom (ReadAtom (Exists (role_of r) (k - 1) u)) (six_words kind r k n u v) (λ y. refl)
+      by_test (unused_words n v 0) (pick (eqb k 0) None (Some (Exists (role_of r) (k - 1) u))) None (six_words kind r k n u v)
+      (λ z. by_test (eqb k 0) None (Some (Exists (role_of r) (k - 1) u)) (six_words kind r k n u v) (λ y. refl)
       (λ y. let q = unused_zeros n v 0 z in
       same_six 3 (role_code (role_of r)) (k - 1 + 1) 0 u 0 kind r k n u v (sym e) (code_role r) (positive k (eqb-false k 0 y)) (sym q.0) refl (sym q.1)))
       (λ z. refl)
@@ -103,21 +103,21 @@ module _ (kind r k n u v : ℕ) where
   at_most_again : kind ≡ 4 → again (at_most_read r k n u v) (six_words kind r k n u v) ≡ six_words kind r k n u v
   unfolding at_most_read six_words again
   at_most_again e =
-      by_test (eqb v 0) (ReadAtom (AtMost (role_of r) (qualifier_of k) n u)) NoAtom (six_words kind r k n u v)
+      by_test (eqb v 0) (Some (AtMost (role_of r) (qualifier_of k) n u)) None (six_words kind r k n u v)
       (λ z. same_six 4 (role_code (role_of r)) (qualifier_word (qualifier_of k)) n u 0 kind r k n u v (sym e) (code_role r) (qualifier_back k) refl refl (sym (eqb-true v 0 z)))
       (λ z. refl)
 
   at_least_again : kind ≡ 5 → again (at_least_read r k n u v) (six_words kind r k n u v) ≡ six_words kind r k n u v
   unfolding at_least_read six_words again
   at_least_again e =
-      by_test (eqb v 0) (ReadAtom (AtLeast (role_of r) (qualifier_of k) n u)) NoAtom (six_words kind r k n u v)
+      by_test (eqb v 0) (Some (AtLeast (role_of r) (qualifier_of k) n u)) None (six_words kind r k n u v)
       (λ z. same_six 5 (role_code (role_of r)) (qualifier_word (qualifier_of k)) n u 0 kind r k n u v (sym e) (code_role r) (qualifier_back k) refl refl (sym (eqb-true v 0 z)))
       (λ z. refl)
 
   equal_again : kind ≡ 6 → again (equal_read r k n u v) (six_words kind r k n u v) ≡ six_words kind r k n u v
   unfolding equal_read six_words again
   equal_again e =
-      by_test (unused_words r k n) (ReadAtom (Equal u v)) NoAtom (six_words kind r k n u v)
+      by_test (unused_words r k n) (Some (Equal u v)) None (six_words kind r k n u v)
       (λ z. let q = unused_zeros r k n z in same_six 6 0 0 0 u v kind r k n u v (sym e) (sym q.0) (sym q.1) (sym q.2) refl refl)
       (λ z. refl)
 
@@ -130,9 +130,9 @@ module _ (kind r k n u v : ℕ) where
       (λ _. by_test (eqb kind 3) _ _ w (λ z. exists_again (eqb-true kind 3 z))
       (λ _. by_test (eqb kind 4) _ _ w (λ z. at_most_again (eqb-true kind 4 z))
       (λ _. by_test (eqb kind 5) _ _ w (λ z. at_least_again (eqb-true kind 5 z))
-      (λ _. by_test (eqb kind 6) _ NoAtom w (λ z. equal_again (eqb-true kind 6 z)) (λ _. refl))))))
+      (λ _. by_test (eqb kind 6) _ None w (λ z. equal_again (eqb-true kind 6 z)) (λ _. refl))))))
 
-pub read_only : (w : AtomWords) (a : Atom) → read_words w ≡ ReadAtom a → w ≡ words_of a
+pub read_only : (w : AtomWords) (a : Atom) → read_words w ≡ Some a → w ≡ words_of a
 unfolding again six_words
 read_only w a e = sym (read_again w.0 w.1 w.2 w.3 w.4 w.5) ∙ ap (λ (x : Read). again x w) e
 
@@ -147,7 +147,7 @@ same_heads x y l m f false p q = absurd (let n : ◌≡◌ {A = ℕ} 0 1 = ap (�
 read_six : List ℕ → Read
 read_six l = read_words (record { 0 = get_or l 0 0; 1 = get_or l 1 0; 2 = get_or l 2 0; 3 = get_or l 3 0; 4 = get_or l 4 0; 5 = get_or l 5 0 })
 
-read_inj : {a b : Atom} → ReadAtom a ≡ ReadAtom b → a ≡ b
+read_inj : {a b : Atom} → Some a ≡ Some b → a ≡ b
 read_inj {a} {b} e = cc
 
 pub same_words_lem : (l m : List ℕ) → same_words l m ≡ true → l ≡ m
@@ -197,5 +197,5 @@ record_put_after w i j x h = record_same (sets w (6 * i) (six_of x)) w j (λ k l
 pub record_put_before : (w : List ℕ) (i j : ℕ) (x : AtomWords) → j < i → record_at (sets w (6 * i) (six_of x)) j ≡ record_at w j
 record_put_before w i j x h = record_same (sets w (6 * i) (six_of x)) w j (λ k l. get_d_sets_before (six_of x) w (6 * i) (6 * j + k) 0 (omega arith))
 
-pub atom_at_put : (w : List ℕ) (i : ℕ) (a : Atom) → 6 * i + 6 ≤ length w → atom_at (sets w (6 * i) (six a)) i ≡ ReadAtom a
+pub atom_at_put : (w : List ℕ) (i : ℕ) (a : Atom) → 6 * i + 6 ≤ length w → atom_at (sets w (6 * i) (six a)) i ≡ Some a
 atom_at_put w i a h = ap read_words (record_put_lem w i (words_of a) h) ∙ read_six_lem a

@@ -1,22 +1,23 @@
 -- An atom as six words: kind, role code, class id + 1, number, two variables; unused is 0, and class 0 on kinds 4 and 5 means unqualified.
-use Rattle.std.specs.Prelude.{Bool, true, false, List, [], ◌∷◌, ℕ, ◌+◌, ◌*◌, ◌-◌, ◌<◌, ◌^◌, eqb, get_or}
+use Rattle.std.specs.Prelude.{Bool, Option, Some, None, true, false, List, [], ◌∷◌, ℕ, ◌+◌, ◌*◌, ◌-◌, ◌<◌, ◌^◌, eqb, get_or}
 use Prim.{Unit}
 use Rattle.ir.specs.Pick.{pick}
 use Rattle.ir.specs.Roles.{role_id, role_code, role_of}
 use Rattle.ir.specs.declared.atom.Atom.{Atom}
 use Rattle.ir.specs.declared.atom.Atom.TheVariants.{Class, Exists, AtMost, AtLeast, Equal, Role as RoleAtom}
-use Rattle.ir.specs.declared.atom.Qualifier.{Qualifier}
-use Rattle.ir.specs.declared.atom.Qualifier.TheVariants.{Unqualified, Qualified}
+use Rattle.ir.specs.Qualifiers.{Qualifier}
 use Rattle.ir.specs.declared.record.AtomWords.{AtomWords}
-use Rattle.ir.specs.declared.record.Read.{Read}
-use Rattle.ir.specs.declared.record.Read.TheVariants.{NoAtom, Atom as ReadAtom}
+
+-- what six words are: an atom, or none
+abbrev pub Read : Type 0
+Read = Option Atom
 
 abbrev pub qualifier_word : Qualifier → ℕ
-qualifier_word Unqualified = 0
-qualifier_word (Qualified k) = k + 1
+qualifier_word None = 0
+qualifier_word (Some k) = k + 1
 
 abbrev pub qualifier_of : ℕ → Qualifier
-qualifier_of w = pick (eqb w 0) Unqualified (Qualified (w - 1))
+qualifier_of w = pick (eqb w 0) None (Some (w - 1))
 
 -- the record's words
 abbrev pub words_of : Atom → AtomWords
@@ -53,22 +54,22 @@ unused_words a b c = pick (eqb a 0) (pick (eqb b 0) (eqb c 0) false) false
 
 -- each kind, of role code r, class word k, number n, variables u and v
 unfoldable pub class_read : (r k n u v : ℕ) → Read
-class_read r k n u v = pick (unused_words r n v) (pick (eqb k 0) NoAtom (ReadAtom (Class (k - 1) u))) NoAtom
+class_read r k n u v = pick (unused_words r n v) (pick (eqb k 0) None (Some (Class (k - 1) u))) None
 
 unfoldable pub role_read : (r k n u v : ℕ) → Read
-role_read r k n u v = pick (unused_words k n 0) (ReadAtom (RoleAtom (role_of r) u v)) NoAtom
+role_read r k n u v = pick (unused_words k n 0) (Some (RoleAtom (role_of r) u v)) None
 
 unfoldable pub exists_read : (r k n u v : ℕ) → Read
-exists_read r k n u v = pick (unused_words n v 0) (pick (eqb k 0) NoAtom (ReadAtom (Exists (role_of r) (k - 1) u))) NoAtom
+exists_read r k n u v = pick (unused_words n v 0) (pick (eqb k 0) None (Some (Exists (role_of r) (k - 1) u))) None
 
 unfoldable pub at_most_read : (r k n u v : ℕ) → Read
-at_most_read r k n u v = pick (eqb v 0) (ReadAtom (AtMost (role_of r) (qualifier_of k) n u)) NoAtom
+at_most_read r k n u v = pick (eqb v 0) (Some (AtMost (role_of r) (qualifier_of k) n u)) None
 
 unfoldable pub at_least_read : (r k n u v : ℕ) → Read
-at_least_read r k n u v = pick (eqb v 0) (ReadAtom (AtLeast (role_of r) (qualifier_of k) n u)) NoAtom
+at_least_read r k n u v = pick (eqb v 0) (Some (AtLeast (role_of r) (qualifier_of k) n u)) None
 
 unfoldable pub equal_read : (r k n u v : ℕ) → Read
-equal_read r k n u v = pick (unused_words r k n) (ReadAtom (Equal u v)) NoAtom
+equal_read r k n u v = pick (unused_words r k n) (Some (Equal u v)) None
 
 unfoldable pub read_of : (kind r k n u v : ℕ) → Read
 read_of kind r k n u v =
@@ -78,7 +79,7 @@ read_of kind r k n u v =
     (pick (eqb kind 4) (at_most_read r k n u v)
     (pick (eqb kind 5) (at_least_read r k n u v)
     (pick (eqb kind 6) (equal_read r k n u v)
-    NoAtom)))))
+    None)))))
 
 -- what a record is, and record i of a table's words
 abbrev pub read_words : AtomWords → Read

@@ -1,33 +1,16 @@
-// The passes' answers. A refusal is document 01's number; its line is the axiom's.
-use crate::atom::Atom;
-use crate::counters::Counters;
+// What passes answer.
+use crate::refusal::Refusal;
 
-// A concept's id, a class's, or 0 where nothing is answered.
+// Of encode_antecedent: how many alternatives, and the longest one's length.
 #[derive(Clone, Copy)]
-pub enum Answer {
-    Done(Counters, u32),
-    Refused(u32),
+pub struct Alternatives {
+    pub count: u32,
+    pub longest: u32,
 }
 
-// Of encode_antecedent: how many alternatives and the longest one's length; or the Rust's None.
-#[derive(Clone, Copy)]
-pub enum Encoded {
-    Found(Counters, u32, u32),
-    Unsupported(Counters),
-    Refused(u32),
-}
-
-// Of head_atom_for: the atom; or the Rust's None.
-#[derive(Clone, Copy)]
-pub enum Headed {
-    Made(Counters, Atom),
-    Absent(Counters),
-    Refused(u32),
-}
-
-// Of a pass over all axioms: a refusal's number and the axiom's line.
-#[derive(Clone, Copy)]
-pub enum Lined {
-    Finished(Counters),
-    Stopped(u32, u32),
+// A refusal at a line; 0 where it is about no one line.
+#[derive(Clone, Copy, PartialEq, Eq, Debug)]
+pub struct Refused {
+    pub refusal: Refusal,
+    pub line: u32,
 }

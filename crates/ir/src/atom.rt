@@ -4,12 +4,8 @@ ghost use Rattle.ir.specs.Atoms.{atom_vars, vars_of, replaced, substitute_atom};
 
 use crate::role::Role;
 
-// The filler of a number restriction: Top, or a class.
-#[derive(Clone, Copy)]
-pub enum Qualifier {
-    Unqualified,
-    Qualified(u32),
-}
+// The filler of a number restriction: a class, or Top where there is none.
+pub type Qualifier = Option<u32>;
 
 #[derive(Clone, Copy)]
 pub enum Atom {

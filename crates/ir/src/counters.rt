@@ -1,6 +1,9 @@
-// The Rust's `&mut Clausifier` as counters by value, handed back beside the lent tables.
-ghost use Rattle.std.specs.Prelude.{◌≡◌, ◌+◌, ◌<◌, ◌^◌};
+// The Rust's `&mut Clausifier` but for its tables.
+ghost use Rattle.std.specs.Prelude.{◌≡◌, ◌+◌, ◌<◌, ◌^◌, IfErr};
+ghost use Rattle.ir.specs.Visit.{visit_of};
 ghost use Rattle.ir.specs.Counts.{visited, fresh_var, fresh_class, deferred_once, pushed, interned, at_line, vars_restarted};
+
+use crate::refusal::Refusal;
 
 #[derive(Clone, Copy)]
 pub struct Counters {
@@ -24,93 +27,79 @@ pub struct Counters {
     pub options: u32,
 }
 
-// The answer of visit: the counters with one visit more, or refusal 10.
-#[derive(Clone, Copy)]
-pub enum Visit {
-    Begun(Counters),
-    Full,
-}
-
 impl Counters {
-    pub fn visit(mut self) -> Visit
-        ensures { result ≡ visited self }
+    // One visit more, where there is one left.
+    pub fn visit(&mut self) -> Result<(), Refusal>
+        ensures self_after { visit_of self.new result ≡ visited self.old }
+        ensures spent { IfErr result (λ e. e ≡ Refusal.VisitsSpent) }
     {
-        let v = self.visits;
-        if v < self.limit {
-            self.visits = v + 1;
-            Visit::Begun(self)
+        if self.visits < self.limit {
+            self.visits += 1;
+            Ok(())
         } else {
-            Visit::Full
+            Err(Refusal::VisitsSpent)
         }
     }
 
-    // The variable itself is `next_var` before the call.
-    pub fn fresh_var(mut self) -> Counters
-        requires { self.next_var + 1 < 2 ^ 32 }
-        ensures { result ≡ fresh_var self }
+    // A fresh variable.
+    pub fn fresh_var(&mut self) -> u32
+        requires { self.old.next_var + 1 < 2 ^ 32 }
+        ensures result_value { result ≡ self.old.next_var }
+        ensures self_after { self.new ≡ fresh_var self.old }
     {
         let v = self.next_var;
         self.next_var = v + 1;
-        self
+        v
     }
 
-    // The class itself is `next_class` before the call.
-    pub fn fresh_class(mut self) -> Counters
-        requires { self.next_class + 1 < 2 ^ 32 }
-        ensures { result ≡ fresh_class self }
+    // A fresh class.
+    pub fn fresh_class(&mut self) -> u32
+        requires { self.old.next_class + 1 < 2 ^ 32 }
+        ensures result_value { result ≡ self.old.next_class }
+        ensures self_after { self.new ≡ fresh_class self.old }
     {
         let q = self.next_class;
         self.next_class = q + 1;
-        self
+        q
     }
 
     // One deferral record more.
-    pub fn defer(mut self) -> Counters
-        requires { self.deferrals + 1 < 2 ^ 32 }
-        ensures { result ≡ deferred_once self }
+    pub fn defer(&mut self)
+        requires { self.old.deferrals + 1 < 2 ^ 32 }
+        ensures { self.new ≡ deferred_once self.old }
     {
-        let d = self.deferrals;
-        self.deferrals = d + 1;
-        self
+        self.deferrals += 1;
     }
 
     // One clause record more, of m atoms.
-    pub fn push(mut self, m: u32) -> Counters
-        requires { (self.clauses + 1 < 2 ^ 32) × (self.atoms + m < 2 ^ 32) }
-        ensures { result ≡ pushed m self }
+    pub fn push(&mut self, m: u32)
+        requires { (self.old.clauses + 1 < 2 ^ 32) × (self.old.atoms + m < 2 ^ 32) }
+        ensures { self.new ≡ pushed m self.old }
     {
-        let c = self.clauses;
-        let a = self.atoms;
-        self.clauses = c + 1;
-        self.atoms = a + m;
-        self
+        self.clauses += 1;
+        self.atoms += m;
     }
 
     // One concept record more, of m list members.
-    pub fn intern(mut self, m: u32) -> Counters
-        requires { (self.concepts + 1 < 2 ^ 32) × (self.members + m < 2 ^ 32) }
-        ensures { result ≡ interned m self }
+    pub fn intern(&mut self, m: u32)
+        requires { (self.old.concepts + 1 < 2 ^ 32) × (self.old.members + m < 2 ^ 32) }
+        ensures { self.new ≡ interned m self.old }
     {
-        let c = self.concepts;
-        let n = self.members;
-        self.concepts = c + 1;
-        self.members = n + m;
-        self
+        self.concepts += 1;
+        self.members += m;
     }
 
     // At another axiom.
-    pub fn at_line(mut self, line: u32) -> Counters
-        ensures { result ≡ at_line line self }
+    pub fn at_line(&mut self, line: u32)
+        ensures { self.new ≡ at_line line self.old }
     {
         self.line = line;
-        self
     }
 
     // The next fresh variable is 1 again: X is 0.
-    pub fn restart_vars(mut self) -> Counters
-        ensures { result ≡ vars_restarted self }
+    pub fn restart_vars(&mut self)
+        ensures { self.new ≡ vars_restarted self.old }
     {
         self.next_var = 1;
-        self
     }
 }

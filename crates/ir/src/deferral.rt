@@ -4,31 +4,21 @@ ghost use Rattle.ir.specs.Deferrals.{deferral_kind};
 
 #[derive(Clone, Copy)]
 pub enum Deferral {
-    DisjointAntecedent,
-    DisjointUnionMember,
-    DisjointUnionCovering,
-    RoleChainLenNe2,
-    Antecedent,
-    HeadOrDisjunct,
-    HeadExistsInner,
-    HeadNotNonatomic,
-    ReflexiveDerivedCap,
+    DisjointAntecedent = 1,
+    DisjointUnionMember = 2,
+    DisjointUnionCovering = 3,
+    RoleChainLenNe2 = 4,
+    Antecedent = 5,
+    HeadOrDisjunct = 6,
+    HeadExistsInner = 7,
+    HeadNotNonatomic = 8,
+    ReflexiveDerivedCap = 9,
 }
 
 impl Deferral {
     pub fn kind(self) -> u32
         ensures { result ≡ deferral_kind self }
     {
-        match self {
-            Deferral::DisjointAntecedent => 1,
-            Deferral::DisjointUnionMember => 2,
-            Deferral::DisjointUnionCovering => 3,
-            Deferral::RoleChainLenNe2 => 4,
-            Deferral::Antecedent => 5,
-            Deferral::HeadOrDisjunct => 6,
-            Deferral::HeadExistsInner => 7,
-            Deferral::HeadNotNonatomic => 8,
-            Deferral::ReflexiveDerivedCap => 9,
-        }
+        self as u32
     }
 }

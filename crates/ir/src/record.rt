@@ -4,42 +4,30 @@ ghost use Rattle.std.proofs.lemmas.List.Edits.{sets};
 ghost use Rattle.words.specs.Words.{words};
 ghost use Rattle.ir.specs.Records.{Fits, qualifier_word, qualifier_of, words_of, six, six_of, record_at, atom_at, read_words};
 ghost use Rattle.ir.specs.Records.{unused_words, class_read, role_read, exists_read, at_most_read, at_least_read, equal_read};
-ghost use Rattle.ir.specs.Records.{same_words, same_atom};
+ghost use Rattle.ir.specs.Records.{same_atom};
 
 use crate::atom::{Atom, Qualifier};
 use crate::role::Role;
 
 // kind, role code, class id + 1, number, two variables
-#[derive(Clone, Copy)]
+#[derive(Clone, Copy, PartialEq, Eq)]
 pub struct AtomWords(pub u32, pub u32, pub u32, pub u32, pub u32, pub u32);
 
-// What six words are.
-#[derive(Clone, Copy)]
-pub enum Read {
-    Atom(Atom),
-    NoAtom,
+// 0, or one more than the class.
+fn qualifier_word(q: Qualifier) -> u32
+    requires { qualifier_word q < 2 ^ 32 }
+    ensures { result ≡ qualifier_word q }
+{
+    match q {
+        None => 0,
+        Some(c) => c + 1,
+    }
 }
 
-impl Qualifier {
-    // 0, or one more than the class.
-    pub fn word(self) -> u32
-        requires { qualifier_word self < 2 ^ 32 }
-        ensures { result ≡ qualifier_word self }
-    {
-        match self {
-            Qualifier::Unqualified => 0,
-            Qualifier::Qualified(c) => c + 1,
-        }
-    }
-
-    pub fn of_word(w: u32) -> Qualifier
-        ensures { result ≡ qualifier_of w }
-    {
-        if w == 0 {
-            return Qualifier::Unqualified;
-        }
-        Qualifier::Qualified(w - 1)
-    }
+fn qualifier_of(w: u32) -> Qualifier
+    ensures { result ≡ qualifier_of w }
+{
+    if w == 0 { None } else { Some(w - 1) }
 }
 
 pub fn encode(a: Atom) -> AtomWords
@@ -50,8 +38,8 @@ pub fn encode(a: Atom) -> AtomWords
         Atom::Class(k, v) => AtomWords(1, 0, k + 1, 0, v, 0),
         Atom::Role(r, u, v) => AtomWords(2, r.code(), 0, 0, u, v),
         Atom::Exists(r, k, v) => AtomWords(3, r.code(), k + 1, 0, v, 0),
-        Atom::AtMost(r, q, n, v) => AtomWords(4, r.code(), q.word(), n, v, 0),
-        Atom::AtLeast(r, q, n, v) => AtomWords(5, r.code(), q.word(), n, v, 0),
+        Atom::AtMost(r, q, n, v) => AtomWords(4, r.code(), qualifier_word(q), n, v, 0),
+        Atom::AtLeast(r, q, n, v) => AtomWords(5, r.code(), qualifier_word(q), n, v, 0),
         Atom::Equal(u, v) => AtomWords(6, 0, 0, 0, u, v),
     }
 }
@@ -69,70 +57,71 @@ fn unused(a: u32, b: u32, c: u32) -> bool
     c == 0
 }
 
-fn read_class(w: AtomWords) -> Read
+fn read_class(w: AtomWords) -> Option<Atom>
     ensures { result ≡ class_read w.1 w.2 w.3 w.4 w.5 }
 {
     let k = w.2;
     if !unused(w.1, w.3, w.5) {
-        return Read::NoAtom;
+        return None;
     }
     if k == 0 {
-        return Read::NoAtom;
+        return None;
     }
-    Read::Atom(Atom::Class(k - 1, w.4))
+    Some(Atom::Class(k - 1, w.4))
 }
 
-fn read_role(w: AtomWords) -> Read
+fn read_role(w: AtomWords) -> Option<Atom>
     ensures { result ≡ role_read w.1 w.2 w.3 w.4 w.5 }
 {
     if !unused(w.2, w.3, 0) {
-        return Read::NoAtom;
+        return None;
     }
-    Read::Atom(Atom::Role(Role::of_code(w.1), w.4, w.5))
+    Some(Atom::Role(Role::of_code(w.1), w.4, w.5))
 }
 
-fn read_exists(w: AtomWords) -> Read
+fn read_exists(w: AtomWords) -> Option<Atom>
     ensures { result ≡ exists_read w.1 w.2 w.3 w.4 w.5 }
 {
     let k = w.2;
     if !unused(w.3, w.5, 0) {
-        return Read::NoAtom;
+        return None;
     }
     if k == 0 {
-        return Read::NoAtom;
+        return None;
     }
-    Read::Atom(Atom::Exists(Role::of_code(w.1), k - 1, w.4))
+    Some(Atom::Exists(Role::of_code(w.1), k - 1, w.4))
 }
 
-fn read_at_most(w: AtomWords) -> Read
+// As at_least_read but for the variant that it makes: a shared function would be told which.
+fn read_at_most(w: AtomWords) -> Option<Atom>
     ensures { result ≡ at_most_read w.1 w.2 w.3 w.4 w.5 }
 {
     if w.5 != 0 {
-        return Read::NoAtom;
+        return None;
     }
-    Read::Atom(Atom::AtMost(Role::of_code(w.1), Qualifier::of_word(w.2), w.3, w.4))
+    Some(Atom::AtMost(Role::of_code(w.1), qualifier_of(w.2), w.3, w.4))
 }
 
-fn read_at_least(w: AtomWords) -> Read
+fn read_at_least(w: AtomWords) -> Option<Atom>
     ensures { result ≡ at_least_read w.1 w.2 w.3 w.4 w.5 }
 {
     if w.5 != 0 {
-        return Read::NoAtom;
+        return None;
     }
-    Read::Atom(Atom::AtLeast(Role::of_code(w.1), Qualifier::of_word(w.2), w.3, w.4))
+    Some(Atom::AtLeast(Role::of_code(w.1), qualifier_of(w.2), w.3, w.4))
 }
 
-fn read_equal(w: AtomWords) -> Read
+fn read_equal(w: AtomWords) -> Option<Atom>
     ensures { result ≡ equal_read w.1 w.2 w.3 w.4 w.5 }
 {
     if !unused(w.1, w.2, w.3) {
-        return Read::NoAtom;
+        return None;
     }
-    Read::Atom(Atom::Equal(w.4, w.5))
+    Some(Atom::Equal(w.4, w.5))
 }
 
 // The atom of six words; six that no atom has are none.
-pub fn decode(w: AtomWords) -> Read
+pub fn decode(w: AtomWords) -> Option<Atom>
     ensures { result ≡ read_words w }
 {
     let kind = w.0;
@@ -143,7 +132,7 @@ pub fn decode(w: AtomWords) -> Read
         4 => read_at_most(w),
         5 => read_at_least(w),
         6 => read_equal(w),
-        _ => Read::NoAtom,
+        _ => None,
     }
 }
 
@@ -185,41 +174,17 @@ fn get_record(t: &[u8], i: usize) -> AtomWords
 }
 
 // What record i of a table is.
-pub fn get_atom(t: &[u8], i: usize) -> Read
+pub fn get_atom(t: &[u8], i: usize) -> Option<Atom>
     requires { 24 * i + 24 ≤ length t.now }
     ensures { result ≡ atom_at (words t.now) i }
 {
     decode(get_record(t, i))
 }
 
-fn same_words(a: AtomWords, b: AtomWords) -> bool
-    ensures { result ≡ same_words (six_of a) (six_of b) }
-{
-    if a.0 != b.0 {
-        return false;
-    }
-    if a.1 != b.1 {
-        return false;
-    }
-    if a.2 != b.2 {
-        return false;
-    }
-    if a.3 != b.3 {
-        return false;
-    }
-    if a.4 != b.4 {
-        return false;
-    }
-    if a.5 != b.5 {
-        return false;
-    }
-    true
-}
-
-// Equality of two atoms, by their words.
+// Equality of two atoms, by their words, as the rules have it: a derived one would go by variants and fields.
 pub fn same_atom(a: Atom, b: Atom) -> bool
     requires { Fits a × Fits b }
     ensures { result ≡ same_atom a b }
 {
-    same_words(encode(a), encode(b))
+    encode(a) == encode(b)
 }

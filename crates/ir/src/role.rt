@@ -48,7 +48,7 @@ impl Role {
         }
     }
 
-    // The role of a code.
+    // The role of a code. No From: a number may also be a role's id.
     pub fn of_code(code: u32) -> Role
         ensures { result ≡ role_of code }
     {

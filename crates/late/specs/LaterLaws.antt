@@ -7,8 +7,8 @@ use Prim.{Unit}
 use Rattle.words.specs.Words.{words}
 use Rattle.ir.specs.Options.{body_decompose}
 use Rattle.ir.specs.declared.counters.Counters.{Counters}
-use Rattle.ir.specs.declared.answer.Answer.{Answer}
-use Rattle.ir.specs.declared.answer.Answer.TheVariants.{Done, Refused}
+use Rattle.ir.specs.Answer.{Answer}
+use Rattle.ir.specs.Answer.{Done, Refused}
 use Rattle.rules.specs.Base.{Res, ok, refused, then}
 use Rattle.rules.specs.Concept.{Axiom}
 use Rattle.rules.specs.State.{Out}

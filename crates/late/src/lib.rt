@@ -5,66 +5,54 @@ ghost use Rattle.std.specs.Prelude.{◌≡◌, ◌*◌, ◌≤◌, length};
 ghost use Rattle.words.specs.Words.{words};
 ghost use Rattle.ir.specs.Options.{body_decompose};
 ghost use Rattle.rules.specs.Run.{reflexive_passes, decomposition, late_passes};
-ghost use Rattle.tables.specs.Drawn.{shown, after, Sized};
+ghost use Rattle.tables.specs.Drawn.{shown, after};
 ghost use Rattle.branches.specs.Layout.{work_words};
 ghost use Rattle.decomposition.specs.Decomposing.{Decomposing};
 ghost use Rattle.late.specs.Flagged.{Flagged};
 ghost use Rattle.late.specs.Later.{Later};
+ghost use Rattle.ir.specs.Answer.{answer, done};
+ghost use Rattle.tables.specs.Lending.{SameReferences};
 
 use counted::loops;
-use ir::answer::Answer;
-use ir::counters::Counters;
 use ir::options;
+use ir::refusal::Refusal;
 use reflexive::ids;
+use tables::lent::Tables;
 use unfolding::unfold;
 
 // Nothing is reflexive in a set of none.
-fn reflexive_passes(
-    scratch: &mut [u8],
-    clauses: &mut [u8],
-    atoms: &mut [u8],
-    deferrals: &mut [u8],
-    k: Counters,
-    size: u32,
-) -> Answer
-    requires { Flagged scratch.old k size (words clauses.old) (words atoms.old) (words deferrals.old) × Sized (length clauses.old) (length atoms.old) (length deferrals.old) }
-    ensures { (F : Flagged scratch.old k size (words clauses.old) (words atoms.old) (words deferrals.old)) → after result (words clauses.new) (words atoms.new) (words deferrals.new) ≡ shown (λ _. 0) k F.env.rooms (reflexive_passes F.env F.set F.state) }
+fn reflexive_passes(lent: &mut Tables<'_>, scratch: &mut [u8], size: u32) -> Result<(), Refusal>
+    requires { Flagged scratch.old lent.old.counters size (words lent.old.clauses.now) (words lent.old.atoms.now) (words lent.old.deferrals.now) }
+    ensures references { SameReferences lent.old lent.new }
+    ensures did { (F : Flagged scratch.old lent.old.counters size (words lent.old.clauses.now) (words lent.old.atoms.now) (words lent.old.deferrals.now)) → after (done lent.new.counters result) (words lent.new.clauses.now) (words lent.new.atoms.now) (words lent.new.deferrals.now) ≡ shown (λ _. 0) lent.old.counters F.env.rooms (reflexive_passes F.env F.set F.state) }
 {
     if size == 0 {
-        return Answer::Done(k, 0);
+        return Ok(());
     }
-    match unfold::apply_reflexive_roles(scratch, clauses, atoms, deferrals, k) {
-        Answer::Done(l, _) => loops::add_counted_self_loops(scratch, clauses, atoms, l),
-        Answer::Refused(e) => Answer::Refused(e),
-    }
+    unfold::apply_reflexive_roles(lent, scratch)?;
+    loops::add_counted_self_loops(lent, scratch)
 }
 
-// Only with its option.
-fn decomposed(scratch: &mut [u8], clauses: &mut [u8], atoms: &mut [u8], k: Counters) -> Answer
-    requires { Decomposing k (words clauses.old) (words atoms.old) × (4 * work_words ≤ length scratch.old) × Sized (length clauses.old) (length atoms.old) 0 }
-    ensures { (D : Decomposing k (words clauses.old) (words atoms.old)) → after result (words clauses.new) (words atoms.new) D.deferrals ≡ shown (λ n. n) k D.env.rooms (decomposition D.env (body_decompose k.options) D.state) }
+// Only with its option; answers how many bodies were decomposed.
+fn decomposed(lent: &mut Tables<'_>, scratch: &mut [u8]) -> Result<u32, Refusal>
+    requires { Decomposing lent.old.counters (words lent.old.clauses.now) (words lent.old.atoms.now) × (4 * work_words ≤ length scratch.old) }
+    ensures references { SameReferences lent.old lent.new }
+    ensures deferrals { lent.new.deferrals.now ≡ lent.old.deferrals.now }
+    ensures did { (D : Decomposing lent.old.counters (words lent.old.clauses.now) (words lent.old.atoms.now)) → after (answer lent.new.counters result) (words lent.new.clauses.now) (words lent.new.atoms.now) D.deferrals ≡ shown (λ n. n) lent.old.counters D.env.rooms (decomposition D.env (body_decompose lent.old.counters.options) D.state) }
 {
-    if !options::body_decompose(k.options) {
-        return Answer::Done(k, 0);
+    if !options::body_decompose(lent.counters.options) {
+        return Ok(0);
     }
-    decomposition::decompose_wide_bodies(scratch, clauses, atoms, k)
+    decomposition::decompose_wide_bodies(lent, scratch)
 }
 
 // Of the n axioms in scratch; answers how many bodies were decomposed.
-pub fn late_passes(
-    scratch: &mut [u8],
-    clauses: &mut [u8],
-    atoms: &mut [u8],
-    deferrals: &mut [u8],
-    k: Counters,
-    n: u32,
-) -> Answer
-    requires { Later scratch.old k n (words clauses.old) (words atoms.old) (words deferrals.old) × Sized (length clauses.old) (length atoms.old) (length deferrals.old) }
-    ensures { (L : Later scratch.old k n (words clauses.old) (words atoms.old) (words deferrals.old)) → after result (words clauses.new) (words atoms.new) (words deferrals.new) ≡ shown (λ m. m) k L.env.rooms (late_passes L.env L.axioms (body_decompose k.options) L.state) }
+pub fn late_passes(lent: &mut Tables<'_>, scratch: &mut [u8], n: u32) -> Result<u32, Refusal>
+    requires { Later scratch.old lent.old.counters n (words lent.old.clauses.now) (words lent.old.atoms.now) (words lent.old.deferrals.now) }
+    ensures references { SameReferences lent.old lent.new }
+    ensures did { (L : Later scratch.old lent.old.counters n (words lent.old.clauses.now) (words lent.old.atoms.now) (words lent.old.deferrals.now)) → after (answer lent.new.counters result) (words lent.new.clauses.now) (words lent.new.atoms.now) (words lent.new.deferrals.now) ≡ shown (λ m. m) lent.old.counters L.env.rooms (late_passes L.env L.axioms (body_decompose lent.old.counters.options) L.state) }
 {
     let size = ids::reflexive_role_ids(scratch, n);
-    match reflexive_passes(scratch, clauses, atoms, deferrals, k, size) {
-        Answer::Done(l, _) => decomposed(scratch, clauses, atoms, l),
-        Answer::Refused(e) => Answer::Refused(e),
-    }
+    reflexive_passes(lent, scratch, size)?;
+    decomposed(lent, scratch)
 }

@@ -1,21 +1,14 @@
 -- The code's reading of classes and roles.
-use Rattle.std.specs.Prelude.{Bool, true, false, eqb, ℕ, ◌<◌}
-use Rattle.std.proofs.Math.Option.{Option, none, some}
+use Rattle.std.specs.Prelude.{Bool, true, false, eqb, Option, Some, None}
+use Rattle.std.proofs.Math.Option as Rules
 use Prim.{Unit}
 use Rattle.rules.specs.Concept.{Concept}
 use Rattle.rules.specs.Concept.{Top, Bot, Atomic, Nominal, SelfRestriction, Not, And, Or, Some, All, Min, Max}
-use Rattle.tables.specs.Good.{most_names}
-use Rattle.leaves.specs.declared.read.ClassId.{ClassId}
-use Rattle.leaves.specs.declared.read.ClassId.TheVariants as Class
 
-abbrev pub class_in : ClassId → Option ℕ
-class_in (Class.Some a) = some a
-class_in Class.None = none
-
--- a class of the deck, an individual's, or the name of a limit
-abbrev pub SmallClass : ClassId → Type 0
-SmallClass (Class.Some a) = a < most_names
-SmallClass Class.None = Unit {0}
+-- the code's option as the rules have it
+abbrev pub option_in : {A : Type 0} → Option A → Rules.Option A
+option_in (Some a) = Rules.some a
+option_in None = Rules.none
 
 abbrev pub HasRole : Concept → Type 0
 HasRole Top = ⊥

@@ -10,7 +10,7 @@ use Prim.Native.Nat.{ℕ, zero, suc}
 use Rattle.std.proofs.Common.{arith}
 use Rattle.ir.specs.declared.atom.Atom.{Atom}
 use Rattle.ir.specs.declared.atom.Atom.TheVariants.{AtMost, AtLeast}
-use Rattle.ir.specs.declared.atom.Qualifier.TheVariants.{Unqualified, Qualified}
+use Rattle.std.specs.Prelude.{None, Some}
 use Rattle.rules.specs.Base.{Res, ok, refused, then}
 use Rattle.rules.specs.Concept.{Concept}
 use Rattle.rules.specs.Concept.{Top, Bot, Atomic, Nominal, SelfRestriction, Not, And, Or, Some, All, Min, Max}
@@ -98,9 +98,9 @@ module _ (env : Env) (pool : Pool) (emit : Emits) where
   emit_named_lem b v s (Some r d) h = rw (await_none env d s) refl
   emit_named_lem b v s (All _ _) h = absurd (let z : ◌≡◌ {A = ℕ} 0 1 = cc in omega arith)
   emit_named_lem b v s (Min zero r d) h = absurd (let z : ◌≡◌ {A = ℕ} 0 1 = cc in omega arith)
-  emit_named_lem b v s (Min (suc n) r d) h = rw (not-true (is_top (at pool d)) h, await_none env d s) (through Qualified (atomic_name_of env pool emit d s) (λ q t. unless_dkey env pool emit b (AtLeast (canon env r) q (suc n) v) (is_dkey_qualifier env q) t))
+  emit_named_lem b v s (Min (suc n) r d) h = rw (not-true (is_top (at pool d)) h, await_none env d s) (through Some (atomic_name_of env pool emit d s) (λ q t. unless_dkey env pool emit b (AtLeast (canon env r) q (suc n) v) (is_dkey_qualifier env q) t))
   emit_named_lem b v s (Max n r d) h = past (await env d (named_anew env (at pool d)) s) (cardinality_qualifier env pool emit d) (λ q t. unless_dkey env pool emit b (AtMost (canon env r) q n v) (is_dkey_qualifier env q) t) (atomic_name_of env pool emit d) (λ q t. emit_named env pool v (Max n r d) b q t)
-      (λ t. rw (not-true (is_top (at pool d)) h) (through Qualified (atomic_name_of env pool emit d t) (λ q t. unless_dkey env pool emit b (AtMost (canon env r) q n v) (is_dkey_qualifier env q) t)))
+      (λ t. rw (not-true (is_top (at pool d)) h) (through Some (atomic_name_of env pool emit d t) (λ q t. unless_dkey env pool emit b (AtMost (canon env r) q n v) (is_dkey_qualifier env q) t)))
 
   -- ---- head_atom_for
   not_disjunct : (c v : ℕ) (s : Out) (x e : Concept) → not_atom env pool emit v e (class_id_of env e) s ≡ disjunct_atom env pool (atomic_name_of env pool emit) c v x (negated_or env pool (negated_atom env pool 0 e)) s
@@ -119,19 +119,19 @@ module _ (env : Env) (pool : Pool) (emit : Emits) where
   not_disjunct c v s x (Max _ _ _) = refl
 
   min_disjunct : (c v : ℕ) (s : Out) (n : ℕ) (r : Role) (d : ℕ) (named top : Bool) → is_top (at pool d) ≡ top
-      → min_atom env pool emit c v n r d named s ≡ disjunct_atom env pool (atomic_name_of env pool emit) c v (Min n r d) (counted_or env pool named top (AtLeast (canon env r) Unqualified n v)) s
+      → min_atom env pool emit c v n r d named s ≡ disjunct_atom env pool (atomic_name_of env pool emit) c v (Min n r d) (counted_or env pool named top (AtLeast (canon env r) None n v)) s
   unfolding min_atom name_atom cardinality_qualifier qualifier_or
   min_disjunct c v s n r d true top e = refl
   min_disjunct c v s n r d false true e = rw e refl
-  min_disjunct c v s n r d false false e = rw (e, await_none env d s) (through Qualified (atomic_name_of env pool emit d s) (λ q t. ok (some (AtLeast (canon env r) q n v)) t))
+  min_disjunct c v s n r d false false e = rw (e, await_none env d s) (through Some (atomic_name_of env pool emit d s) (λ q t. ok (some (AtLeast (canon env r) q n v)) t))
 
   max_disjunct : (c v : ℕ) (s : Out) (n : ℕ) (r : Role) (d : ℕ) (named top : Bool) → is_top (at pool d) ≡ top
-      → max_atom env pool emit c v n r d named s ≡ disjunct_atom env pool (atomic_name_of env pool emit) c v (Max n r d) (counted_or env pool named top (AtMost (canon env r) Unqualified n v)) s
+      → max_atom env pool emit c v n r d named s ≡ disjunct_atom env pool (atomic_name_of env pool emit) c v (Max n r d) (counted_or env pool named top (AtMost (canon env r) None n v)) s
   unfolding max_atom name_atom limit_qualifier cardinality_qualifier qualifier_or
   max_disjunct c v s n r d true top e = refl
   max_disjunct c v s n r d false true e = rw (e, await_none env d s) refl
-  max_disjunct c v s n r d false false e = past (await env d (named_anew env (at pool d)) s) (cardinality_qualifier env pool emit d) (λ q t. ok (some (AtMost (canon env r) q n v)) t) (atomic_name_of env pool emit d) (λ q t. ok (some (AtMost (canon env r) (Qualified q) n v)) t)
-      (λ t. rw e (through Qualified (atomic_name_of env pool emit d t) (λ q t. ok (some (AtMost (canon env r) q n v)) t)))
+  max_disjunct c v s n r d false false e = past (await env d (named_anew env (at pool d)) s) (cardinality_qualifier env pool emit d) (λ q t. ok (some (AtMost (canon env r) q n v)) t) (atomic_name_of env pool emit d) (λ q t. ok (some (AtMost (canon env r) (Some q) n v)) t)
+      (λ t. rw e (through Some (atomic_name_of env pool emit d t) (λ q t. ok (some (AtMost (canon env r) q n v)) t)))
 
   pub head_disjunct : (c v : ℕ) (s : Out) (e : Concept) → at pool c ≡ e → atom_or env pool emit c v (class_id_of env e) s ≡ disjunct_atom env pool (atomic_name_of env pool emit) c v e (disjunct_of env pool v e) s
   unfolding atom_or compound_atom name_atom

@@ -4,9 +4,9 @@ use Rattle.std.specs.Prelude.{Bool, true, false, not, ◌||◌, ◌&&◌, List, 
 use Rattle.std.proofs.Math.Option.{Option, none, some}
 use Rattle.ir.specs.declared.atom.Atom.{Atom}
 use Rattle.ir.specs.declared.atom.Atom.TheVariants.{Class, Exists, AtMost, AtLeast, Role as RoleAtom}
-use Rattle.ir.specs.declared.atom.Qualifier.TheVariants.{Unqualified, Qualified}
+use Rattle.std.specs.Prelude.{None, Some}
 use Rattle.ir.specs.declared.deferral.Deferral.TheVariants.{HeadNotNonatomic}
-use Rattle.rules.specs.Base.{return, then, ◌>>=◌, ◌>>◌}
+use Rattle.rules.specs.Base.{return, ◌>>=◌, ◌>>◌}
 use Rattle.rules.specs.Concept.{Concept}
 use Rattle.rules.specs.Concept.{Top, Bot, Atomic, Nominal, SelfRestriction, Not, And, Or, Some, All, Min, Max}
 use Rattle.rules.specs.Pool.{Pool, at}
@@ -67,8 +67,8 @@ module _ (env : Env) (pool : Pool) where
   leaf_of v (Some _ _) = Nothing
   leaf_of v (All _ _) = Nothing
   leaf_of v (Min zero r d) = Nothing
-  leaf_of v (Min (suc n) r d) = Head (AtLeast (canon env r) Unqualified (suc n) v)
-  leaf_of v (Max n r d) = Head (AtMost (canon env r) Unqualified n v)
+  leaf_of v (Min (suc n) r d) = Head (AtLeast (canon env r) None (suc n) v)
+  leaf_of v (Max n r d) = Head (AtMost (canon env r) None n v)
 
   abbrev pub emit_leaf : List Atom → Leaf → E (Unit {0})
   emit_leaf b Nothing = return tt
@@ -96,8 +96,8 @@ module _ (env : Env) (pool : Pool) where
   emit_named v (Or _) b q = return tt
   emit_named v (Some r _) b q = push env b (Exists (canon env r) q v ∷ [])
   emit_named v (All _ _) b q = return tt
-  emit_named v (Min n r _) b q = unless_key b (AtLeast (canon env r) (Qualified q) n v) (is_dkey env (some q))
-  emit_named v (Max n r _) b q = unless_key b (AtMost (canon env r) (Qualified q) n v) (is_dkey env (some q))
+  emit_named v (Min n r _) b q = unless_key b (AtLeast (canon env r) (Some q) n v) (is_dkey env (some q))
+  emit_named v (Max n r _) b q = unless_key b (AtMost (canon env r) (Some q) n v) (is_dkey env (some q))
 
   abbrev pub drops_head : Concept → ℕ → Bool
   drops_head Top q = false
@@ -135,8 +135,8 @@ module _ (env : Env) (pool : Pool) where
   disjunct_of v (Or _) = Whole
   disjunct_of v (Some _ _) = Filler
   disjunct_of v (All _ _) = Whole
-  disjunct_of v (Min n r d) = counted_or (not env.card_disjunct_atoms || (eqb n 0 || is_dkey env (class_id_of env (at pool d)))) (is_top (at pool d)) (AtLeast (canon env r) Unqualified n v)
-  disjunct_of v (Max n r d) = counted_or (not env.card_disjunct_atoms || is_dkey env (class_id_of env (at pool d))) (is_top (at pool d)) (AtMost (canon env r) Unqualified n v)
+  disjunct_of v (Min n r d) = counted_or (not env.card_disjunct_atoms || (eqb n 0 || is_dkey env (class_id_of env (at pool d)))) (is_top (at pool d)) (AtLeast (canon env r) None n v)
+  disjunct_of v (Max n r d) = counted_or (not env.card_disjunct_atoms || is_dkey env (class_id_of env (at pool d))) (is_top (at pool d)) (AtMost (canon env r) None n v)
 
   -- Min and Max that are no atoms of their own
   abbrev pub no_atom : Concept → Bool
@@ -165,8 +165,8 @@ module _ (env : Env) (pool : Pool) where
   over_top v (Or _) = Class 0 v
   over_top v (Some _ _) = Class 0 v
   over_top v (All _ _) = Class 0 v
-  over_top v (Min n r _) = AtLeast (canon env r) Unqualified n v
-  over_top v (Max n r _) = AtMost (canon env r) Unqualified n v
+  over_top v (Min n r _) = AtLeast (canon env r) None n v
+  over_top v (Max n r _) = AtMost (canon env r) None n v
 
   -- the atom of a restriction whose filler is named q
   abbrev pub filler_atom : ℕ → Concept → ℕ → Atom
@@ -180,8 +180,8 @@ module _ (env : Env) (pool : Pool) where
   filler_atom v (Or _) q = Class q v
   filler_atom v (Some r _) q = Exists (canon env r) q v
   filler_atom v (All _ _) q = Class q v
-  filler_atom v (Min n r _) q = AtLeast (canon env r) (Qualified q) n v
-  filler_atom v (Max n r _) q = AtMost (canon env r) (Qualified q) n v
+  filler_atom v (Min n r _) q = AtLeast (canon env r) (Some q) n v
+  filler_atom v (Max n r _) q = AtMost (canon env r) (Some q) n v
 
   -- the filler of a restriction
   abbrev pub filler_of : Concept → ℕ

@@ -9,9 +9,8 @@ use Rattle.ir.specs.Pick.{pick}
 use Rattle.ir.specs.Roles.{role_id, role_of, code_below}
 use Rattle.ir.specs.declared.counters.Counters.{Counters}
 use Rattle.ir.specs.declared.role.Role.{Role}
-use Rattle.ir.specs.declared.role.Role.TheVariants.{Named}
 use Rattle.ir.specs.declared.atom.Atom.TheVariants.{Class, AtLeast}
-use Rattle.ir.specs.declared.atom.Qualifier.TheVariants.{Unqualified}
+use Rattle.std.specs.Prelude.{None}
 use Rattle.rules.specs.Concept.{Concept}
 use Rattle.rules.specs.Concept.{Top, Bot, Atomic, Nominal, SelfRestriction, Not, And, Or, Some, All, Min, Max}
 use Rattle.rules.specs.Pool.{Pool, at, members}
@@ -24,7 +23,6 @@ use Rattle.pool.specs.Layout.{field, concept_from, concept_at, pool_of, plain, s
 use Rattle.pool.specs.HeldLaws.{pool_length, pool_at, record_kind, concept_is, kind_range}
 use Rattle.pool.specs.Shapes.{by_test}
 use Rattle.tables.specs.Good.{most_names}
-use Rattle.leaves.specs.declared.leaf.Leaf.{Leaf}
 use Rattle.leaves.specs.declared.leaf.Leaf.TheVariants as LeafIs
 use Rattle.leaves.specs.declared.disjunct.Disjunct.TheVariants as DisjunctIs
 use Rattle.leaves.specs.declared.form.Form.TheVariants as FormIs
@@ -283,7 +281,7 @@ module _ (env : Env) (pool : Pool) (v : ℕ) where
   leaf_rest (Min n r d) h2 h3 h4 h5 h6 h11 h12 = absurd (h11 refl)
   leaf_rest (Max n r d) h2 h3 h4 h5 h6 h11 h12 = absurd (h12 refl)
 
-  pub leaf_min : (n : ℕ) (r : Role) (d : ℕ) → (n ≡ 0 → ⊥) → LeafIs.Head (AtLeast (canon env r) Unqualified n v) ≡ leaf_of env pool v (Min n r d)
+  pub leaf_min : (n : ℕ) (r : Role) (d : ℕ) → (n ≡ 0 → ⊥) → LeafIs.Head (AtLeast (canon env r) None n v) ≡ leaf_of env pool v (Min n r d)
   leaf_min zero r d h = absurd (h refl)
   leaf_min (suc n) r d h = refl
 
@@ -339,109 +337,9 @@ or_rest true false d h g = refl
 or_rest true true d h g = absurd (let z : ◌≡◌ {A = ℕ} 0 1 = cc in omega arith)
 or_rest false n d h g = absurd (let z : ◌≡◌ {A = ℕ} 0 1 = cc in omega arith)
 
-pub drops_is : (env : Env) (pool : Pool) (e : Concept) (q : ℕ) → 11 ≤ (plain e).kind → is_dkey env (some q) ≡ drops_head env pool e q
-drops_is env pool Top q h = absurd (omega arith)
-drops_is env pool Bot q h = absurd (omega arith)
-drops_is env pool (Atomic a) q h = absurd (omega arith)
-drops_is env pool (Nominal i) q h = absurd (omega arith)
-drops_is env pool (SelfRestriction r) q h = absurd (omega arith)
-drops_is env pool (Not d) q h = absurd (omega arith)
-drops_is env pool (And l) q h = absurd (omega arith)
-drops_is env pool (Or l) q h = absurd (omega arith)
-drops_is env pool (Some r d) q h = absurd (omega arith)
-drops_is env pool (All r d) q h = absurd (omega arith)
-drops_is env pool (Min n r d) q h = refl
-drops_is env pool (Max n r d) q h = refl
-
 -- ---- forms
 module _ (pool : Pool) where
-  pub form_leaf : (e : Concept) → (plain e).kind < 7 → FormIs.Leaf ≡ form_of pool e
-  form_leaf Top h = refl
-  form_leaf Bot h = refl
-  form_leaf (Atomic a) h = refl
-  form_leaf (Nominal i) h = refl
-  form_leaf (SelfRestriction r) h = refl
-  form_leaf (Not d) h = refl
-  form_leaf (And l) h = absurd (omega arith)
-  form_leaf (Or l) h = absurd (omega arith)
-  form_leaf (Some r d) h = absurd (omega arith)
-  form_leaf (All r d) h = absurd (omega arith)
-  form_leaf (Min zero r d) h = refl
-  form_leaf (Min (suc n) r d) h = absurd (omega arith)
-  form_leaf (Max n r d) h = absurd (omega arith)
-
-  pub form_and : (e : Concept) → (plain e).kind ≡ 7 → FormIs.And ≡ form_of pool e
-  form_and Top h = absurd (omega arith)
-  form_and Bot h = absurd (omega arith)
-  form_and (Atomic a) h = absurd (omega arith)
-  form_and (Nominal i) h = absurd (omega arith)
-  form_and (SelfRestriction r) h = absurd (omega arith)
-  form_and (Not d) h = absurd (omega arith)
-  form_and (And l) h = refl
-  form_and (Or l) h = absurd (omega arith)
-  form_and (Some r d) h = absurd (omega arith)
-  form_and (All r d) h = absurd (omega arith)
-  form_and (Min n r d) h = absurd (omega arith)
-  form_and (Max n r d) h = absurd (omega arith)
-
-  pub form_or : (e : Concept) → (plain e).kind ≡ 8 → FormIs.Or ≡ form_of pool e
-  form_or Top h = absurd (omega arith)
-  form_or Bot h = absurd (omega arith)
-  form_or (Atomic a) h = absurd (omega arith)
-  form_or (Nominal i) h = absurd (omega arith)
-  form_or (SelfRestriction r) h = absurd (omega arith)
-  form_or (Not d) h = absurd (omega arith)
-  form_or (And l) h = absurd (omega arith)
-  form_or (Or l) h = refl
-  form_or (Some r d) h = absurd (omega arith)
-  form_or (All r d) h = absurd (omega arith)
-  form_or (Min n r d) h = absurd (omega arith)
-  form_or (Max n r d) h = absurd (omega arith)
-
-  pub form_some : (e : Concept) → (plain e).kind ≡ 9 → FormIs.Named ≡ form_of pool e
-  form_some Top h = absurd (omega arith)
-  form_some Bot h = absurd (omega arith)
-  form_some (Atomic a) h = absurd (omega arith)
-  form_some (Nominal i) h = absurd (omega arith)
-  form_some (SelfRestriction r) h = absurd (omega arith)
-  form_some (Not d) h = absurd (omega arith)
-  form_some (And l) h = absurd (omega arith)
-  form_some (Or l) h = absurd (omega arith)
-  form_some (Some r d) h = refl
-  form_some (All r d) h = absurd (omega arith)
-  form_some (Min n r d) h = absurd (omega arith)
-  form_some (Max n r d) h = absurd (omega arith)
-
-  pub form_all : (e : Concept) → (plain e).kind ≡ 10 → FormIs.All ≡ form_of pool e
-  form_all Top h = absurd (omega arith)
-  form_all Bot h = absurd (omega arith)
-  form_all (Atomic a) h = absurd (omega arith)
-  form_all (Nominal i) h = absurd (omega arith)
-  form_all (SelfRestriction r) h = absurd (omega arith)
-  form_all (Not d) h = absurd (omega arith)
-  form_all (And l) h = absurd (omega arith)
-  form_all (Or l) h = absurd (omega arith)
-  form_all (Some r d) h = absurd (omega arith)
-  form_all (All r d) h = refl
-  form_all (Min n r d) h = absurd (omega arith)
-  form_all (Max n r d) h = absurd (omega arith)
-
   -- Min and Max
-  pub form_none : (e : Concept) → true ≡ at_least_none e → FormIs.Leaf ≡ form_of pool e
-  form_none Top h = absurd (let z : ◌≡◌ {A = ℕ} 0 1 = cc in omega arith)
-  form_none Bot h = absurd (let z : ◌≡◌ {A = ℕ} 0 1 = cc in omega arith)
-  form_none (Atomic a) h = absurd (let z : ◌≡◌ {A = ℕ} 0 1 = cc in omega arith)
-  form_none (Nominal i) h = absurd (let z : ◌≡◌ {A = ℕ} 0 1 = cc in omega arith)
-  form_none (SelfRestriction r) h = absurd (let z : ◌≡◌ {A = ℕ} 0 1 = cc in omega arith)
-  form_none (Not d) h = absurd (let z : ◌≡◌ {A = ℕ} 0 1 = cc in omega arith)
-  form_none (And l) h = absurd (let z : ◌≡◌ {A = ℕ} 0 1 = cc in omega arith)
-  form_none (Or l) h = absurd (let z : ◌≡◌ {A = ℕ} 0 1 = cc in omega arith)
-  form_none (Some r d) h = absurd (let z : ◌≡◌ {A = ℕ} 0 1 = cc in omega arith)
-  form_none (All r d) h = absurd (let z : ◌≡◌ {A = ℕ} 0 1 = cc in omega arith)
-  form_none (Min zero r d) h = refl
-  form_none (Min (suc n) r d) h = absurd (let z = eqb-true (suc n) 0 (sym h) in omega arith)
-  form_none (Max n r d) h = absurd (let z : ◌≡◌ {A = ℕ} 0 1 = cc in omega arith)
-
   pub form_counted : (e : Concept) (t : Bool) → 11 ≤ (plain e).kind → false ≡ at_least_none e → t ≡ is_top (at pool (plain e).child) → pick t FormIs.Leaf FormIs.Named ≡ form_of pool e
   form_counted Top t h g q = absurd (omega arith)
   form_counted Bot t h g q = absurd (omega arith)

@@ -1,13 +1,11 @@
 -- What the code asks of scratch to read a concept, and the ways that emit_head goes.
 use Rattle.std.specs.Prelude.{List, ℕ, zero, suc, ◌*◌, ◌≤◌, length}
-use Rattle.std.proofs.Math.Option.{Option, none, some}
 use Prim.{Unit}
 use Rattle.words.specs.Words.{words}
 use Rattle.ir.specs.Pick.{pick}
 use Rattle.ir.specs.Scratch.{hands_at}
 use Rattle.ir.specs.Records.{Fits}
 use Rattle.ir.specs.declared.counters.Counters.{Counters}
-use Rattle.ir.specs.declared.atom.Atom.{Atom}
 use Rattle.rules.specs.Concept.{Concept}
 use Rattle.rules.specs.Concept.{Top, Bot, Atomic, Nominal, SelfRestriction, Not, And, Or, Some, All, Min, Max}
 use Rattle.rules.specs.Pool.{Pool, at}
@@ -20,8 +18,6 @@ use Rattle.tables.specs.Good.{most_names}
 use Rattle.leaves.specs.Classes.{Restricts}
 use Rattle.leaves.specs.declared.leaf.Leaf.{Leaf}
 use Rattle.leaves.specs.declared.leaf.Leaf.TheVariants as LeafIs
-use Rattle.leaves.specs.declared.leaf.Literal.{Literal}
-use Rattle.leaves.specs.declared.leaf.Literal.TheVariants as LiteralIs
 use Rattle.leaves.specs.declared.disjunct.Disjunct.{Disjunct}
 use Rattle.leaves.specs.declared.disjunct.Disjunct.TheVariants as DisjunctIs
 use Rattle.leaves.specs.declared.form.Form.{Form}
@@ -61,14 +57,6 @@ LeafFits LeafIs.Empty = Unit {0}
 LeafFits (LeafIs.Head a) = Fits a
 LeafFits (LeafIs.Body a) = Fits a
 LeafFits LeafIs.Deferred = Unit {0}
-
-abbrev pub literal_in : Literal → Option Atom
-literal_in (LiteralIs.Atom a) = some a
-literal_in LiteralIs.None = none
-
-abbrev pub LiteralFits : Literal → Type 0
-LiteralFits (LiteralIs.Atom a) = Fits a
-LiteralFits LiteralIs.None = Unit {0}
 
 -- and a filler is a restriction's
 abbrev pub DisjunctFits : Concept → Disjunct → Type 0

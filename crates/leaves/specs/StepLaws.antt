@@ -15,10 +15,10 @@ use Rattle.ir.specs.Options.{card_disjunct_atoms, equal_names}
 use Rattle.ir.specs.Records.{six}
 use Rattle.ir.specs.Scratch.{hands_at, keys_at, roles_at}
 use Rattle.ir.specs.declared.counters.Counters.{Counters}
-use Rattle.ir.specs.declared.answer.Answer.{Answer}
-use Rattle.ir.specs.declared.answer.Answer.TheVariants.{Done, Refused}
-use Rattle.ir.specs.declared.answer.Headed.{Headed}
-use Rattle.ir.specs.declared.answer.Headed.TheVariants as Head
+use Rattle.ir.specs.Answer.{Answer}
+use Rattle.ir.specs.Answer.{Done, Refused}
+use Rattle.ir.specs.Headed.{Headed}
+use Rattle.ir.specs.Headed as Head
 use Rattle.ir.specs.declared.atom.Atom.{Atom}
 use Rattle.ir.specs.declared.atom.Atom.TheVariants.{Class}
 use Rattle.ir.specs.declared.deferral.Deferral.TheVariants.{HeadNotNonatomic}

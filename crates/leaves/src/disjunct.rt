@@ -1,5 +1,5 @@
 // head_atom_for before anything is named.
-ghost use Rattle.std.specs.Prelude.{◌≡◌, [], List, ℕ, ◌+◌, ◌*◌, ◌<◌, ◌≤◌, ◌^◌, length};
+ghost use Rattle.std.specs.Prelude.{◌≡◌, [], List, ℕ, ◌+◌, ◌*◌, ◌<◌, ◌≤◌, ◌^◌, length, IfSome};
 ghost use Rattle.words.specs.Words.{words};
 ghost use Rattle.ir.specs.Scratch.{hands_at, limits_at};
 ghost use Rattle.ir.specs.Records.{Fits};
@@ -7,23 +7,23 @@ ghost use Rattle.rules.specs.Concept.{Concept};
 ghost use Rattle.rules.specs.Pool.{Pool};
 ghost use Rattle.rules.specs.State.{Env, class_id_of, is_dkey};
 ghost use Rattle.pool.specs.Layout.{field, concept_at, pool_of};
-ghost use Rattle.tables.specs.Drawn.{Sized};
 ghost use Rattle.tables.specs.Good.{Good};
 ghost use Rattle.waiting.specs.Limits.{Behind};
 ghost use Rattle.hands.specs.Hands.{EnvIn, four};
 ghost use Rattle.leaves.specs.Leaves.{negated_or, no_atom, over_top, disjunct_of, filler_atom, name_negated};
-ghost use Rattle.leaves.specs.Classes.{Restricts};
-ghost use Rattle.leaves.specs.Reading.{Reading, DisjunctFits, literal_in, LiteralFits};
+ghost use Rattle.leaves.specs.Classes.{option_in, Restricts};
+ghost use Rattle.leaves.specs.Reading.{Reading, DisjunctFits};
 ghost use Rattle.leaves.specs.Made.{DidAtom};
+ghost use Rattle.ir.specs.Headed.{headed};
+ghost use Rattle.tables.specs.Lending.{SameReferences};
 
-use crate::leaf::Literal;
-use crate::read::ClassId;
 use crate::{leaf, read};
-use ir::answer::{Answer, Headed};
-use ir::atom::{Atom, Qualifier};
+use ir::atom::Atom;
 use ir::counters::Counters;
+use ir::refusal::Refusal;
 use ir::{options, record};
 use pool::record as concept;
+use tables::lent::Tables;
 
 // Of a disjunct: its atom, the atom that a fresh name excludes, none, the disjunct to be named, or its filler.
 #[derive(Clone, Copy)]
@@ -36,14 +36,14 @@ pub enum Disjunct {
 }
 
 // Of a negation.
-fn excluded(x: Literal) -> Disjunct
-    requires { LiteralFits x }
-    ensures value { (env : Env) (p : Pool) → result ≡ negated_or env p (literal_in x) }
+fn excluded(x: Option<Atom>) -> Disjunct
+    requires { IfSome x Fits }
+    ensures value { (env : Env) (p : Pool) → result ≡ negated_or env p (option_in x) }
     ensures disjunct_fits { (e : Concept) → DisjunctFits e result }
 {
     match x {
-        Literal::Atom(a) => Disjunct::Negated(a),
-        Literal::None => Disjunct::Absent,
+        Some(a) => Disjunct::Negated(a),
+        None => Disjunct::Absent,
     }
 }
 
@@ -53,8 +53,8 @@ fn over_dkey(scratch: &[u8], k: Counters, d: u32) -> bool
     ensures { (env : Env) → EnvIn env k (words scratch.now) → result ≡ is_dkey env (class_id_of env (concept_at (words scratch.now) d)) }
 {
     match read::class_id_of(scratch, k, d) {
-        ClassId::Some(a) => read::is_dkey(scratch, k, a),
-        ClassId::None => false,
+        Some(a) => read::is_dkey(scratch, k, a),
+        None => false,
     }
 }
 
@@ -63,13 +63,11 @@ fn no_atom(scratch: &[u8], k: Counters, c: u32) -> bool
     requires { Reading scratch.now k × (c < k.concepts) × (11 ≤ field (words scratch.now) c 0) }
     ensures { (env : Env) → EnvIn env k (words scratch.now) → result ≡ no_atom env (pool_of (words scratch.now) k.concepts) (concept_at (words scratch.now) c) }
 {
+    // A test of its own: the branches of three operands come to the proof as one case.
     if !options::card_disjunct_atoms(k.options) {
         return true;
     }
-    if read::at_least_none(scratch, k, c) {
-        return true;
-    }
-    over_dkey(scratch, k, concept::child(scratch, c))
+    read::at_least_none(scratch, k, c) || over_dkey(scratch, k, concept::child(scratch, c))
 }
 
 // Min or Max over Top, as an atom.
@@ -81,9 +79,9 @@ fn unqualified(scratch: &[u8], k: Counters, c: u32, v: u32) -> Atom
     let role = read::canon(scratch, k, c);
     let n = concept::number(scratch, c);
     if concept::kind(scratch, c) == 11 {
-        return Atom::AtLeast(role, Qualifier::Unqualified, n, v);
+        return Atom::AtLeast(role, None, n, v);
     }
-    Atom::AtMost(role, Qualifier::Unqualified, n, v)
+    Atom::AtMost(role, None, n, v)
 }
 
 // Min or Max.
@@ -119,27 +117,24 @@ pub fn disjunct_of(scratch: &[u8], k: Counters, c: u32, v: u32) -> Disjunct
 
 // A fresh name for what atom a excludes: on X, since it says something of the name everywhere. Its body stands from `base` on.
 pub fn name_negated(
+    lent: &mut Tables<'_>,
     scratch: &mut [u8],
-    clauses: &mut [u8],
-    atoms: &mut [u8],
-    k: Counters,
     base: usize,
     a: Atom,
     v: u32,
-) -> Headed
-    requires { (hands_at ≤ 6 * base) × (24 * (base + 2) ≤ length scratch.old) × Sized (length clauses.old) (length atoms.old) 0 × Good k × (k.next_class ≤ k.visits + 8191) × Fits a × (6 * (base + 2) ≤ limits_at) }
-    ensures { let old = four (words scratch.old) (words clauses.old) (words atoms.old) in
-        let new = four (words scratch.new) (words clauses.new) (words atoms.new) in
-        ((d : List ℕ) → DidAtom 0 (λ env f s. name_negated env [] v a s) k base (old d) (new d) result) × Behind (words scratch.old) (words scratch.new) }
+) -> Result<Option<Atom>, Refusal>
+    requires { (hands_at ≤ 6 * base) × (24 * (base + 2) ≤ length scratch.old) × Good lent.old.counters × (lent.old.counters.next_class ≤ lent.old.counters.visits + 8191) × Fits a × (6 * (base + 2) ≤ limits_at) }
+    ensures references { SameReferences lent.old lent.new }
+    ensures deferrals { lent.new.deferrals.now ≡ lent.old.deferrals.now }
+    ensures did { let old = four (words scratch.old) (words lent.old.clauses.now) (words lent.old.atoms.now) in
+        let new = four (words scratch.new) (words lent.new.clauses.now) (words lent.new.atoms.now) in
+        ((d : List ℕ) → DidAtom 0 (λ env f s. name_negated env [] v a s) lent.old.counters base (old d) (new d) (headed lent.new.counters result)) × Behind (words scratch.old) (words scratch.new) }
 {
-    let q = k.next_class;
-    let named = k.fresh_class();
+    let q = lent.counters.fresh_class();
     record::put_atom(scratch, base, Atom::Class(q, 0));
     record::put_atom(scratch, base + 1, a);
-    match hands::push_none(scratch, clauses, atoms, named, base, 2) {
-        Answer::Done(l, _) => Headed::Made(l, Atom::Class(q, v)),
-        Answer::Refused(e) => Headed::Refused(e),
-    }
+    hands::push_none(lent, scratch, base, 2)?;
+    Ok(Some(Atom::Class(q, v)))
 }
 
 // The atom of restriction c over the class q.
@@ -155,7 +150,7 @@ pub fn filler_atom(scratch: &[u8], k: Counters, c: u32, v: u32, q: u32) -> Atom
         return Atom::Exists(role, q, v);
     }
     if kind == 11 {
-        return Atom::AtLeast(role, Qualifier::Qualified(q), n, v);
+        return Atom::AtLeast(role, Some(q), n, v);
     }
-    Atom::AtMost(role, Qualifier::Qualified(q), n, v)
+    Atom::AtMost(role, Some(q), n, v)
 }

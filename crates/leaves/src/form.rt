@@ -1,7 +1,7 @@
 // Which way emit_head goes.
-ghost use Rattle.std.specs.Prelude.{◌≡◌, ◌<◌};
+ghost use Rattle.std.specs.Prelude.{◌≡◌, ◌<◌, ◌≤◌};
 ghost use Rattle.words.specs.Words.{words};
-ghost use Rattle.pool.specs.Layout.{concept_at, pool_of};
+ghost use Rattle.pool.specs.Layout.{field, concept_at, pool_of};
 ghost use Rattle.leaves.specs.Reading.{Reading, form_of};
 
 use crate::read;
@@ -22,22 +22,22 @@ pub fn form_of(scratch: &[u8], k: Counters, c: u32) -> Form
     requires { Reading scratch.now k × (c < k.concepts) }
     ensures { result ≡ form_of (pool_of (words scratch.now) k.concepts) (concept_at (words scratch.now) c) }
 {
-    let kind = record::kind(scratch, c);
-    if kind < 7 {
-        return Form::Leaf;
+    match record::kind(scratch, c) {
+        0..=6 => Form::Leaf,
+        7 => Form::And,
+        8 => Form::Or,
+        9 => Form::Named,
+        10 => Form::All,
+        _ => counted(scratch, k, c),
     }
-    if kind == 7 {
-        return Form::And;
-    }
-    if kind == 8 {
-        return Form::Or;
-    }
-    if kind == 9 {
-        return Form::Named;
-    }
-    if kind == 10 {
-        return Form::All;
-    }
+}
+
+// Of Min and Max.
+fn counted(scratch: &[u8], k: Counters, c: u32) -> Form
+    requires { Reading scratch.now k × (c < k.concepts) × (11 ≤ field (words scratch.now) c 0) }
+    ensures { result ≡ form_of (pool_of (words scratch.now) k.concepts) (concept_at (words scratch.now) c) }
+{
+    // Two tests: the branches of one condition of both come to the proof as one case.
     if read::at_least_none(scratch, k, c) {
         return Form::Leaf;
     }

@@ -1,25 +1,29 @@
 // emit_head where nothing is named.
-ghost use Rattle.std.specs.Prelude.{◌≡◌, [], ◌+◌, ◌*◌, ◌<◌, ◌≤◌, length};
+// Atoms in hand are told by their first record and their number, two numbers, as `Did` has them.
+ghost use Rattle.std.specs.Prelude.{◌≡◌, [], ◌+◌, ◌*◌, ◌<◌, ◌≤◌, length, IfSome};
 ghost use Rattle.words.specs.Words.{words};
 ghost use Rattle.ir.specs.Scratch.{hands_at, limits_at};
+ghost use Rattle.ir.specs.Records.{Fits};
 ghost use Rattle.rules.specs.Pool.{Pool};
 ghost use Rattle.rules.specs.State.{Env};
 ghost use Rattle.pool.specs.Layout.{field, concept_at, pool_of};
-ghost use Rattle.tables.specs.Drawn.{Sized};
 ghost use Rattle.tables.specs.Good.{Good};
 ghost use Rattle.waiting.specs.Limits.{Behind};
-ghost use Rattle.hands.specs.Hands.{EnvIn, four, Did};
+ghost use Rattle.hands.specs.Hands.{EnvIn, Did, four_of};
+ghost use Rattle.leaves.specs.Classes.{option_in};
 ghost use Rattle.leaves.specs.Leaves.{body_or, negated_atom, leaf_of, emit_leaf};
-ghost use Rattle.leaves.specs.Reading.{Reading, LeafFits, literal_in, LiteralFits};
+ghost use Rattle.leaves.specs.Reading.{Reading, LeafFits};
+ghost use Rattle.ir.specs.Answer.{done};
+ghost use Rattle.tables.specs.Lending.{SameReferences};
 
 use crate::read;
-use crate::read::ClassId;
-use ir::answer::Answer;
-use ir::atom::{Atom, Qualifier};
+use ir::atom::Atom;
 use ir::counters::Counters;
 use ir::deferral::Deferral;
 use ir::record;
+use ir::refusal::Refusal;
 use pool::record as concept;
+use tables::lent::Tables;
 
 // Of a concept: nothing, an empty head, one head atom, one body atom more, or deferral 8.
 #[derive(Clone, Copy)]
@@ -31,37 +35,28 @@ pub enum Leaf {
     Deferred,
 }
 
-// An atom, or none.
-#[derive(Clone, Copy)]
-pub enum Literal {
-    Atom(Atom),
-    None,
-}
-
 // Of the negation of concept d: the atom that joins the body.
-pub fn negated(scratch: &[u8], k: Counters, d: u32, v: u32) -> Literal
+pub fn negated(scratch: &[u8], k: Counters, d: u32, v: u32) -> Option<Atom>
     requires { Reading scratch.now k × (d < k.concepts) }
-    ensures result_value { (env : Env) → EnvIn env k (words scratch.now) → literal_in result ≡ negated_atom env (pool_of (words scratch.now) k.concepts) v (concept_at (words scratch.now) d) }
-    ensures literal_fits { LiteralFits result }
+    ensures result_value { (env : Env) → EnvIn env k (words scratch.now) → option_in result ≡ negated_atom env (pool_of (words scratch.now) k.concepts) v (concept_at (words scratch.now) d) }
+    ensures literal_fits { IfSome result Fits }
 {
     if concept::kind(scratch, d) == 5 {
-        return Literal::Atom(Atom::Role(read::canon(scratch, k, d), v, v));
+        return Some(Atom::Role(read::canon(scratch, k, d), v, v));
     }
-    match read::class_id_of(scratch, k, d) {
-        ClassId::Some(a) => Literal::Atom(Atom::Class(a, v)),
-        ClassId::None => Literal::None,
-    }
+    let a = read::class_id_of(scratch, k, d)?;
+    Some(Atom::Class(a, v))
 }
 
 // The atom joins the body; where there is none, deferral 8.
-fn joined(x: Literal) -> Leaf
-    requires { LiteralFits x }
-    ensures value { (env : Env) (p : Pool) → result ≡ body_or env p (literal_in x) }
+fn joined(x: Option<Atom>) -> Leaf
+    requires { IfSome x Fits }
+    ensures value { (env : Env) (p : Pool) → result ≡ body_or env p (option_in x) }
     ensures leaf_fits { LeafFits result }
 {
     match x {
-        Literal::Atom(a) => Leaf::Body(a),
-        Literal::None => Leaf::Deferred,
+        Some(a) => Leaf::Body(a),
+        None => Leaf::Deferred,
     }
 }
 
@@ -74,12 +69,12 @@ fn counted(scratch: &[u8], k: Counters, c: u32, v: u32) -> Leaf
     let n = concept::number(scratch, c);
     let role = read::canon(scratch, k, c);
     if concept::kind(scratch, c) == 12 {
-        return Leaf::Head(Atom::AtMost(role, Qualifier::Unqualified, n, v));
+        return Leaf::Head(Atom::AtMost(role, None, n, v));
     }
     if n == 0 {
         return Leaf::Nothing;
     }
-    Leaf::Head(Atom::AtLeast(role, Qualifier::Unqualified, n, v))
+    Leaf::Head(Atom::AtLeast(role, None, n, v))
 }
 
 pub fn leaf_of(scratch: &[u8], k: Counters, c: u32, v: u32) -> Leaf
@@ -101,31 +96,33 @@ pub fn leaf_of(scratch: &[u8], k: Counters, c: u32, v: u32) -> Leaf
 
 // What is pushed for it.
 pub fn emit_leaf(
+    lent: &mut Tables<'_>,
     scratch: &mut [u8],
-    clauses: &mut [u8],
-    atoms: &mut [u8],
-    deferrals: &mut [u8],
-    k: Counters,
     base: usize,
     n: u32,
     leaf: Leaf,
-) -> Answer
-    requires { (n ≤ 256) × (hands_at ≤ 6 * base) × (24 * (base + n + 1) ≤ length scratch.old) × Sized (length clauses.old) (length atoms.old) (length deferrals.old) × Good k × LeafFits leaf × (6 * (base + n + 1) ≤ limits_at) }
-    ensures { let old = four (words scratch.old) (words clauses.old) (words atoms.old) (words deferrals.old) in
-        let new = four (words scratch.new) (words clauses.new) (words atoms.new) (words deferrals.new) in
-        Did (λ _. 0) 0 (λ env f b s. emit_leaf env [] b leaf s) k base n old new result × Behind old.scratch new.scratch }
+) -> Result<(), Refusal>
+    requires { (n ≤ 256) × (hands_at ≤ 6 * base) × (24 * (base + n + 1) ≤ length scratch.old) × Good lent.old.counters × LeafFits leaf × (6 * (base + n + 1) ≤ limits_at) }
+    ensures references { SameReferences lent.old lent.new }
+    ensures did { let old = four_of (words scratch.old) lent.old in
+        let new = four_of (words scratch.new) lent.new in
+        Did (λ _. 0) 0 (λ env f b s. emit_leaf env [] b leaf s) lent.old.counters base n old new (done lent.new.counters result) × Behind old.scratch new.scratch }
 {
     match leaf {
-        Leaf::Nothing => Answer::Done(k, 0),
-        Leaf::Empty => hands::push_none(scratch, clauses, atoms, k, base, n),
-        Leaf::Head(a) => hands::push_one(scratch, clauses, atoms, k, base, n, a),
+        Leaf::Nothing => Ok(()),
+        Leaf::Empty => hands::push_none(lent, scratch, base, n),
+        Leaf::Head(a) => hands::push_one(lent, scratch, base, n, a),
         Leaf::Body(a) => {
             if 256 <= n {
-                return Answer::Refused(12);
+                return Err(Refusal::NoRoom);
             }
             record::put_atom(scratch, base + n as usize, a);
-            hands::push_none(scratch, clauses, atoms, k, base, n + 1)
+            hands::push_none(lent, scratch, base, n + 1)
         }
-        Leaf::Deferred => tables::defer(deferrals, k, Deferral::HeadNotNonatomic),
+        Leaf::Deferred => tables::defer(
+            lent.deferrals,
+            &mut lent.counters,
+            Deferral::HeadNotNonatomic,
+        ),
     }
 }

@@ -1,5 +1,5 @@
 // What a concept of the pool is: Top, a class, a role in its canonical form.
-ghost use Rattle.std.specs.Prelude.{◌≡◌, ◌+◌, ◌<◌, ◌^◌};
+ghost use Rattle.std.specs.Prelude.{◌≡◌, ◌+◌, ◌<◌, ◌^◌, IfSome};
 ghost use Rattle.std.proofs.Math.Option.{some};
 ghost use Rattle.words.specs.Words.{words};
 ghost use Rattle.ir.specs.Roles.{role_of, role_id};
@@ -8,18 +8,12 @@ ghost use Rattle.rules.specs.Heads.{is_top};
 ghost use Rattle.pool.specs.Layout.{field, concept_at};
 ghost use Rattle.hands.specs.Hands.{EnvIn};
 ghost use Rattle.leaves.specs.Reading.{Reading};
-ghost use Rattle.leaves.specs.Classes.{class_in, SmallClass, HasRole, at_least_none};
+ghost use Rattle.tables.specs.Good.{most_names};
+ghost use Rattle.leaves.specs.Classes.{option_in, HasRole, at_least_none};
 
 use ir::counters::Counters;
 use ir::role::Role;
 use pool::record;
-
-// A class, or none.
-#[derive(Clone, Copy)]
-pub enum ClassId {
-    Some(u32),
-    None,
-}
 
 pub fn is_top(scratch: &[u8], k: Counters, c: u32) -> bool
     requires { Reading scratch.now k × (c < k.concepts) }
@@ -33,25 +27,19 @@ pub fn at_least_none(scratch: &[u8], k: Counters, c: u32) -> bool
     requires { Reading scratch.now k × (c < k.concepts) }
     ensures { result ≡ at_least_none (concept_at (words scratch.now) c) }
 {
-    if record::kind(scratch, c) != 11 {
-        return false;
-    }
-    record::number(scratch, c) == 0
+    record::kind(scratch, c) == 11 && record::number(scratch, c) == 0
 }
 
-pub fn class_id_of(scratch: &[u8], k: Counters, c: u32) -> ClassId
+pub fn class_id_of(scratch: &[u8], k: Counters, c: u32) -> Option<u32>
     requires { Reading scratch.now k × (c < k.concepts) }
-    ensures result_value { (env : Env) → EnvIn env k (words scratch.now) → class_in result ≡ class_id_of env (concept_at (words scratch.now) c) }
-    ensures small_class { SmallClass result }
+    ensures result_value { (env : Env) → EnvIn env k (words scratch.now) → option_in result ≡ class_id_of env (concept_at (words scratch.now) c) }
+    ensures small_class { IfSome result (λ a. a < most_names) }
 {
-    let kind = record::kind(scratch, c);
-    if kind == 3 {
-        return ClassId::Some(record::number(scratch, c));
+    match record::kind(scratch, c) {
+        3 => Some(record::number(scratch, c)),
+        4 => Some(k.nominal_base + record::number(scratch, c)),
+        _ => None,
     }
-    if kind == 4 {
-        return ClassId::Some(k.nominal_base + record::number(scratch, c));
-    }
-    ClassId::None
 }
 
 // Whether class a is a data key; ids above the declared classes are none.
@@ -59,10 +47,7 @@ pub fn is_dkey(scratch: &[u8], k: Counters, a: u32) -> bool
     requires { Reading scratch.now k }
     ensures { (env : Env) → EnvIn env k (words scratch.now) → result ≡ is_dkey env (some a) }
 {
-    if a < 4096 {
-        return ontology::key::is_key(scratch, a);
-    }
-    false
+    a < 4096 && ontology::key::is_key(scratch, a)
 }
 
 // The canonical form of the role of concept c, which has one.

@@ -5,7 +5,7 @@ use Rattle.std.proofs.Common.{eq-eqb, ne_eqb}
 use Rattle.words.specs.Words.{words}
 use Rattle.ir.specs.Roles.{role_code, role_of, code_role}
 use Rattle.ir.specs.declared.counters.Counters.{Counters}
-use Rattle.ir.specs.declared.answer.Answer.{Answer}
+use Rattle.ir.specs.Answer.{Answer}
 use Rattle.rules.specs.Base.{ok}
 use Rattle.rules.specs.State.{Env}
 use Rattle.rules.specs.Axioms.{Clausifier, C, clausify_gci, disjoint_pair, union_member, disjoint_roles}

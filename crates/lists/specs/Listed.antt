@@ -1,5 +1,5 @@
 -- The words of an axiom's list, and a pair of disjoint roles.
-use Rattle.std.specs.Prelude.{◌≡◌, List, ℕ, ◌+◌, ◌*◌, ◌<◌, ◌≤◌, get_or, eqb}
+use Rattle.std.specs.Prelude.{List, ℕ, ◌+◌, ◌*◌, ◌<◌, ◌≤◌, get_or, eqb}
 use Prim.{Unit}
 use Rattle.ir.specs.Roles.{role_code}
 use Rattle.ir.specs.Scratch.{numbers_at, lines_at}

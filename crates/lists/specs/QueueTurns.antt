@@ -4,10 +4,10 @@ use Rattle.std.proofs.Common.{ap, subst, ◌∙◌}
 use Prim.{Unit, tt}
 use Rattle.words.specs.Words.{words}
 use Rattle.ir.specs.declared.counters.Counters.{Counters}
-use Rattle.ir.specs.declared.answer.Answer.{Answer}
-use Rattle.ir.specs.declared.answer.Answer.TheVariants.{Done, Refused}
-use Rattle.rules.specs.Base.{Res, ok, then, for_each}
-use Rattle.rules.specs.State.{Limit, Env, Out}
+use Rattle.ir.specs.Answer.{Answer}
+use Rattle.ir.specs.Answer.{Done, Refused}
+use Rattle.rules.specs.Base.{Res, ok, then}
+use Rattle.rules.specs.State.{Env}
 use Rattle.rules.specs.Axioms.{Clausifier, C}
 use Rattle.rules.specs.Post.{give, post_ok}
 use Rattle.waiting.specs.Limits.{Waits}

@@ -3,7 +3,7 @@ use Rattle.std.specs.Prelude.{◌≡◌, List, ◌++◌, ℕ, length}
 use Prim.{Unit, tt}
 use Rattle.words.specs.Words.{words}
 use Rattle.ir.specs.declared.counters.Counters.{Counters}
-use Rattle.ir.specs.declared.answer.Answer.{Answer}
+use Rattle.ir.specs.Answer.{Answer}
 use Rattle.rules.specs.Base.{Res, ok}
 use Rattle.rules.specs.State.{Limit, Rooms, Env, Out}
 use Rattle.rules.specs.Axioms.{Clausifier, C}

@@ -10,7 +10,7 @@ use Rattle.std.proofs.Math.ListN.{length}
 use Rattle.ir.specs.Roles.{role_code}
 use Rattle.ir.specs.declared.atom.Atom.{Atom}
 use Rattle.ir.specs.declared.atom.Atom.TheVariants.{Class, Exists, AtMost, AtLeast, Equal, Role as RoleAtom}
-use Rattle.ir.specs.declared.atom.Qualifier.TheVariants.{Unqualified, Qualified}
+use Rattle.std.specs.Prelude.{None, Some}
 use Rattle.ir.specs.declared.deferral.Deferral.TheVariants.{DisjointAntecedent}
 use Rattle.rules.specs.Base.{Res, ok, refused, then, ◌>>◌, all, for_each}
 use Rattle.rules.specs.Concept.{Axiom}
@@ -48,8 +48,8 @@ fine_atom_up : {m n : ℕ} → m ≤ n → (a : Atom) → FineAtom m a → FineA
 fine_atom_up h (Class _ _) f = tt
 fine_atom_up h (RoleAtom _ _ _) f = tt
 fine_atom_up h (Exists _ _ _) f = tt
-fine_atom_up h (AtMost _ Unqualified _ _) f = tt
-fine_atom_up h (AtMost _ (Qualified c) _ _) f = le_trans f h
+fine_atom_up h (AtMost _ None _ _) f = tt
+fine_atom_up h (AtMost _ (Some c) _ _) f = le_trans f h
 fine_atom_up h (AtLeast _ _ _ _) f = tt
 fine_atom_up h (Equal _ _) f = tt
 

@@ -15,8 +15,8 @@ use Rattle.ir.specs.Pick.{pick}
 use Rattle.ir.specs.declared.role.Role.{Role}
 use Rattle.ir.specs.declared.atom.Atom.{Atom}
 use Rattle.ir.specs.declared.atom.Atom.TheVariants.{Class, Exists, AtMost, AtLeast, Role as RoleAtom}
-use Rattle.ir.specs.declared.atom.Qualifier.{Qualifier}
-use Rattle.ir.specs.declared.atom.Qualifier.TheVariants.{Unqualified, Qualified}
+use Rattle.ir.specs.Qualifiers.{Qualifier}
+use Rattle.std.specs.Prelude.{None, Some}
 use Rattle.ir.specs.declared.deferral.Deferral.TheVariants.{HeadOrDisjunct, HeadNotNonatomic}
 use Rattle.rules.specs.Base.{Res, ok, is_some, then, all, any, contains, for_each}
 use Rattle.rules.specs.Concept.{Concept}
@@ -191,7 +191,7 @@ module _ (I : Interpretation) (B : Bounds) (env : Env) (base : ℕ) (S : Setting
   class_of c h = class_is c (at pool c) (wf c h)
 
   -- ---- a fresh class for c, named by the clauses that a run adds
-  named : (c : ℕ) (s : Out) (r : Res Out (Unit {0})) → Ready s → Post (Headed (Class s.next_fresh 0 ∷ []) c 0 (next_class s)) r → Post (λ _ t. Name c s (Qualified s.next_fresh) t) r
+  named : (c : ℕ) (s : Out) (r : Res Out (Unit {0})) → Ready s → Post (Headed (Class s.next_fresh 0 ∷ []) c 0 (next_class s)) r → Post (λ _ t. Name c s (Some s.next_fresh) t) r
   named c s r R p = post_map p (λ _ t A. record {
     under = omega (arith, A.fresh);
     adds = seq I B env base S pool wf R.above (fresh_adds I B env base S pool wf (λ k. m k c) s (λ k l a. ap (λ z. z c) (m_agree R.above a))) A
@@ -250,16 +250,16 @@ module _ (I : Interpretation) (B : Bounds) (env : Env) (base : ℕ) (S : Setting
     least_part n g e = at_least_more n (count atom_pair (elements I)) (count concept_pair (elements I)) e (number_part g)
 
   module _ (c v : ℕ) (s t : Out) where
-    name_head : (q : ℕ) → Name c s (Qualified q) t → Head c v s (Class q v) t
+    name_head : (q : ℕ) → Name c s (Some q) t → Head c v s (Class q v) t
     name_head q A = record { under = A.under; adds = adds_map I B env base S pool wf (λ k h. h) (λ k g f o e. g (f v) (o v) ∙ e) (λ k g _ f o e. g.0 (f v) (o v) e) A.adds }
 
-    some_head : (r : Role) (d q : ℕ) → ((k : Valuation) → m k c ≡ meant (Some r d) k) → Name d s (Qualified q) t → Head c v s (Exists (canon env r) q v) t
+    some_head : (r : Role) (d q : ℕ) → ((k : Valuation) → m k c ≡ meant (Some r d) k) → Name d s (Some q) t → Head c v s (Exists (canon env r) q v) t
     some_head r d q p A = record {
       under = A.under;
       adds = adds_map I B env base S pool wf
           (λ k h. h)
-          (λ k g f o e. some_same r d (Qualified q) k (f v) (o v) g ∙ ap (λ z. z (f v)) (sym (p k)) ∙ e)
-          (λ k g _ f o e. ap (λ z. z (f v)) (p k) ∙ some_part r d (Qualified q) k (f v) (o v) g e) A.adds;
+          (λ k g f o e. some_same r d (Some q) k (f v) (o v) g ∙ ap (λ z. z (f v)) (sym (p k)) ∙ e)
+          (λ k g _ f o e. ap (λ z. z (f v)) (p k) ∙ some_part r d (Some q) k (f v) (o v) g e) A.adds;
     }
 
     min_head : (n : ℕ) (r : Role) (d : ℕ) (q : Qualifier) → ((k : Valuation) → m k c ≡ meant (Min n r d) k) → Name d s q t → Head c v s (AtLeast (canon env r) q n v) t
@@ -305,8 +305,8 @@ module _ (I : Interpretation) (B : Bounds) (env : Env) (base : ℕ) (S : Setting
   top_is k x (Max _ _ _) h = absurd (false≢true h)
 
   not_dkey : (q : Qualifier) → env.dkey_classes ≡ [] → is_dkey_qualifier env q ≡ false
-  not_dkey Unqualified e = refl
-  not_dkey (Qualified c) e = ap (λ l. contains l c) e
+  not_dkey None e = refl
+  not_dkey (Some c) e = ap (λ l. contains l c) e
 
   -- ---- lists of parts
   abbrev pub all_of : List ℕ → Valuation → ℕ → Bool
@@ -378,20 +378,20 @@ module _ (I : Interpretation) (B : Bounds) (env : Env) (base : ℕ) (S : Setting
     class_below_lem c h = class_of c (omega arith)
 
     -- ---- atomic_name_of
-    name_or_lem : (c : ℕ) (s : Out) → c < n → Ready s → (o : Option ℕ) → ClassIs (at pool c) o → Post (λ q t. Name c s (Qualified q) t) (name_or env pool emit c o s)
+    name_or_lem : (c : ℕ) (s : Out) → c < n → Ready s → (o : Option ℕ) → ClassIs (at pool c) o → Post (λ q t. Name c s (Some q) t) (name_or env pool emit c o s)
     unfolding name_or fresh_class
     name_or_lem c s h R (some a) is =
         give (record { under = omega (arith, is.0, R.above); adds = stay I B env base S pool wf s (λ k w _. know k w) (λ k w. (λ x l e. sym (know k w x l) ∙ e, λ _. know k w)) })
       where
-        know : (k : Valuation) → Alone I B env k → Same c (Qualified a) k
+        know : (k : Valuation) → Alone I B env k → Same c (Some a) k
         know k w x l = is.1 k w x l ∙ ap (λ z. z x) (sym (m_below k c h))
     name_or_lem c s h R none is =
         post_then (named c s (emit (Class s.next_fresh 0 ∷ []) c 0 (next_class s)) R (works (Class s.next_fresh 0 ∷ []) c 0 (next_class s) h (first s R))) (λ _ t A. give A)
 
-    pub name_adds : (c : ℕ) (s : Out) → c < n → Ready s → Post (λ q t. Name c s (Qualified q) t) (atomic_name_of env pool emit c s)
+    pub name_adds : (c : ℕ) (s : Out) → c < n → Ready s → Post (λ q t. Name c s (Some q) t) (atomic_name_of env pool emit c s)
     unfolding atomic_name_of
     name_adds c s h R = visit_then s (name_or env pool emit c (class_id_of env (at pool c)))
-        (post_map (name_or_lem c (visited s) h (pre_visited I B env base S pool wf s [] 0 R) (class_id_of env (at pool c)) (class_below_lem c h)) (λ q t A. name_visited c s (Qualified q) t A))
+        (post_map (name_or_lem c (visited s) h (pre_visited I B env base S pool wf s [] 0 R) (class_id_of env (at pool c)) (class_below_lem c h)) (λ q t A. name_visited c s (Some q) t A))
 
     -- ---- cardinality_qualifier
     qualifier_or_lem : (c : ℕ) (s : Out) → c < n → Ready s → (t : Bool) → (t ≡ true → (k : Valuation) (x : ℕ) → m k c x ≡ true) → Post (λ q t. Name c s q t) (qualifier_or env pool emit c t s)
@@ -484,8 +484,8 @@ module _ (I : Interpretation) (B : Bounds) (env : Env) (base : ℕ) (S : Setting
         }
 
     -- the inclusion of the filler in its name waits
-    limit_waits : (c : ℕ) (s : Out) (t : Out) → c < n → Ready s → Name c (queueing c s) (Qualified s.next_fresh) t
-        → emit (Class s.next_fresh 0 ∷ []) c 0 (next_class (visited (queueing c s))) ≡ ok tt t → LimitName c s (Qualified s.next_fresh) t
+    limit_waits : (c : ℕ) (s : Out) (t : Out) → c < n → Ready s → Name c (queueing c s) (Some s.next_fresh) t
+        → emit (Class s.next_fresh 0 ∷ []) c 0 (next_class (visited (queueing c s))) ≡ ok tt t → LimitName c s (Some s.next_fresh) t
     limit_waits c s t h R A called = record {
       under = A.under;
       adds = record {
@@ -509,32 +509,32 @@ module _ (I : Interpretation) (B : Bounds) (env : Env) (base : ℕ) (S : Setting
         m_of k c x = means (with_classes I k) pool c x
 
     -- a class that is no fresh one, or the next fresh one
-    new_name : (c : ℕ) (s : Out) → c < n → Ready s → Post (λ q t. Name c s (Qualified q) t × (q ≡ s.next_fresh) × (emit (Class s.next_fresh 0 ∷ []) c 0 (next_class s) ≡ ok tt t)) (name_or env pool emit c none s)
+    new_name : (c : ℕ) (s : Out) → c < n → Ready s → Post (λ q t. Name c s (Some q) t × (q ≡ s.next_fresh) × (emit (Class s.next_fresh 0 ∷ []) c 0 (next_class s) ≡ ok tt t)) (name_or env pool emit c none s)
     unfolding name_or fresh_class
     new_name c s h R =
         post_then (post_said (named c s (emit (Class s.next_fresh 0 ∷ []) c 0 (next_class s)) R (works (Class s.next_fresh 0 ∷ []) c 0 (next_class s) h (first s R)))) (λ _ t A. give (A.0, refl, A.1))
 
-    old_name : (c : ℕ) (s : Out) → c < n → Ready s → (a : ℕ) → ClassIs (at pool c) (some a) → Post (λ q t. Name c s (Qualified q) t × (q < base)) (name_or env pool emit c (some a) s)
+    old_name : (c : ℕ) (s : Out) → c < n → Ready s → (a : ℕ) → ClassIs (at pool c) (some a) → Post (λ q t. Name c s (Some q) t × (q < base)) (name_or env pool emit c (some a) s)
     unfolding name_or
     old_name c s h R a is = go (name_or_lem c s h R (some a) is)
       where
-        go : Post (λ q t. Name c s (Qualified q) t) (ok a s) → Post (λ q t. Name c s (Qualified q) t × (q < base)) (ok a s)
+        go : Post (λ q t. Name c s (Some q) t) (ok a s) → Post (λ q t. Name c s (Some q) t × (q < base)) (ok a s)
         go (gives A) = give (A, is.0)
 
-    abbrev Qualified-by : ℕ → Option ℕ → Out → Res Out Qualifier
-    Qualified-by c o u = then (then (visit u) (λ _. name_or env pool emit c o)) (λ q t. ok (Qualified q) t)
+    abbrev Some-by : ℕ → Option ℕ → Out → Res Out Qualifier
+    Some-by c o u = then (then (visit u) (λ _. name_or env pool emit c o)) (λ q t. ok (Some q) t)
 
-    old_at : (c : ℕ) (u : Out) → c < n → Ready u → (a : ℕ) → ClassIs (at pool c) (some a) → Post (λ q t. Name c u q t × QualifierIn base q) (Qualified-by c (some a) u)
-    old_at c u h R a is = post_then {P = λ q t. Name c u (Qualified q) t × (q < base)}
-        (visit_then u (name_or env pool emit c (some a)) (post_map (old_name c (visited u) h (pre_visited I B env base S pool wf u [] 0 R) a is) (λ q t A. (name_visited c u (Qualified q) t A.0, A.1)))) (λ q t A. give A)
+    old_at : (c : ℕ) (u : Out) → c < n → Ready u → (a : ℕ) → ClassIs (at pool c) (some a) → Post (λ q t. Name c u q t × QualifierIn base q) (Some-by c (some a) u)
+    old_at c u h R a is = post_then {P = λ q t. Name c u (Some q) t × (q < base)}
+        (visit_then u (name_or env pool emit c (some a)) (post_map (old_name c (visited u) h (pre_visited I B env base S pool wf u [] 0 R) a is) (λ q t A. (name_visited c u (Some q) t A.0, A.1)))) (λ q t A. give A)
 
     new_at : (c : ℕ) (u : Out) → c < n → Ready u
-        → Post (λ q t. Name c u q t × (q ≡ Qualified u.next_fresh) × (emit (Class u.next_fresh 0 ∷ []) c 0 (next_class (visited u)) ≡ ok tt t)) (Qualified-by c none u)
-    new_at c u h R = post_then {P = λ q t. Name c u (Qualified q) t × (q ≡ u.next_fresh) × (emit (Class u.next_fresh 0 ∷ []) c 0 (next_class (visited u)) ≡ ok tt t)}
-        (visit_then u (name_or env pool emit c none) (post_map (new_name c (visited u) h (pre_visited I B env base S pool wf u [] 0 R)) (λ q t A. (name_visited c u (Qualified q) t A.0, A.1, A.2))))
-        (λ q t A. give (A.0, ap Qualified A.1, A.2))
+        → Post (λ q t. Name c u q t × (q ≡ Some u.next_fresh) × (emit (Class u.next_fresh 0 ∷ []) c 0 (next_class (visited u)) ≡ ok tt t)) (Some-by c none u)
+    new_at c u h R = post_then {P = λ q t. Name c u (Some q) t × (q ≡ u.next_fresh) × (emit (Class u.next_fresh 0 ∷ []) c 0 (next_class (visited u)) ≡ ok tt t)}
+        (visit_then u (name_or env pool emit c none) (post_map (new_name c (visited u) h (pre_visited I B env base S pool wf u [] 0 R)) (λ q t A. (name_visited c u (Some q) t A.0, A.1, A.2))))
+        (λ q t A. give (A.0, ap Some A.1, A.2))
 
-    top_at : (c : ℕ) (u : Out) → ((k : Valuation) (x : ℕ) → m k c x ≡ true) → Name c u Unqualified u
+    top_at : (c : ℕ) (u : Out) → ((k : Valuation) (x : ℕ) → m k c x ≡ true) → Name c u None u
     top_at c u top = record { under = tt; adds = stay I B env base S pool wf u (λ k _ _ x _. sym (top k x)) (λ k _. (λ x _ _. top k x, λ _ x _. sym (top k x))) }
 
     relimited : (s : Out) (ws : List Limit) → Ready s → Ready (with_limits ws s)
@@ -545,17 +545,17 @@ module _ (I : Interpretation) (B : Bounds) (env : Env) (base : ℕ) (S : Setting
     unfolding await qualifier_or atomic_name_of
     limit_or c s h R true top o is e = go env.equal_names
       where
-        go : (b : Bool) → Post (λ q t. LimitName c s q t) (ok Unqualified (with_limits (pick (b && false) (s.limits ++ (waits_for c s ∷ [])) s.limits) s))
-        go true = give (limit_plain c s Unqualified (with_limits s.limits s) (λ _. tt) (top_at c (with_limits s.limits s) (top refl)))
-        go false = give (limit_plain c s Unqualified (with_limits s.limits s) (λ _. tt) (top_at c (with_limits s.limits s) (top refl)))
+        go : (b : Bool) → Post (λ q t. LimitName c s q t) (ok None (with_limits (pick (b && false) (s.limits ++ (waits_for c s ∷ [])) s.limits) s))
+        go true = give (limit_plain c s None (with_limits s.limits s) (λ _. tt) (top_at c (with_limits s.limits s) (top refl)))
+        go false = give (limit_plain c s None (with_limits s.limits s) (λ _. tt) (top_at c (with_limits s.limits s) (top refl)))
     limit_or c s h R false top (some a) is e = rw e (go env.equal_names)
       where
-        go : (b : Bool) → Post (λ q t. LimitName c s q t) (Qualified-by c (some a) (with_limits (pick (b && false) (s.limits ++ (waits_for c s ∷ [])) s.limits) s))
+        go : (b : Bool) → Post (λ q t. LimitName c s q t) (Some-by c (some a) (with_limits (pick (b && false) (s.limits ++ (waits_for c s ∷ [])) s.limits) s))
         go true = post_map (old_at c (with_limits s.limits s) h (relimited s s.limits R) a is) (λ q t X. limit_plain c s q t (λ _. X.1) X.0)
         go false = post_map (old_at c (with_limits s.limits s) h (relimited s s.limits R) a is) (λ q t X. limit_plain c s q t (λ _. X.1) X.0)
     limit_or c s h R false top none is e = rw e (go env.equal_names refl)
       where
-        go : (b : Bool) → env.equal_names ≡ b → Post (λ q t. LimitName c s q t) (Qualified-by c none (with_limits (pick (b && true) (s.limits ++ (waits_for c s ∷ [])) s.limits) s))
+        go : (b : Bool) → env.equal_names ≡ b → Post (λ q t. LimitName c s q t) (Some-by c none (with_limits (pick (b && true) (s.limits ++ (waits_for c s ∷ [])) s.limits) s))
         go true z = post_map (new_at c (queueing c s) h (relimited s (s.limits ++ (waits_for c s ∷ [])) R)) (λ q t X. rw X.1 (limit_waits c s t h R (rw X.1 at X.0) X.2))
         go false z = post_map (new_at c (with_limits s.limits s) h (relimited s s.limits R)) (λ q t X. limit_plain c s q t (λ y. absurd (false≢true (sym z ∙ y))) X.0)
 

@@ -6,8 +6,8 @@ use Rattle.std.proofs.Math.Option.{some}
 use Rattle.ir.specs.Pick.{pick}
 use Rattle.ir.specs.declared.atom.Atom.{Atom}
 use Rattle.ir.specs.declared.atom.Atom.TheVariants.{Class, Exists, AtMost, AtLeast, Equal, Role as RoleAtom}
-use Rattle.ir.specs.declared.atom.Qualifier.{Qualifier}
-use Rattle.ir.specs.declared.atom.Qualifier.TheVariants.{Unqualified, Qualified}
+use Rattle.ir.specs.Qualifiers.{Qualifier}
+use Rattle.std.specs.Prelude.{None, Some}
 use Rattle.rules.specs.Base.{any}
 use Rattle.rules.specs.State.{Clause}
 use Rattle.rules.specs.Deck.{Known}
@@ -27,8 +27,8 @@ module _ (d : Known) (n : ℕ) where
 
   -- ---- the third proviso, of the heads
   qualifier_fine : (q : Qualifier) → QualifierIn (first_fresh d + n) q → names_fresh (is_fresh d n) q ≡ false → QualifierIn (first_fresh d) q
-  qualifier_fine Unqualified u e = tt
-  qualifier_fine (Qualified c) u e = declared c u e
+  qualifier_fine None u e = tt
+  qualifier_fine (Some c) u e = declared c u e
 
   atom_fine : (a : Atom) → AtomUnder (first_fresh d + n) a → is_fresh_at_most (is_fresh d n) a ≡ false → FineAtom (first_fresh d) a
   atom_fine (Class _ _) u e = tt

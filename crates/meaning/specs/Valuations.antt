@@ -4,8 +4,8 @@ use Rattle.std.specs.Prelude.{◌≡◌, refl, Bool, ◌&&◌, ◌||◌, List, [
 use Rattle.std.proofs.Common.{sym, ap, ap₂, ◌∙◌, arith}
 use Rattle.ir.specs.declared.atom.Atom.{Atom}
 use Rattle.ir.specs.declared.atom.Atom.TheVariants.{Class, Exists, AtMost, AtLeast, Equal, Role as RoleAtom}
-use Rattle.ir.specs.declared.atom.Qualifier.{Qualifier}
-use Rattle.ir.specs.declared.atom.Qualifier.TheVariants.{Unqualified, Qualified}
+use Rattle.ir.specs.Qualifiers.{Qualifier}
+use Rattle.std.specs.Prelude.{None, Some}
 use Rattle.rules.specs.Base.{all, any}
 use Rattle.rules.specs.State.{Clause}
 use Rattle.rules.specs.Invariants.{Each, Bounds, QualifierIn, AtomIn, ClauseIn}
@@ -47,8 +47,8 @@ each_of_lem h [] u = tt
 each_of_lem h (a ∷ l) u = (h a u.0, each_of_lem h l u.1)
 
 qualifier_more : {m n : ℕ} → m ≤ n → (q : Qualifier) → QualifierIn m q → QualifierIn n q
-qualifier_more h Unqualified u = tt
-qualifier_more h (Qualified c) u = omega arith
+qualifier_more h None u = tt
+qualifier_more h (Some c) u = omega arith
 
 pub atom_under_more : {m n : ℕ} → m ≤ n → (a : Atom) → AtomUnder m a → AtomUnder n a
 atom_under_more h (Class c v) u = omega arith
@@ -76,8 +76,8 @@ clause_in_under B n vars c u = record { body = each_of_lem (atom_in_under B n va
 -- ---- what agrees gives the same truth
 module _ (I : Interpretation) where
   qualifier_agree : {n : ℕ} {k l : Valuation} → Agree n k l → (q : Qualifier) → QualifierIn n q → qualifies (with_classes I k) q ≡ qualifies (with_classes I l) q
-  qualifier_agree a Unqualified u = refl
-  qualifier_agree a (Qualified c) u = a.same c u
+  qualifier_agree a None u = refl
+  qualifier_agree a (Some c) u = a.same c u
 
   pub holds_agree : {n : ℕ} {k l : Valuation} → Agree n k l → (f : ℕ → ℕ) (x : Atom) → AtomUnder n x → atom_holds (with_classes I k) f x ≡ atom_holds (with_classes I l) f x
   holds_agree a f (Class c v) u = ap (λ g. g (f v)) (a.same c u)

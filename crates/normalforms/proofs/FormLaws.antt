@@ -6,8 +6,8 @@ use lib.ListN.{length}
 use Rattle.words.specs.Words.{words}
 use Rattle.ir.specs.Scratch.{hands_at}
 use Rattle.ir.specs.declared.counters.Counters.{Counters}
-use Rattle.ir.specs.declared.answer.Lined.{Lined as CodeLined}
-use Rattle.ir.specs.declared.answer.Lined.TheVariants.{Finished, Stopped}
+use Rattle.ir.specs.Lined.{Lined as CodeLined}
+use Rattle.ir.specs.Lined.{Finished, Stopped}
 use Rattle.rules.specs.Concept.{Axiom}
 use Rattle.rules.specs.Normalize.{St}
 use Rattle.rules.specs.Run.{Lined, done, stopped, nnf_axioms}

@@ -11,11 +11,9 @@ ghost use Rattle.rows.specs.Rows.{Put};
 ghost use Rattle.normalforms.specs.Forms.{lined_text, forms_text, most_text};
 
 use crate::lines;
-use ir::answer::Lined;
 use ir::counters::Counters;
 use normalize::forms;
 use ontology::load;
-use ontology::load::Loaded;
 
 // Of a deck that was read.
 fn put_normalized(scratch: &mut [u8], k: Counters, n: u32, out: &mut [u8]) -> usize
@@ -23,9 +21,10 @@ fn put_normalized(scratch: &mut [u8], k: Counters, n: u32, out: &mut [u8]) -> us
     ensures put { Put out.old 0 (lined_text (nnf_axioms k.line (axioms_of (words scratch.old) n) (state_of k (words scratch.old)))) out.new result }
     ensures upper_bound { result ≤ most_text }
 {
-    match forms::nnf_axioms(scratch, k, n, k.line) {
-        Lined::Finished(v) => lines::put_normal(scratch, v, n, out),
-        Lined::Stopped(e, line) => lines::put_refusal(out, e, line),
+    let mut v = k;
+    match forms::nnf_axioms(scratch, &mut v, n, k.line) {
+        Ok(()) => lines::put_normal(scratch, v, n, out),
+        Err(e) => lines::put_refusal(out, e),
     }
 }
 
@@ -36,7 +35,7 @@ pub fn put_forms(deck: &[u8], scratch: &mut [u8], out: &mut [u8]) -> usize
     ensures upper_bound { result ≤ most_text }
 {
     match load::load(deck, scratch, 1000000) {
-        Loaded::Accepted(k, n) => put_normalized(scratch, k, n, out),
-        Loaded::Refused(e, line) => lines::put_refusal(out, e, line),
+        Ok((k, n)) => put_normalized(scratch, k, n, out),
+        Err(e) => lines::put_refusal(out, e),
     }
 }

@@ -1,6 +1,7 @@
 // The text of a pool and of axioms.
 ghost use Rattle.std.specs.Prelude.{◌+◌, ◌*◌, ◌≤◌, ◌<◌, ◌≡◌, true, false, length};
 ghost use Rattle.words.specs.Words.{words};
+ghost use Rattle.ir.specs.Refusals.{refusal_number};
 ghost use Rattle.ir.specs.Scratch.{lines_at};
 ghost use Rattle.rules.specs.Lister.{fields_text};
 ghost use Rattle.pool.specs.Layout.{is_list, field, concept_at, pool_of};
@@ -9,6 +10,7 @@ ghost use Rattle.ontology.specs.Layout.{axiom_row, axioms_of, AxiomsHeld};
 ghost use Rattle.rows.specs.Rows.{Put};
 ghost use Rattle.normalforms.specs.Forms.{concept_line, concepts_text, axioms_text, normal_text, refusal_text, most_text};
 
+use ir::answer::Refused;
 use ir::counters::Counters;
 use ir::scratch::NUMBERS;
 use ontology::axiom;
@@ -101,11 +103,11 @@ pub fn put_normal(scratch: &[u8], k: Counters, n: u32, out: &mut [u8]) -> usize
     rows::put_line(out, q, &[44, k.visits, k.concepts, k.members])
 }
 
-// A refusal.
-pub fn put_refusal(out: &mut [u8], number: u32, line: u32) -> usize
+// A refusal, in this program's own text: one line, as in clauses.
+pub fn put_refusal(out: &mut [u8], e: Refused) -> usize
     requires { most_text ≤ length out.old }
-    ensures put { Put out.old 0 (refusal_text number line) out.new result }
+    ensures put { Put out.old 0 (refusal_text (refusal_number e.refusal) e.line) out.new result }
     ensures upper_bound { result ≤ most_text }
 {
-    rows::put_line(out, 0, &[49, number, line])
+    rows::put_line(out, 0, &[49, e.refusal.number(), e.line])
 }

@@ -14,9 +14,9 @@ use Rattle.words.specs.Laws.{length_words}
 use Rattle.ir.specs.Counts.{tick, visited}
 use Rattle.ir.specs.Scratch.{keys_at, normal_forms_at}
 use Rattle.ir.specs.declared.counters.Counters.{Counters}
-use Rattle.ir.specs.declared.counters.Visit.TheVariants.{Begun, Full}
-use Rattle.ir.specs.declared.answer.Answer.{Answer}
-use Rattle.ir.specs.declared.answer.Answer.TheVariants.{Done, Refused}
+use Rattle.ir.specs.Visit.{Begun, Full}
+use Rattle.ir.specs.Answer.{Answer}
+use Rattle.ir.specs.Answer.{Done, Refused}
 use Rattle.rules.specs.Base.{Res, ok, refused, then, each}
 use Rattle.rules.specs.Concept.{Concept}
 use Rattle.rules.specs.Concept.{Top, Bot, Atomic, Nominal, SelfRestriction, Not, And, Or, Some, All, Min, Max}
@@ -29,7 +29,7 @@ use Rattle.rules.specs.DepthLaws.{deepest_of, depth}
 use Rattle.rules.proofs.NormalizeLaws.{AllDone}
 use Rattle.pool.specs.Layout.{run, concept_at, pool_of}
 use Rattle.pool.specs.Held.{Ready}
-use Rattle.pool.specs.Answers.{after, shown, HeldAfter}
+use Rattle.pool.specs.Answers.{after, shown}
 use Rattle.pool.specs.HeldLaws.{pool_length, pool_at, members_next, word_above}
 use Rattle.words.specs.Runs.{get_d_sets_after}
 use Rattle.pool.specs.Shapes.{by_test}
@@ -93,7 +93,7 @@ visit_full k w c b h zero l = absurd (omega arith)
 visit_full k w c b h (suc f) l = sym (ap (told k) (nnf_by_lem b f c (state_of k w)) ∙ rw (full_test k h) refl)
 
 module _ (k v : Counters) (begun : visited k ≡ Begun v) where
-  pub visit_begun : (s : List ℕ) (top c : ℕ) → Normalizing s k top c → Normalizing s v top c
+  visit_begun : (s : List ℕ) (top c : ℕ) → Normalizing s k top c → Normalizing s v top c
   visit_begun s top c P = subst (λ (j : Counters). Normalizing s j top c) (sym (begun_test k v begun).1) (record {
     bounds = P.bounds;
     ready = record { room = P.ready.room; held = P.ready.held };
@@ -127,6 +127,10 @@ pub record Parted (s : List ℕ) (v : Counters) (top c : ℕ) (b : Bool) (n : �
   pub count : n ≡ length (visited_parts b (concept_at (words s) c))
   pub len : length s1 ≡ length s
   pub put : words s1 ≡ sets (words s) top (visited_parts b (concept_at (words s) c))
+
+pub parted_after : {s s1 : List ℕ} {k v : Counters} {top c n : ℕ} {b : Bool} → visited k ≡ Begun v → Normalizing s k top c → n ≡ length (visited_parts b (concept_at (words s) c)) → length s1 ≡ length s
+    → words s1 ≡ sets (words s) top (visited_parts b (concept_at (words s) c)) → Parted s v top c b n s1
+parted_after {s} {k = k} {v = v} {top = top} {c = c} begun P count len put = record { asked = visit_begun k v begun s top c P; count = count; len = len; put = put }
 
 -- and then normalised, which gives s2 and the answer r
 pub record Normalized (m : Bool) (v : Counters) (top c : ℕ) (b : Bool) (n : ℕ) (s1 : List ℕ) (b' : Bool) (s2 : List ℕ) (r : Answer) : Type 0 where
@@ -254,7 +258,3 @@ module _ {s : List ℕ} {v : Counters} {top c : ℕ} {b : Bool} {n : ℕ} {s1 : 
     pub visit_kept : {r : Answer} → Normalized mm v top c b n s1 b' s2 r → (s3 : List ℕ) → drop keys_at (words s3) ≡ drop keys_at (words s2) → Kept top 0 top (words s) (words s3)
     visit_kept R s3 frame =
         kept_parts top (words s) parts P.asked.above (omega (arith, parts_room)) (words s2) (rw (P.count, P.put) at R.kept) (words s3) frame
-
-pub visit_held : (top c n : ℕ) (b : Bool) (w w' : List ℕ) (r r' : Answer) → RebuiltAfter r top c n b w w' r' → HeldAfter r' w'
-visit_held top c n b w w' (Done k i) r' m = m.held
-visit_held top c n b w w' (Refused e) r' m = rw m tt

@@ -6,8 +6,8 @@ use Rattle.std.proofs.lemmas.Bool.{eqb-false}
 use Rattle.rules.specs.TextLaws.{by_test}
 use Rattle.ir.specs.Scratch.{axioms_at, numbers_at, stack_at}
 use Rattle.ir.specs.declared.counters.Counters.{Counters}
-use Rattle.ir.specs.declared.answer.Answer.{Answer}
-use Rattle.ir.specs.declared.answer.Answer.TheVariants.{Done, Refused}
+use Rattle.ir.specs.Answer.{Answer}
+use Rattle.ir.specs.Answer.{Done, Refused}
 use Rattle.rules.specs.Base.{Res, ok, refused, then, each}
 use Rattle.rules.specs.Concept.{Axiom}
 use Rattle.rules.specs.Deck.{section_of, fields_ok, axiom_of}

@@ -9,9 +9,9 @@ use Rattle.std.proofs.lemmas.Bool.{eqb-false}
 use Rattle.rules.specs.TextLaws.{by_test}
 use Rattle.ir.specs.Scratch.{numbers_at, lines_at, stack_at, hands_at}
 use Rattle.ir.specs.declared.counters.Counters.{Counters}
-use Rattle.ir.specs.declared.answer.Answer.{Answer}
-use Rattle.ir.specs.declared.answer.Answer.TheVariants.{Done, Refused}
-use Rattle.ir.specs.declared.answer.Lined.TheVariants.{Finished, Stopped}
+use Rattle.ir.specs.Answer.{Answer}
+use Rattle.ir.specs.Answer.{Done, Refused}
+use Rattle.ir.specs.Lined.{Finished, Stopped}
 use Rattle.rules.specs.Base.{Res, ok, refused}
 use Rattle.rules.specs.Concept.{Axiom}
 use Rattle.rules.specs.Normalize.{St, nnf_axiom}

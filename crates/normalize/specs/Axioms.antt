@@ -4,10 +4,10 @@ use Rattle.words.specs.Words.{words}
 use Rattle.ir.specs.Pick.{pick}
 use Rattle.ir.specs.Scratch.{numbers_at, hands_at}
 use Rattle.ir.specs.declared.counters.Counters.{Counters}
-use Rattle.ir.specs.declared.answer.Answer.{Answer}
-use Rattle.ir.specs.declared.answer.Answer.TheVariants.{Done, Refused}
-use Rattle.ir.specs.declared.answer.Lined.{Lined as CodeLined}
-use Rattle.ir.specs.declared.answer.Lined.TheVariants.{Finished, Stopped}
+use Rattle.ir.specs.Answer.{Answer}
+use Rattle.ir.specs.Answer.{Done, Refused}
+use Rattle.ir.specs.Lined.{Lined as CodeLined}
+use Rattle.ir.specs.Lined.{Finished, Stopped}
 use Rattle.rules.specs.Base.{Res, ok, refused}
 use Rattle.rules.specs.Concept.{Axiom}
 use Rattle.rules.specs.Normalize.{St}

@@ -1,6 +1,6 @@
 -- The words of the normal forms, cleared: nothing is known, and all that the axioms ask is as it was. Assumes nothing.
-use Rattle.std.specs.Prelude.{◌≡◌, refl, List, ℕ, ◌+◌, ◌*◌, ◌-◌, ◌<◌, ◌≤◌, length, get_or, replicate}
-use Rattle.std.proofs.Common.{sym, ap, ◌∙◌, arith}
+use Rattle.std.specs.Prelude.{◌≡◌, refl, List, ℕ, ◌+◌, ◌-◌, ◌<◌, ◌≤◌, length, get_or, replicate}
+use Rattle.std.proofs.Common.{ap, ◌∙◌, arith}
 use Rattle.std.proofs.lemmas.List.{length-replicate, get_or-replicate}
 use Rattle.std.proofs.lemmas.List.Edits.{sets}
 use Rattle.words.specs.Words.{words}
@@ -8,12 +8,11 @@ use Rattle.words.specs.Laws.{length_words}
 use Rattle.words.specs.Runs.{get_d_sets_after, get_d_sets_before, get_d_sets_in}
 use Rattle.ir.specs.Scratch.{numbers_at, lines_at, stack_at, normal_forms_at, hands_at}
 use Rattle.ir.specs.declared.counters.Counters.{Counters}
-use Rattle.ir.specs.declared.answer.Lined.{Lined as CodeLined}
+use Rattle.ir.specs.Lined.{Lined as CodeLined}
 use Rattle.rules.specs.Run.{nnf_axioms}
-use Rattle.pool.specs.Layout.{pool_of}
 use Rattle.ontology.specs.Layout.{axioms_of}
 use Rattle.rebuilding.specs.States.{state_of, Kept}
-use Rattle.normalize.specs.Axioms.{after_axioms, told_lined, HeldLined, NormalizingAxioms}
+use Rattle.normalize.specs.Axioms.{after_axioms, told_lined, NormalizingAxioms}
 use Rattle.normalize.specs.Known.{Known}
 use Rattle.normalize.specs.KnownLaws.{known_nothing}
 use Rattle.normalize.specs.KeptLaws.{Under, under_sets}

@@ -1,13 +1,14 @@
 -- The words of scratch that say which normal forms are known.
-use Rattle.std.specs.Prelude.{Bool, true, false, List, ℕ, ◌+◌, ◌*◌, ◌-◌, ◌/◌, ◌%◌, ◌<◌, ◌≤◌, get_or, set, ltb, leb}
+use Rattle.std.specs.Prelude.{Bool, true, false, List, ℕ, ◌+◌, ◌*◌, ◌-◌, ◌/◌, ◌%◌, ◌<◌, ◌≤◌, get_or, set, eqb, ltb, leb, Option, Some, None}
 use Rattle.ir.specs.Counts.{counters}
 use Rattle.ir.specs.Pick.{pick}
 use Rattle.ir.specs.Scratch.{normal_forms_at}
 use Rattle.ir.specs.declared.counters.Counters.{Counters}
-use Rattle.ir.specs.declared.answer.Answer.{Answer}
-use Rattle.ir.specs.declared.answer.Answer.TheVariants.{Done, Refused}
+use Rattle.ir.specs.Answer.{Answer}
+use Rattle.ir.specs.Answer.{Done, Refused}
 use Rattle.rules.specs.Pool.{Pool, most_concepts}
 use Rattle.pool.specs.Layout.{pool_of}
+use Rattle.normalize.specs.declared.known.Form.{Form}
 use Rattle.normalize.specs.Settled.{Settled}
 
 -- the word of concept c, or of its negation
@@ -31,12 +32,16 @@ abbrev pub KnownAfter : Bool → Answer → List ℕ → Type 0
 KnownAfter b (Done k i) w = KnownIf b w k.concepts
 KnownAfter b (Refused e) w = Unit {0}
 
--- the visits and the id of a word
+-- the form of a word
+abbrev pub read_form : ℕ → Option Form
+read_form x = pick (eqb x 0) None (Some (record { id = x % most_concepts; visits = x / most_concepts }))
+
+-- a form again, after its visits
 abbrev pub visited_again : Counters → ℕ → Counters
 visited_again k v = counters (k.visits + v) k.limit k.concepts k.members k.next_var k.next_class k.clauses k.atoms k.deferrals k.line k.nominal_base k.options
 
-abbrev pub revisited : Counters → ℕ → Answer
-revisited k x = pick (leb (k.visits + x / most_concepts) k.limit) (Done (visited_again k (x / most_concepts)) (x % most_concepts)) (Refused 10)
+abbrev pub revisited : Counters → Form → Answer
+revisited k x = pick (leb (k.visits + x.visits) k.limit) (Done (visited_again k x.visits) x.id) (Refused 10)
 
 -- word j after concept i was made in v visits: 2 ^ 21 of them are too many for it
 abbrev pub kept_form : List ℕ → (j i v : ℕ) → List ℕ

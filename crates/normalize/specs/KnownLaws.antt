@@ -1,12 +1,12 @@
 -- What is known stays known where the pool grows and the words stay; and one word more. Assumes nothing.
-use Rattle.std.specs.Prelude.{◌≡◌, refl, Bool, true, false, not, List, ℕ, suc, ◌+◌, ◌*◌, ◌-◌, ◌/◌, ◌%◌, ◌<◌, ◌≤◌, eqb, ltb, leb, length, get_or, set}
-use Rattle.std.proofs.Common.{sym, ap, ◌∙◌, arith, get_or-set_same, get_or-set_other, eqb-true}
+use Rattle.std.specs.Prelude.{◌≡◌, refl, Bool, true, false, List, ℕ, suc, ◌+◌, ◌*◌, ◌-◌, ◌/◌, ◌%◌, ◌<◌, ◌≤◌, eqb, ltb, leb, length, get_or, set, Option, Some, None}
+use Rattle.std.proofs.Common.{ap, ◌∙◌, arith, get_or-set_same, get_or-set_other, eqb-true}
 use Prim.{tt}
 use Rattle.std.proofs.lemmas.Bool.{eqb-false}
-use Rattle.ir.specs.Scratch.{keys_at, normal_forms_at, hands_at}
+use Rattle.ir.specs.Scratch.{normal_forms_at, hands_at}
 use Rattle.ir.specs.declared.counters.Counters.{Counters}
-use Rattle.ir.specs.declared.answer.Answer.{Answer}
-use Rattle.ir.specs.declared.answer.Answer.TheVariants.{Done, Refused}
+use Rattle.ir.specs.Answer.{Answer}
+use Rattle.ir.specs.Answer.{Done, Refused}
 use Rattle.rules.specs.Base.{ok}
 use Rattle.rules.specs.Pool.{most_concepts}
 use Rattle.rules.specs.Invariants.{Bounds, Wf, Grown}
@@ -21,10 +21,11 @@ use Rattle.pool.specs.HeldLaws.{pool_length}
 use Rattle.pool.specs.Shapes.{by_test}
 use Rattle.rebuilding.specs.Steps.{nnf_by}
 use Rattle.rebuilding.specs.States.{state_of, told, Kept}
-use Rattle.normalize.specs.StateLaws.{Stated, stated, by_done}
-use Rattle.normalize.specs.Settled.{later, paid, paid_if, Settled}
+use Rattle.normalize.specs.StateLaws.{stated, by_done}
+use Rattle.normalize.specs.Settled.{later, paid, Settled}
 use Rattle.normalize.specs.SettledLaws.{again, settled_grown}
-use Rattle.normalize.specs.Known.{form_at, Says, Known, KnownIf, KnownAfter, visited_again, revisited, kept_form, kept_answer, MadeSince}
+use Rattle.normalize.specs.declared.known.Form.{Form}
+use Rattle.normalize.specs.Known.{form_at, read_form, Known, KnownIf, KnownAfter, revisited, kept_form, kept_answer, MadeSince}
 use Rattle.normalize.specs.KeptLaws.{Under, under_set}
 
 -- where the words stand
@@ -50,10 +51,6 @@ module _ (w w' : List ℕ) (n n' : ℕ) (G : Grown (pool_of w n) (pool_of w' n')
   pub known_if_on : (m : Bool) → KnownIf m w n → KnownIf m w' n'
   known_if_on true K = known_on K
   known_if_on false K = tt
-
-pub known_where : (m : Bool) (w : List ℕ) (n : ℕ) → not m ≡ false → KnownIf m w n → Known w n
-known_where true w n e K = K
-known_where false w n e K = absurd (let z : ◌≡◌ {A = ℕ} 0 1 = cc in omega arith)
 
 -- nothing is known where the words are zeros
 pub known_nothing : (w : List ℕ) (n : ℕ) → ((j : ℕ) → normal_forms_at ≤ j → j < normal_forms_at + 4096 → get_or w j 0 ≡ 0) → Known w n
@@ -91,32 +88,38 @@ module _ (w : List ℕ) (n m : ℕ) (H : Held w n m) (long : hands_at ≤ length
   known_put = by_test (ltb v 2097152) (λ t. rw t put) (λ t. rw t K)
 
 -- ---- an answer that is known
-pub settled : (b : Bool) (c x : ℕ) (w : List ℕ) (n : ℕ) → Known w n → c < most_concepts → x ≡ get_or w (form_at b c) 0 → (x ≡ 0 → ⊥) → Settled (pool_of w n) b c (x % most_concepts) (x / most_concepts)
-settled b c x w n K h e z = rw e (K.says b c h (rw (← e) (omega (arith, z))))
+pub settled : (b : Bool) (c : ℕ) (x : Form) (w : List ℕ) (n : ℕ) → Known w n → c < most_concepts → Some x ≡ read_form (get_or w (form_at b c) 0) → Settled (pool_of w n) b c x.id x.visits
+settled b c x w n K h e =
+    let y : ℕ = get_or w (form_at b c) 0 in
+    by_test (eqb y 0)
+    (λ t. absurd (let o : ◌≡◌ {A = Option Form} (Some x) None = e ∙ rw t refl in let z : ◌≡◌ {A = ℕ} 0 1 = cc in omega arith))
+    (λ t. let o : ◌≡◌ {A = Option Form} (Some x) (Some (record { id = y % most_concepts; visits = y / most_concepts })) = e ∙ rw t refl in
+    let q : x ≡ record { id = y % most_concepts; visits = y / most_concepts } = cc in
+    rw q (K.says b c h (omega (arith, eqb-false y 0 t))))
 
-pub revisited_known : (m : Bool) (k : Counters) (x : ℕ) (w : List ℕ) → KnownIf m w k.concepts → KnownAfter m (revisited k x) w
-revisited_known m k x w K = by_test (leb (k.visits + x / most_concepts) k.limit) (λ t. rw t K) (λ t. rw t tt)
+pub revisited_known : (m : Bool) (k : Counters) (x : Form) (w : List ℕ) → KnownIf m w k.concepts → KnownAfter m (revisited k x) w
+revisited_known m k x w K = by_test (leb (k.visits + x.visits) k.limit) (λ t. rw t K) (λ t. rw t tt)
 
-module _ (B : Bounds) (w : List ℕ) (k : Counters) (H : Held w k.concepts k.members) (F : Wf B (pool_of w k.concepts)) (b : Bool) (c x : ℕ) (h : c < k.concepts) (S : Settled (pool_of w k.concepts) b c (x % most_concepts) (x / most_concepts)) where
-  rule : (f : ℕ) → c < f → nnf_by b f c (state_of k w) ≡ paid (x % most_concepts) (x / most_concepts) (state_of k w)
+module _ (B : Bounds) (w : List ℕ) (k : Counters) (H : Held w k.concepts k.members) (F : Wf B (pool_of w k.concepts)) (b : Bool) (c : ℕ) (x : Form) (h : c < k.concepts) (S : Settled (pool_of w k.concepts) b c x.id x.visits) where
+  rule : (f : ℕ) → c < f → nnf_by b f c (state_of k w) ≡ paid x.id x.visits (state_of k w)
   rule f l = S (state_of k w) (grown_refl (pool_of w k.concepts)) f l
 
   pub revisited_told : (f : ℕ) → c < f → after (revisited k x) w ≡ told k (nnf_by b f c (state_of k w))
-  revisited_told f l = by_test (leb (k.visits + x / most_concepts) k.limit)
+  revisited_told f l = by_test (leb (k.visits + x.visits) k.limit)
       (λ t. rw (rule f l, t, pool_length w k.concepts, ← H.count) refl)
       (λ t. rw (rule f l, t) refl)
 
   pub revisited_held : HeldAfter (revisited k x) w
-  revisited_held = by_test (leb (k.visits + x / most_concepts) k.limit)
+  revisited_held = by_test (leb (k.visits + x.visits) k.limit)
       (λ t. rw t (H, id_held t))
       (λ t. rw t tt)
     where
-      id_held : leb (k.visits + x / most_concepts) k.limit ≡ true → x % most_concepts < k.concepts
+      id_held : leb (k.visits + x.visits) k.limit ≡ true → x.id < k.concepts
       id_held t =
-          let e : nnf_by b (suc c) c (state_of k w) ≡ ok (x % most_concepts) (later (state_of k w) (x / most_concepts)) = rule (suc c) (omega arith) ∙ rw t refl in
+          let e : nnf_by b (suc c) c (state_of k w) ≡ ok x.id (later (state_of k w) x.visits) = rule (suc c) (omega arith) ∙ rw t refl in
           rw (pool_length w k.concepts) at (from (rw e at (by_done B b (suc c) c (state_of k w) F (rw (pool_length w k.concepts) h) (omega arith))))
         where
-          from : Post (IdDone B (1 + depth (pool_of w k.concepts) c) (state_of k w)) (ok (x % most_concepts) (later (state_of k w) (x / most_concepts))) → x % most_concepts < length (pool_of w k.concepts)
+          from : Post (IdDone B (1 + depth (pool_of w k.concepts) c) (state_of k w)) (ok x.id (later (state_of k w) x.visits)) → x.id < length (pool_of w k.concepts)
           from (gives D) = D.held
 
 -- ---- an answer that is kept

@@ -10,10 +10,9 @@ use Rattle.rules.specs.Run.{Lined, nnf_axioms}
 use Rattle.rules.specs.Invariants.{Each, Wf, AxiomIn}
 use Rattle.rules.specs.Deck.{Known, Told, fine, refused, axiom_line}
 use Rattle.rules.specs.DeckLaws.{bounds_of, DeckIn}
-use Rattle.ontology.specs.declared.load.Loaded.{Loaded}
-use Rattle.ontology.specs.declared.load.Loaded.TheVariants.{Accepted, Refused}
 use Rattle.ontology.specs.Layout.{axioms_of}
-use Rattle.ontology.specs.Loads.{Holds, LoadedAs, loaded, stopped}
+use Rattle.ontology.specs.Loads.{Holds, Loaded, LoadedAs, loaded, stopped}
+use Rattle.ontology.specs.Loads.{Accepted, Refused}
 use Rattle.rebuilding.specs.States.{state_of}
 use Rattle.normalize.specs.Axioms.{NormalizingAxioms}
 

@@ -8,10 +8,13 @@ ghost use Rattle.ontology.specs.Layout.{axiom_at, axioms_of};
 ghost use Rattle.rebuilding.specs.States.{state_of, told, HeldRun, Kept};
 ghost use Rattle.normalize.specs.Known.{Known, KnownAfter};
 ghost use Rattle.normalize.specs.Axioms.{first_concept, concept_count, concepts_at, concepts_in, after_axiom, after_axioms, told_lined, HeldLined, NormalizingAxioms};
+ghost use Rattle.ir.specs.Answer.{done};
+ghost use Rattle.ir.specs.Lined.{lined};
 
 use crate::nnf;
-use ir::answer::{Answer, Lined};
+use ir::answer::Refused;
 use ir::counters::Counters;
+use ir::refusal::Refusal;
 use ir::scratch::{NORMAL_FORMS, NUMBERS, STACK};
 use ontology::axiom;
 
@@ -19,16 +22,11 @@ use ontology::axiom;
 fn first_concept(kind: u32) -> u32
     ensures { result ≡ first_concept kind }
 {
-    if kind == 24 {
-        return 2;
+    match kind {
+        // DisjointUnion, ObjectPropertyDomain, ObjectPropertyRange: a class or a role is first
+        24..=26 => 2,
+        _ => 1,
     }
-    if kind == 25 {
-        return 2;
-    }
-    if kind == 26 {
-        return 2;
-    }
-    1
 }
 
 // How many concepts an axiom of n numbers names.
@@ -36,58 +34,54 @@ fn concept_count(kind: u32, n: u32) -> u32
     requires { (1 ≤ n) × (first_concept kind ≤ n) }
     ensures { result ≡ concept_count kind n }
 {
-    if kind == 36 {
-        return 1;
+    match kind {
+        // ClassAssertion
+        36 => 1,
+        // up to ObjectPropertyRange
+        0..=26 => n - first_concept(kind),
+        _ => 0,
     }
-    if kind < 27 {
-        return n - first_concept(kind);
-    }
-    0
 }
 
 // Axiom i.
-fn nnf_axiom(scratch: &mut [u8], k: Counters, n: u32, i: u32) -> Answer
-    requires { NormalizingAxioms scratch.old k n × (i < n) × Known (words scratch.old) k.concepts }
-    ensures scratch_after { after_axiom result (axiom_at (words scratch.new) i) (words scratch.new) ≡ told k (nnf_axiom (axiom_at (words scratch.old) i) (state_of k (words scratch.old))) }
-    ensures held_run { HeldRun result (words scratch.new) }
+fn nnf_axiom(scratch: &mut [u8], k: &mut Counters, n: u32, i: u32) -> Result<(), Refusal>
+    requires { NormalizingAxioms scratch.old k.old n × (i < n) × Known (words scratch.old) k.old.concepts }
+    ensures scratch_after { after_axiom (done k.new result) (axiom_at (words scratch.new) i) (words scratch.new) ≡ told k.old (nnf_axiom (axiom_at (words scratch.old) i) (state_of k.old (words scratch.old))) }
+    ensures held_run { HeldRun (done k.new result) (words scratch.new) }
     ensures kept { Kept (concepts_at (words scratch.old) i) (concepts_in (words scratch.old) i) stack_at (words scratch.old) (words scratch.new) }
-    ensures known_after { KnownAfter true result (words scratch.new) }
+    ensures known_after { KnownAfter true (done k.new result) (words scratch.new) }
 {
     let kind = axiom::number(scratch, i, 0);
     let first = first_concept(kind);
     let count = concept_count(kind, axiom::count(scratch, i));
     let at = NUMBERS + axiom::start(scratch, i) as usize + first as usize;
-    nnf::normal_each(scratch, k, at, count, STACK, k.concepts, false, true)
+    let concepts = k.concepts;
+    nnf::normal_each(scratch, k, at, count, STACK, concepts, false, true)
 }
 
 // All of them, the first on line `line`.
-fn nnf_each(scratch: &mut [u8], k: Counters, n: u32, line: u32) -> Lined
-    requires { NormalizingAxioms scratch.old k n × (line ≤ 65536) × Known (words scratch.old) k.concepts }
-    ensures scratch_after { after_axioms result (axioms_of (words scratch.new) n) (words scratch.new) ≡ told_lined k (nnf_axioms line (axioms_of (words scratch.old) n) (state_of k (words scratch.old))) }
-    ensures held_lined { HeldLined result n (words scratch.new) }
+fn nnf_each(scratch: &mut [u8], k: &mut Counters, n: u32, line: u32) -> Result<(), Refused>
+    requires { NormalizingAxioms scratch.old k.old n × (line ≤ 65536) × Known (words scratch.old) k.old.concepts }
+    ensures scratch_after { after_axioms (lined k.new result) (axioms_of (words scratch.new) n) (words scratch.new) ≡ told_lined k.old (nnf_axioms line (axioms_of (words scratch.old) n) (state_of k.old (words scratch.old))) }
+    ensures held_lined { HeldLined (lined k.new result) n (words scratch.new) }
     ensures kept { Kept numbers_at (lines_at - numbers_at) stack_at (words scratch.old) (words scratch.new) }
 {
-    let mut v = k;
-    let mut i: u32 = 0;
-    while i < n {
-        match nnf_axiom(scratch, v, n, i) {
-            Answer::Done(w, _) => {
-                v = w;
-            }
-            Answer::Refused(e) => {
-                return Lined::Stopped(e, line + i);
-            }
+    for i in 0..n {
+        if let Err(refusal) = nnf_axiom(scratch, k, n, i) {
+            return Err(Refused {
+                refusal,
+                line: line + i,
+            });
         }
-        i += 1;
     }
-    Lined::Finished(v)
+    Ok(())
 }
 
 // The same, with no normal form known before.
-pub fn nnf_axioms(scratch: &mut [u8], k: Counters, n: u32, line: u32) -> Lined
-    requires { NormalizingAxioms scratch.old k n × (line ≤ 65536) }
-    ensures scratch_after { after_axioms result (axioms_of (words scratch.new) n) (words scratch.new) ≡ told_lined k (nnf_axioms line (axioms_of (words scratch.old) n) (state_of k (words scratch.old))) }
-    ensures held_lined { HeldLined result n (words scratch.new) }
+pub fn nnf_axioms(scratch: &mut [u8], k: &mut Counters, n: u32, line: u32) -> Result<(), Refused>
+    requires { NormalizingAxioms scratch.old k.old n × (line ≤ 65536) }
+    ensures scratch_after { after_axioms (lined k.new result) (axioms_of (words scratch.new) n) (words scratch.new) ≡ told_lined k.old (nnf_axioms line (axioms_of (words scratch.old) n) (state_of k.old (words scratch.old))) }
+    ensures held_lined { HeldLined (lined k.new result) n (words scratch.new) }
     ensures kept { Kept numbers_at (lines_at - numbers_at) stack_at (words scratch.old) (words scratch.new) }
 {
     words::clear_words(scratch, NORMAL_FORMS, 4096);

@@ -2,61 +2,70 @@
 // 2,048, the visits that made it. Made again, in a pool that has only grown, it takes as many visits and makes nothing.
 ghost use Rattle.std.specs.Prelude.{◌≡◌, ◌+◌, ◌*◌, ◌≤◌, ◌<◌, length, get_or};
 ghost use Rattle.words.specs.Words.{words};
-ghost use Rattle.ir.specs.Scratch.{normal_forms_at, hands_at};
-ghost use Rattle.normalize.specs.Known.{form_at, revisited, kept_form, kept_answer, MadeSince};
+ghost use Rattle.ir.specs.Scratch.{hands_at};
+ghost use Rattle.normalize.specs.Known.{form_at, read_form, revisited, kept_form};
+ghost use Rattle.ir.specs.Answer.{answer};
 
-use ir::answer::Answer;
 use ir::counters::Counters;
+use ir::refusal::Refusal;
 use ir::scratch::NORMAL_FORMS;
+use pool::layout::MOST_CONCEPTS;
+
+// So many visits are too many for a word.
+const MANY_VISITS: u32 = 2097152;
+
+// A normal form's id, and the visits that made it.
+#[derive(Clone, Copy)]
+pub struct Form {
+    pub id: u32,
+    pub visits: u32,
+}
 
 fn place(c: u32, negated: bool) -> usize
     requires { c < 2048 }
     ensures { result ≡ form_at negated c }
 {
     let at = NORMAL_FORMS + 2 * (c as usize);
-    if negated {
-        return at + 1;
-    }
-    at
+    if negated { at + 1 } else { at }
 }
 
-// The word of concept c.
-pub fn form_of(scratch: &[u8], c: u32, negated: bool) -> u32
+// What is known of concept c.
+pub fn form_of(scratch: &[u8], c: u32, negated: bool) -> Option<Form>
     requires { (c < 2048) × (4 * hands_at ≤ length scratch.now) }
-    ensures { result ≡ get_or (words scratch.now) (form_at negated c) 0 }
+    ensures { result ≡ read_form (get_or (words scratch.now) (form_at negated c) 0) }
 {
-    words::get_word(scratch, place(c, negated))
-}
-
-// The normal form of a word, after its visits.
-pub fn revisit(mut k: Counters, form: u32) -> Answer
-    ensures { result ≡ revisited k form }
-{
-    let visits = k.visits as usize + (form / 2048) as usize;
-    if visits <= k.limit as usize {
-        k.visits = visits as u32;
-        return Answer::Done(k, form % 2048);
+    let word = words::get_word(scratch, place(c, negated));
+    if word == 0 {
+        return None;
     }
-    Answer::Refused(10)
+    Some(Form {
+        id: word % MOST_CONCEPTS,
+        visits: word / MOST_CONCEPTS,
+    })
 }
 
-// The word of concept c becomes its normal form i and the v visits; it stays where they are too many for a word.
-fn put_form(scratch: &mut [u8], c: u32, negated: bool, i: u32, v: u32)
-    requires { (c < 2048) × (i < 2048) × (4 * hands_at ≤ length scratch.old) }
-    ensures { words scratch.new ≡ kept_form (words scratch.old) (form_at negated c) i v }
+// A normal form that is known, after its visits.
+pub fn revisit(k: &mut Counters, form: Form) -> Result<u32, Refusal>
+    ensures { (answer k.new result) ≡ revisited k.old form }
 {
-    if v < 2097152 {
-        words::put_word(scratch, place(c, negated), 2048 * v + i);
+    let visits = k.visits as usize + form.visits as usize;
+    if visits > k.limit as usize {
+        return Err(Refusal::VisitsSpent);
     }
+    k.visits = visits as u32;
+    Ok(form.id)
 }
 
-// The same of an answer for concept c, before which there were `visits`.
-pub fn keep(scratch: &mut [u8], visits: u32, made: Answer, c: u32, negated: bool)
-    requires { (c < 2048) × (4 * hands_at ≤ length scratch.old) × MadeSince visits made }
-    ensures { words scratch.new ≡ kept_answer (words scratch.old) (form_at negated c) visits made }
+// The word of concept c becomes its normal form; it stays where the visits are too many for a word.
+pub fn keep(scratch: &mut [u8], c: u32, negated: bool, form: Form)
+    requires { (c < 2048) × (form.id < 2048) × (4 * hands_at ≤ length scratch.old) }
+    ensures { words scratch.new ≡ kept_form (words scratch.old) (form_at negated c) form.id form.visits }
 {
-    match made {
-        Answer::Done(k, i) => put_form(scratch, c, negated, i, k.visits - visits),
-        Answer::Refused(_) => {}
+    if form.visits < MANY_VISITS {
+        words::put_word(
+            scratch,
+            place(c, negated),
+            MOST_CONCEPTS * form.visits + form.id,
+        );
     }
 }

@@ -9,129 +9,125 @@ ghost use Rattle.pool.specs.Answers.{after, HeldAfter};
 ghost use Rattle.rebuilding.specs.Steps.{nnf_by};
 ghost use Rattle.rebuilding.specs.States.{state_of, told, after_run, HeldRun, Kept, Normalizing, NormalizingRun};
 ghost use Rattle.normalize.specs.Known.{KnownIf, KnownAfter};
+ghost use Rattle.ir.specs.Answer.{answer, done};
 
 use crate::known;
-use ir::answer::Answer;
-use ir::counters::{Counters, Visit};
+use crate::known::Form;
+use ir::counters::Counters;
+use ir::refusal::Refusal;
 use ir::scratch::STACK;
 use rebuilding::{parts, rebuild};
 
 // The normal form of concept c, or of its negation; where `memo` says so, by what is known already.
 #[cycle(normal_normal_anew_normal_each)]
-fn normal(scratch: &mut [u8], k: Counters, top: usize, c: u32, negated: bool, memo: bool) -> Answer
-    requires { Normalizing scratch.old k top c × KnownIf memo (words scratch.old) k.concepts }
-    ensures by_index { (f : ℕ) → c < f → after result (words scratch.new) ≡ told k (nnf_by negated f c (state_of k (words scratch.old))) }
-    ensures held_after { HeldAfter result (words scratch.new) }
+fn normal(
+    scratch: &mut [u8],
+    k: &mut Counters,
+    top: usize,
+    c: u32,
+    negated: bool,
+    memo: bool,
+) -> Result<u32, Refusal>
+    requires { Normalizing scratch.old k.old top c × KnownIf memo (words scratch.old) k.old.concepts }
+    ensures by_index { (f : ℕ) → c < f → after (answer k.new result) (words scratch.new) ≡ told k.old (nnf_by negated f c (state_of k.old (words scratch.old))) }
+    ensures held_after { HeldAfter (answer k.new result) (words scratch.new) }
     ensures kept { Kept top 0 top (words scratch.old) (words scratch.new) }
-    ensures known_after { KnownAfter memo result (words scratch.new) }
+    ensures known_after { KnownAfter memo (answer k.new result) (words scratch.new) }
 {
     if !memo {
         return normal_anew(scratch, k, top, c, negated, memo);
     }
-    let form = known::form_of(scratch, c, negated);
-    if form != 0 {
+    if let Some(form) = known::form_of(scratch, c, negated) {
         return known::revisit(k, form);
     }
-    let r = normal_anew(scratch, k, top, c, negated, memo);
-    known::keep(scratch, k.visits, r, c, negated);
-    r
+    let before = k.visits;
+    let id = normal_anew(scratch, k, top, c, negated, memo)?;
+    let visits = k.visits - before;
+    known::keep(scratch, c, negated, Form { id, visits });
+    Ok(id)
 }
 
 // The same, by its parts.
 #[cycle(normal_normal_anew_normal_each)]
 fn normal_anew(
     scratch: &mut [u8],
-    k: Counters,
+    k: &mut Counters,
     top: usize,
     c: u32,
     negated: bool,
     memo: bool,
-) -> Answer
-    requires { Normalizing scratch.old k top c × KnownIf memo (words scratch.old) k.concepts }
-    ensures by_index { (f : ℕ) → c < f → after result (words scratch.new) ≡ told k (nnf_by negated f c (state_of k (words scratch.old))) }
-    ensures held_after { HeldAfter result (words scratch.new) }
+) -> Result<u32, Refusal>
+    requires { Normalizing scratch.old k.old top c × KnownIf memo (words scratch.old) k.old.concepts }
+    ensures by_index { (f : ℕ) → c < f → after (answer k.new result) (words scratch.new) ≡ told k.old (nnf_by negated f c (state_of k.old (words scratch.old))) }
+    ensures held_after { HeldAfter (answer k.new result) (words scratch.new) }
     ensures kept { Kept top 0 top (words scratch.old) (words scratch.new) }
-    ensures known_after { KnownAfter memo result (words scratch.new) }
+    ensures known_after { KnownAfter memo (answer k.new result) (words scratch.new) }
 {
-    let Visit::Begun(v) = k.visit() else {
-        return Answer::Refused(10);
-    };
-    let n = parts::put_parts(scratch, v, top, c, negated);
-    let deeper = parts::part_negated(scratch, v, c, negated);
-    let r = normal_each(scratch, v, top, n, top + n as usize, c, deeper, memo);
-    rebuild::rebuild_after(scratch, r, top, c, n, negated)
+    k.visit()?;
+    let n = parts::put_parts(scratch, *k, top, c, negated);
+    let deeper = parts::part_negated(scratch, *k, c, negated);
+    normal_each(scratch, k, top, n, top + n as usize, c, deeper, memo)?;
+    rebuild::rebuild(scratch, k, top, c, n, negated)
 }
 
 // Each of the n concepts from word `at` on, all below c, becomes its normal form or that of its negation.
 #[cycle(normal_normal_anew_normal_each)]
 pub fn normal_each(
     scratch: &mut [u8],
-    k: Counters,
+    k: &mut Counters,
     at: usize,
     n: u32,
     top: usize,
     c: u32,
     negated: bool,
     memo: bool,
-) -> Answer
-    requires { NormalizingRun scratch.old k at n top c × KnownIf memo (words scratch.old) k.concepts }
-    ensures by_index { (F : ℕ → ℕ) → ((d : ℕ) → d < c → d < F d) → after_run result (run (words scratch.new) at n) (words scratch.new) ≡ told k (each (λ d. nnf_by negated (F d) d) (run (words scratch.old) at n) (state_of k (words scratch.old))) }
-    ensures held_run { HeldRun result (words scratch.new) }
+) -> Result<(), Refusal>
+    requires { NormalizingRun scratch.old k.old at n top c × KnownIf memo (words scratch.old) k.old.concepts }
+    ensures by_index { (F : ℕ → ℕ) → ((d : ℕ) → d < c → d < F d) → after_run (done k.new result) (run (words scratch.new) at n) (words scratch.new) ≡ told k.old (each (λ d. nnf_by negated (F d) d) (run (words scratch.old) at n) (state_of k.old (words scratch.old))) }
+    ensures held_run { HeldRun (done k.new result) (words scratch.new) }
     ensures kept { Kept at n top (words scratch.old) (words scratch.new) }
-    ensures known_after { KnownAfter memo result (words scratch.new) }
+    ensures known_after { KnownAfter memo (done k.new result) (words scratch.new) }
 {
-    let count = n as usize;
-    let mut v = k;
-    let mut i: usize = 0;
-    while i < count {
+    for i in 0..n as usize {
         let d = words::get_word(scratch, at + i);
-        let r = normal(scratch, v, top, d, negated, memo);
-        match r {
-            Answer::Done(w, e) => {
-                words::put_word(scratch, at + i, e);
-                v = w;
-            }
-            Answer::Refused(x) => {
-                return Answer::Refused(x);
-            }
-        }
-        i += 1;
+        let e = normal(scratch, k, top, d, negated, memo)?;
+        words::put_word(scratch, at + i, e);
     }
-    Answer::Done(v, 0)
+    Ok(())
 }
 
 // The same, and nothing is known or kept.
 pub fn normal_run(
     scratch: &mut [u8],
-    k: Counters,
+    k: &mut Counters,
     at: usize,
     n: u32,
     top: usize,
     c: u32,
     negated: bool,
-) -> Answer
-    requires { NormalizingRun scratch.old k at n top c }
-    ensures by_index { (F : ℕ → ℕ) → ((d : ℕ) → d < c → d < F d) → after_run result (run (words scratch.new) at n) (words scratch.new) ≡ told k (each (λ d. nnf_by negated (F d) d) (run (words scratch.old) at n) (state_of k (words scratch.old))) }
-    ensures held_run { HeldRun result (words scratch.new) }
+) -> Result<(), Refusal>
+    requires { NormalizingRun scratch.old k.old at n top c }
+    ensures by_index { (F : ℕ → ℕ) → ((d : ℕ) → d < c → d < F d) → after_run (done k.new result) (run (words scratch.new) at n) (words scratch.new) ≡ told k.old (each (λ d. nnf_by negated (F d) d) (run (words scratch.old) at n) (state_of k.old (words scratch.old))) }
+    ensures held_run { HeldRun (done k.new result) (words scratch.new) }
     ensures kept { Kept at n top (words scratch.old) (words scratch.new) }
 {
     normal_each(scratch, k, at, n, top, c, negated, false)
 }
 
-pub fn to_nnf(scratch: &mut [u8], k: Counters, c: u32) -> Answer
-    requires { Normalizing scratch.old k stack_at c }
-    ensures by_index { (f : ℕ) → c < f → after result (words scratch.new) ≡ told k (to_nnf f c (state_of k (words scratch.old))) }
-    ensures held_after { HeldAfter result (words scratch.new) }
+pub fn to_nnf(scratch: &mut [u8], k: &mut Counters, c: u32) -> Result<u32, Refusal>
+    requires { Normalizing scratch.old k.old stack_at c }
+    ensures by_index { (f : ℕ) → c < f → after (answer k.new result) (words scratch.new) ≡ told k.old (to_nnf f c (state_of k.old (words scratch.old))) }
+    ensures held_after { HeldAfter (answer k.new result) (words scratch.new) }
     ensures kept { Kept stack_at 0 stack_at (words scratch.old) (words scratch.new) }
 {
     normal(scratch, k, STACK, c, false, false)
 }
 
 // nnf_complement calls it, with no visit of its own.
-pub fn push_negation_in(scratch: &mut [u8], k: Counters, c: u32) -> Answer
-    requires { Normalizing scratch.old k stack_at c }
-    ensures by_index { (f : ℕ) → c < f → after result (words scratch.new) ≡ told k (push_negation_in f c (state_of k (words scratch.old))) }
-    ensures held_after { HeldAfter result (words scratch.new) }
+pub fn push_negation_in(scratch: &mut [u8], k: &mut Counters, c: u32) -> Result<u32, Refusal>
+    requires { Normalizing scratch.old k.old stack_at c }
+    ensures by_index { (f : ℕ) → c < f → after (answer k.new result) (words scratch.new) ≡ told k.old (push_negation_in f c (state_of k.old (words scratch.old))) }
+    ensures held_after { HeldAfter (answer k.new result) (words scratch.new) }
     ensures kept { Kept stack_at 0 stack_at (words scratch.old) (words scratch.new) }
 {
     normal(scratch, k, STACK, c, true, false)

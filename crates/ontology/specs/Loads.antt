@@ -1,14 +1,14 @@
 -- A deck that was read, in scratch.
-use Rattle.std.specs.Prelude.{◌≡◌, List, ℕ, length}
+use Rattle.std.specs.Prelude.{◌≡◌, List, ℕ, length, Result, Ok, Err}
 use Rattle.ir.specs.Counts.{counters}
+use Rattle.ir.specs.Refusals.{refusal_number}
+use Rattle.ir.specs.declared.answer.Refused.{Refused as CodeRefused}
 use Rattle.ir.specs.declared.counters.Counters.{Counters}
 use Rattle.rules.specs.Pool.{members}
 use Rattle.rules.specs.Deck.{Known, Told, fine, refused, axiom_line}
 use Rattle.rules.specs.Run.{first_fresh}
 use Rattle.pool.specs.Layout.{pool_of}
 use Rattle.pool.specs.Held.{Held}
-use Rattle.ontology.specs.declared.load.Loaded.{Loaded}
-use Rattle.ontology.specs.declared.load.Loaded.TheVariants.{Accepted, Refused}
 use Rattle.ontology.specs.Layout.{axioms_of, AxiomsHeld, KeysHeld}
 
 -- the counters before the first visit, at the first axiom's line
@@ -25,7 +25,19 @@ pub record Holds (d : Known) (limit : ℕ) (w : List ℕ) (k : Counters) (n : �
   pub axioms : axioms_of w n ≡ d.axioms
   pub keys : KeysHeld w d.keys
 
--- the code's answer beside the reading's
+-- the code's answer: the counters and the number of axioms, or a refusal's number and its line
+pub data Loaded : Type 0 where
+  Accepted : Counters → ℕ → Loaded
+  Refused : ℕ → ℕ → Loaded
+
+abbrev pub read_of : Counters × ℕ → Loaded
+read_of r = Accepted r.0 r.1
+
+abbrev pub loaded_of : Result (Counters × ℕ) CodeRefused → Loaded
+loaded_of (Ok r) = read_of r
+loaded_of (Err e) = Refused (refusal_number e.refusal) e.line
+
+-- beside the reading's
 pub data LoadedAs (limit : ℕ) (t : Told) (w : List ℕ) : Loaded → Type 0 where
   loaded : (d : Known) (k : Counters) (n : ℕ) → t ≡ fine d → Holds d limit w k n → LoadedAs limit t w (Accepted k n)
   stopped : (e line : ℕ) → t ≡ refused e line → LoadedAs limit t w (Refused e line)

@@ -30,9 +30,7 @@ pub fn load_axioms(deck: &[u8], scratch: &mut [u8], axioms: usize)
     ensures kept { Kept 0 axioms_at (words scratch.old) (words scratch.new) }
 {
     let mut at: usize = 0;
-    let mut i: usize = 0;
-    while i < axioms {
+    for i in 0..axioms {
         at = load_axiom(deck, scratch, i, at);
-        i += 1;
     }
 }

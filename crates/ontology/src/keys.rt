@@ -19,10 +19,8 @@ pub fn load_keys(deck: &[u8], scratch: &mut [u8], st: State)
 {
     words::clear_words(scratch, KEYS, ROLES - KEYS);
     let keys = st.keys;
-    let mut i: usize = 0;
-    while i < keys {
+    for i in 0..keys {
         let class = deck::key(deck, st, i);
         words::put_word(scratch, KEYS + class, 1);
-        i += 1;
     }
 }

@@ -4,21 +4,14 @@ ghost use Rattle.words.specs.Words.{words};
 ghost use Rattle.ir.specs.Scratch.{hands_at};
 ghost use Rattle.rules.specs.Deck.{read_deck};
 ghost use Rattle.ontology.specs.Lines.{table_in, Answered, Accepted, Declared, started};
-ghost use Rattle.ontology.specs.Loads.{LoadedAs};
+ghost use Rattle.ontology.specs.Loads.{LoadedAs, loaded_of, read_of};
 
 use crate::lines::{TABLE, TABLE_END};
 use crate::{axiom_lines, concepts, keys};
-use deck::Refused;
 use deck::state::State;
+use ir::answer::Refused;
 use ir::counters::Counters;
 use pool::layout::{HEADS, POOL};
-
-// The counters and the number of axioms, or a refusal's number and its line.
-#[derive(Clone, Copy)]
-pub enum Loaded {
-    Accepted(Counters, u32),
-    Refused(u32, u32),
-}
 
 // The counters before the first concept.
 fn begin(st: State, limit: u32) -> Counters
@@ -41,41 +34,44 @@ fn begin(st: State, limit: u32) -> Counters
     }
 }
 
-// What the reader kept of a deck becomes records.
-fn load_lines(deck: &[u8], scratch: &mut [u8], st: State, limit: u32) -> Loaded
+// What the reader kept of a deck becomes records: the counters and the number of axioms.
+fn load_lines(deck: &[u8], scratch: &mut [u8], st: State, limit: u32) -> (Counters, u32)
     requires { (4 * hands_at ≤ length scratch.old) × Accepted deck.now (table_in scratch.old) st }
-    ensures { LoadedAs limit (read_deck deck.now) (words scratch.new) result }
+    ensures { LoadedAs limit (read_deck deck.now) (words scratch.new) (read_of result) }
 {
-    let start = begin(st, limit);
+    let mut k = begin(st, limit);
     words::clear_words(scratch, HEADS, POOL - HEADS);
-    let k = concepts::load_concepts(deck, scratch, start, st.concepts);
+    concepts::load_concepts(deck, scratch, &mut k, st.concepts);
     keys::load_keys(deck, scratch, st);
     let axioms = st.axioms;
     axiom_lines::load_axioms(deck, scratch, axioms);
     let count = axioms as u32;
-    Loaded::Accepted(k, count)
+    (k, count)
 }
 
-// The reader's answer.
+// The reader's answer. The reader's line is at most 65,536, which a From could not ask.
 fn load_answer(
     deck: &[u8],
     scratch: &mut [u8],
-    answer: Result<State, Refused>,
+    answer: Result<State, deck::Refused>,
     limit: u32,
-) -> Loaded
+) -> Result<(Counters, u32), Refused>
     requires { (4 * hands_at ≤ length scratch.old) × Answered deck.now (table_in scratch.old) answer }
-    ensures { LoadedAs limit (read_deck deck.now) (words scratch.new) result }
+    ensures { LoadedAs limit (read_deck deck.now) (words scratch.new) (loaded_of result) }
 {
     match answer {
-        Ok(st) => load_lines(deck, scratch, st, limit),
-        Err(refused) => Loaded::Refused(refused.refusal.number(), refused.line as u32),
+        Ok(st) => Ok(load_lines(deck, scratch, st, limit)),
+        Err(e) => Err(Refused {
+            refusal: e.refusal,
+            line: e.line as u32,
+        }),
     }
 }
 
-// The deck, read and, where it is accepted, in scratch.
-pub fn load(deck: &[u8], scratch: &mut [u8], limit: u32) -> Loaded
+// The deck, read and, where it is accepted, in scratch: the counters and the number of axioms.
+pub fn load(deck: &[u8], scratch: &mut [u8], limit: u32) -> Result<(Counters, u32), Refused>
     requires { 4 * hands_at ≤ length scratch.old }
-    ensures { LoadedAs limit (read_deck deck.now) (words scratch.new) result }
+    ensures { LoadedAs limit (read_deck deck.now) (words scratch.new) (loaded_of result) }
 {
     let answer = deck::read(deck, &mut scratch[TABLE..TABLE_END]);
     load_answer(deck, scratch, answer, limit)

@@ -17,7 +17,8 @@ fn record(kind: u32, role: u32, number: u32, child: u32) -> Record
     }
 }
 
-// Of the line's kind, the three words behind it, and the line's number of numbers.
+// Of the line's kind, the three words behind it, and the line's number of numbers. By number, as the rule of its name goes: an enum would
+// be made by a match over the same numbers.
 fn record_for(kind: u32, a: u32, b: u32, c: u32, n: u32) -> Record
     requires { 0 < n }
     ensures { result ≡ record_for kind a b c n }

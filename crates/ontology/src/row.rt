@@ -11,10 +11,8 @@ pub fn put_row(deck: &[u8], p: usize, n: usize, scratch: &mut [u8], at: usize)
     requires { (p + 11 * n ≤ length deck.now) × (4 * (at + n) ≤ length scratch.old) × Each (λ x. x ≤ most_number) (row_at deck.now p n) }
     ensures { words scratch.new ≡ sets (words scratch.old) at (row_at deck.now p n) }
 {
-    let mut i: usize = 0;
-    while i < n {
+    for i in 0..n {
         let x = text::field(deck, p, n, i);
         words::put_word(scratch, at + i, x as u32);
-        i += 1;
     }
 }

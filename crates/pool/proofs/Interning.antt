@@ -12,10 +12,10 @@ use lib.Seq.{sets}
 use borrow.Author.Tests.{lt-ltb, le-ltb, le-leb, lt-leb}
 use Rattle.ir.specs.Counts.{interned as interned_counters}
 use Rattle.ir.specs.declared.counters.Counters.{Counters}
-use Rattle.ir.specs.declared.answer.Answer.TheVariants.{Done, Refused}
+use Rattle.ir.specs.Answer.{Done, Refused}
 use Rattle.rules.specs.Base.{ok}
 use Rattle.rules.specs.Concept.{Concept}
-use Rattle.rules.specs.Pool.{Pool, most_concepts, most_members, found_in, find, width, members, intern_raw}
+use Rattle.rules.specs.Pool.{Pool, most_concepts, most_members, found_in, find, width, intern_raw}
 use Rattle.rules.specs.Concept.{same_concept}
 use Rattle.rules.specs.Deck.{parts_of}
 use Rattle.rules.specs.Invariants.{Each}

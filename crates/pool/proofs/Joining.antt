@@ -13,8 +13,8 @@ use Rattle.words.specs.Laws.{length_words}
 use Rattle.words.specs.Runs.{get_d_sets_in}
 use Rattle.ir.specs.Pick.{pick}
 use Rattle.ir.specs.declared.counters.Counters.{Counters}
-use Rattle.ir.specs.declared.answer.Answer.{Answer}
-use Rattle.ir.specs.declared.answer.Answer.TheVariants.{Done}
+use Rattle.ir.specs.Answer.{Answer}
+use Rattle.ir.specs.Answer.{Done}
 use Rattle.rules.specs.Base.{M, ok, contains}
 use Rattle.rules.specs.Concept.{Concept, Top, Bot}
 use Rattle.rules.specs.Pool.{Pool, at, most_concepts, intern_raw, added, flattened, any_annihilates, sort_dedup, collapsed, and_of, or_of, mk_and, mk_or}
@@ -25,7 +25,7 @@ use Rattle.rules.specs.EachLaws.{each_append}
 use Rattle.rules.specs.JointLaws.{Joint, conj, disj, list_of, operand_of, mk_joint}
 use Rattle.pool.specs.Layout.{pool_words, tab, run, record_words, is_list, concept_from, concept_at, pool_of, plain, listed}
 use Rattle.pool.specs.Held.{Held, Ready}
-use Rattle.pool.specs.Answers.{drawn, after, shown, Interned}
+use Rattle.pool.specs.Answers.{drawn, shown, Interned}
 use Rattle.pool.specs.Joints.{list_kind, identity_kind, annihilator_kind, identity_of, annihilator_of, operand_in}
 use Rattle.pool.specs.Marks.{is_marked, marked_ids, Outside, Beside, Flattened, Operands}
 use Rattle.pool.specs.Shapes.{by_test}
@@ -37,18 +37,17 @@ use Rattle.pool.proofs.Sorting.{filter_same, filter_below, sorted_ids}
 
 -- ---- Top and Bot
 pub record Bare (k : ℕ) (e : Concept) : Type 0 where
-  pub flat : is_list k ≡ false
+  pub low : 1 ≤ k
+  pub high : k < 3
   pub is : concept_from (record_words k 0 0 0) [] ≡ e
-  pub plain : plain (concept_from (record_words k 0 0 0) []) ≡ record_words k 0 0 0
-  pub parts : (n : ℕ) → Each (λ d. d < n) (parts_of (concept_from (record_words k 0 0 0) []))
 
 bare_top : (k : ℕ) → k ≡ 1 → Bare k Top
 unfolding concept_from
-bare_top k e = rw e (record { flat = refl; is = refl; plain = refl; parts = λ n. tt })
+bare_top k e = rw e (record { low = omega arith; high = omega arith; is = refl })
 
 bare_bot : (k : ℕ) → k ≡ 2 → Bare k Bot
 unfolding concept_from
-bare_bot k e = rw e (record { flat = refl; is = refl; plain = refl; parts = λ n. tt })
+bare_bot k e = rw e (record { low = omega arith; high = omega arith; is = refl })
 
 pub bare_identity : (j : Joint) (k : ℕ) → k ≡ identity_kind j → Bare k (identity_of j)
 bare_identity conj k e = bare_top k e

@@ -2,7 +2,8 @@
 use mathlib.Core.Path.{◌≡◌, refl, ap, ◌∙◌}
 use mathlib.Core.Bool.{false}
 use mathlib.Core.List.{List, []}
-use Prim.Native.Nat.{ℕ, zero, suc, ◌+◌, ◌*◌, ◌≤◌}
+use Prim.{tt}
+use Prim.Native.Nat.{ℕ, zero, suc, ◌+◌, ◌*◌, ◌<◌, ◌≤◌}
 use native.Mathlib.Omega.{arith}
 use lib.ListN.{length, get_or}
 use Rattle.words.specs.Words.{words}
@@ -10,6 +11,7 @@ use Rattle.ir.specs.declared.role.Role.{Role}
 use Rattle.rules.specs.Concept.{Min}
 use Rattle.rules.specs.Pool.{intern_raw, mk_min}
 use Rattle.rules.specs.Deck.{parts_of}
+use Rattle.rules.specs.Invariants.{Each}
 use Rattle.rules.specs.JointLaws.{Joint, conj, disj, list_of}
 use Rattle.pool.specs.declared.record.Record.{Record}
 use Rattle.pool.specs.Layout.{tab, run, record_words, is_list, count_of, concept_from, concept_over, plain}
@@ -59,6 +61,19 @@ list_asked j s i n k e l = record {
 pub list_parts : (j : Joint) (l : List ℕ) → parts_of (list_of j l) ≡ l
 list_parts conj l = refl
 list_parts disj l = refl
+
+-- Top or Bot
+pub record Bare (k : ℕ) : Type 0 where
+  pub flat : is_list k ≡ false
+  pub plain : plain (concept_from (record_words k 0 0 0) []) ≡ record_words k 0 0 0
+  pub parts : (n : ℕ) → Each (λ d. d < n) (parts_of (concept_from (record_words k 0 0 0) []))
+
+pub bare : (k : ℕ) → 1 ≤ k → k < 3 → Bare k
+unfolding concept_from
+bare zero a b = absurd (omega arith)
+bare (suc zero) a b = record { flat = refl; plain = refl; parts = λ n. tt }
+bare (suc (suc zero)) a b = record { flat = refl; plain = refl; parts = λ n. tt }
+bare (suc (suc (suc k))) a b = absurd (omega arith)
 
 -- Min 0 is Top; no other folds
 pub min_is : (n : ℕ) (r : Role) (c : ℕ) → (n ≡ 0 → ⊥) → mk_min n r c ≡ intern_raw (Min n r c)

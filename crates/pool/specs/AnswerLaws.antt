@@ -3,7 +3,7 @@ use Rattle.std.specs.Prelude.{◌≡◌, refl, Bool, true, false, ◌||◌, List
 use Rattle.std.proofs.Common.{ap, subst, ◌∙◌, arith}
 use Rattle.std.proofs.Math.Option.{Option, none, some}
 use Rattle.ir.specs.declared.counters.Counters.{Counters}
-use Rattle.ir.specs.declared.answer.Answer.TheVariants.{Done}
+use Rattle.ir.specs.Answer.{Done}
 use Rattle.rules.specs.Base.{Res, ok, refused, any, is_some}
 use Rattle.rules.specs.Concept.{Concept, same_concept}
 use Rattle.rules.specs.Pool.{Pool, found_in, find}

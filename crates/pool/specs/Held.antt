@@ -1,5 +1,5 @@
 -- A pool of n concepts and m list members in the words of scratch.
-use Rattle.std.specs.Prelude.{◌≡◌, List, ℕ, suc, ◌+◌, ◌*◌, ◌<◌, ◌≤◌, length, get_or}
+use Rattle.std.specs.Prelude.{◌≡◌, List, ℕ, suc, ◌+◌, ◌*◌, ◌<◌, ◌≤◌, length, get_or, Option as CodeOption, Some, None}
 use Rattle.std.proofs.Math.Option.{Option, none, some}
 use Rattle.words.specs.Words.{words}
 use Rattle.ir.specs.declared.counters.Counters.{Counters}
@@ -7,8 +7,6 @@ use Rattle.rules.specs.Pool.{most_concepts, most_members, find, members}
 use Rattle.rules.specs.Deck.{parts_of}
 use Rattle.rules.specs.Invariants.{Each}
 use Rattle.pool.specs.declared.record.Record.{Record}
-use Rattle.pool.specs.declared.index.Found.{Found}
-use Rattle.pool.specs.declared.index.Found.TheVariants.{At, Absent}
 use Rattle.pool.specs.Layout.{pool_words, pool_bytes, heads_at, field, count_of, record_at, concept_over, concept_at, pool_of, plain, starts_at}
 use Rattle.pool.specs.Index.{hash_at, last}
 
@@ -40,6 +38,7 @@ pub record Asked (s : List ℕ) (x : Record) (i : ℕ) : Type 0 where
   pub plain : plain (concept_over (words s) i x) ≡ x
   pub within : 4 * (i + count_of x) ≤ length s
 
-abbrev pub found_of : Found → Option ℕ
-found_of (At c) = some c
-found_of Absent = none
+-- the code's option as the rules'
+abbrev pub found_of : CodeOption ℕ → Option ℕ
+found_of (Some c) = some c
+found_of None = none

@@ -28,17 +28,15 @@ fn hash_record(x: Record) -> usize
     mix(mix(h, x.number), x.child)
 }
 
-// The hash so far, and the words of a list.
+// The hash so far, and the words of a list. Its place and its count stay two numbers here and in what calls this, as in the definitions'
+// `run`: a struct of both would be made anew at each call.
 fn hash_run(scratch: &[u8], start: usize, at: usize, count: u32) -> usize
     requires { (start < 2048) × (4 * (at + count) ≤ length scratch.now) }
     ensures { (result ≡ hash_by start (run (words scratch.now) at count)) × (result < 2048) }
 {
-    let n = count as usize;
     let mut h = start;
-    let mut i: usize = 0;
-    while i < n {
+    for i in 0..count as usize {
         h = mix(h, words::get_word(scratch, at + i));
-        i += 1;
     }
     h
 }
@@ -51,23 +49,20 @@ pub fn hash(scratch: &[u8], x: Record, at: usize) -> usize
     hash_run(scratch, hash_record(x), at, x.count())
 }
 
-// Whether two runs of words are equal.
+// Whether two runs of words are equal. A slice's equality is of bytes, and the rule's of words.
 fn same_run(scratch: &[u8], a: usize, b: usize, count: u32) -> bool
     requires { (4 * (a + count) ≤ length scratch.now) × (4 * (b + count) ≤ length scratch.now) }
     ensures { result ≡ same_words (run (words scratch.now) a count) (run (words scratch.now) b count) }
 {
-    let n = count as usize;
-    let mut i: usize = 0;
-    while i < n {
+    for i in 0..count as usize {
         if words::get_word(scratch, a + i) != words::get_word(scratch, b + i) {
             return false;
         }
-        i += 1;
     }
     true
 }
 
-// Whether concept c is the concept of a record and its list.
+// Whether concept c is the concept of a record and its list. A record in scratch is words, so that no derived equality has it.
 fn same(scratch: &[u8], k: Counters, c: u32, x: Record, at: usize) -> bool
     requires { Ready scratch.now k × Asked scratch.now x at × (c < k.concepts) }
     ensures { result ≡ same_concept (concept_over (words scratch.now) at x) (concept_at (words scratch.now) c) }
@@ -88,25 +83,17 @@ fn same(scratch: &[u8], k: Counters, c: u32, x: Record, at: usize) -> bool
     d == x.child
 }
 
-// Of the search.
-#[derive(Clone, Copy)]
-pub enum Found {
-    At(u32),
-    Absent,
-}
-
 // The concept that equals a record and its list.
-pub fn find(scratch: &[u8], k: Counters, x: Record, at: usize) -> Found
+pub fn find(scratch: &[u8], k: Counters, x: Record, at: usize) -> Option<u32>
     requires { Ready scratch.now k × Asked scratch.now x at }
     ensures { found_of result ≡ find (concept_over (words scratch.now) at x) (pool_of (words scratch.now) k.concepts) }
 {
     let mut next = record::head(scratch, hash(scratch, x, at));
-    while next != 0 {
-        let c = next - 1;
+    while let Some(c) = next.checked_sub(1) {
         if same(scratch, k, c, x, at) {
-            return Found::At(c);
+            return Some(c);
         }
         next = record::link(scratch, c);
     }
-    Found::Absent
+    None
 }

@@ -9,13 +9,13 @@ ghost use Rattle.rules.specs.Invariants.{Each};
 ghost use Rattle.pool.specs.Layout.{pool_words, pool_bytes, count_of, concept_over, pool_of, six_of, record_put};
 ghost use Rattle.pool.specs.Held.{Ready, Asked};
 ghost use Rattle.pool.specs.Answers.{Added, Interned};
+ghost use Rattle.ir.specs.Answer.{answer};
 
-use crate::index::Found;
 use crate::layout::{HEADS, MEMBERS, MOST_CONCEPTS, MOST_MEMBERS, RECORD};
 use crate::record::Record;
 use crate::{index, record};
-use ir::answer::Answer;
 use ir::counters::Counters;
+use ir::refusal::Refusal;
 
 // The six words of record c.
 fn put_words(scratch: &mut [u8], c: u32, x: Record, used: u32, link: u32)
@@ -57,36 +57,33 @@ pub fn add(scratch: &mut [u8], k: Counters, x: Record, at: usize)
     put_record(scratch, k.concepts, h, x.starts_at(used), used + count);
 }
 
-// The same, or refusal 11.
-fn intern_new(scratch: &mut [u8], k: Counters, x: Record, at: usize) -> Answer
-    requires ready { Ready scratch.old k × Asked scratch.old x at }
-    requires each { Each (λ d. d < k.concepts) (parts_of (concept_over (words scratch.old) at x)) }
-    requires concepts_value { find (concept_over (words scratch.old) at x) (pool_of (words scratch.old) k.concepts) ≡ none }
-    ensures interned { Interned k (intern_raw (concept_over (words scratch.old) at x)) (words scratch.old) (words scratch.new) result }
+// The same, where there is room.
+fn intern_new(scratch: &mut [u8], k: &mut Counters, x: Record, at: usize) -> Result<u32, Refusal>
+    requires ready { Ready scratch.old k.old × Asked scratch.old x at }
+    requires each { Each (λ d. d < k.old.concepts) (parts_of (concept_over (words scratch.old) at x)) }
+    requires concepts_value { find (concept_over (words scratch.old) at x) (pool_of (words scratch.old) k.old.concepts) ≡ none }
+    ensures interned { Interned k.old (intern_raw (concept_over (words scratch.old) at x)) (words scratch.old) (words scratch.new) (answer k.new result) }
     ensures scratch_unchanged { drop pool_words (words scratch.new) ≡ drop pool_words (words scratch.old) }
 {
     let n = k.concepts;
     let count = x.count();
-    if MOST_CONCEPTS <= n {
-        return Answer::Refused(11);
+    if MOST_CONCEPTS <= n || MOST_MEMBERS < k.members as usize + count as usize {
+        return Err(Refusal::PoolFull);
     }
-    if MOST_MEMBERS < k.members as usize + count as usize {
-        return Answer::Refused(11);
-    }
-    add(scratch, k, x, at);
-    Answer::Done(k.intern(count), n)
+    add(scratch, *k, x, at);
+    k.intern(count);
+    Ok(n)
 }
 
 // The concept of a record and its list, which stands from word `at` on.
-pub fn intern(scratch: &mut [u8], k: Counters, x: Record, at: usize) -> Answer
-    requires ready { Ready scratch.old k × Asked scratch.old x at }
-    requires each { Each (λ d. d < k.concepts) (parts_of (concept_over (words scratch.old) at x)) }
-    ensures interned { Interned k (intern_raw (concept_over (words scratch.old) at x)) (words scratch.old) (words scratch.new) result }
+pub fn intern(scratch: &mut [u8], k: &mut Counters, x: Record, at: usize) -> Result<u32, Refusal>
+    requires ready { Ready scratch.old k.old × Asked scratch.old x at }
+    requires each { Each (λ d. d < k.old.concepts) (parts_of (concept_over (words scratch.old) at x)) }
+    ensures interned { Interned k.old (intern_raw (concept_over (words scratch.old) at x)) (words scratch.old) (words scratch.new) (answer k.new result) }
     ensures scratch_unchanged { drop pool_words (words scratch.new) ≡ drop pool_words (words scratch.old) }
 {
-    let found = index::find(scratch, k, x, at);
-    match found {
-        Found::At(c) => Answer::Done(k, c),
-        Found::Absent => intern_new(scratch, k, x, at),
+    match index::find(scratch, *k, x, at) {
+        Some(c) => Ok(c),
+        None => intern_new(scratch, k, x, at),
     }
 }

@@ -6,6 +6,13 @@ ghost use Rattle.pool.specs.Layout.{pool_bytes, members_at, heads_at, field, is_
 
 use crate::layout::{AND, HEADS, MEMBERS, OR, RECORD};
 
+// And or Or.
+pub fn is_list(kind: u32) -> bool
+    ensures { result ≡ is_list kind }
+{
+    kind == AND || kind == OR
+}
+
 // The four words that say what a concept is. The number is Atomic's class, Nominal's individual, n of Min and Max, the count of
 // And and Or; the child is a concept, or where the run of And and Or starts.
 #[derive(Clone, Copy)]
@@ -21,44 +28,27 @@ impl Record {
     pub fn is_list(self) -> bool
         ensures { result ≡ is_list self.kind }
     {
-        let kind = self.kind;
-        if kind == AND {
-            return true;
-        }
-        kind == OR
+        is_list(self.kind)
     }
 
     // How many members its list has.
     pub fn count(self) -> u32
         ensures { result ≡ count_of self }
     {
-        if self.is_list() {
-            return self.number;
-        }
-        0
+        if self.is_list() { self.number } else { 0 }
     }
 
     // With the start of its list's run.
     pub fn starts_at(self, start: u32) -> Record
         ensures { result ≡ starts_at start self }
     {
-        let kind = self.kind;
-        let role = self.role;
-        let number = self.number;
-        let child = self.child;
         if self.is_list() {
-            return Record {
-                kind,
-                role,
-                number,
+            Record {
                 child: start,
-            };
-        }
-        Record {
-            kind,
-            role,
-            number,
-            child,
+                ..self
+            }
+        } else {
+            self
         }
     }
 }

@@ -1,13 +1,12 @@
--- The visited parts of a concept, and their polarity, by its record. Assumes nothing.
+-- The visited parts of a concept, by its record. Assumes nothing.
 use mathlib.Core.Path.{◌≡◌, refl, sym, ap, ◌∙◌}
-use mathlib.Core.Bool.{Bool, true, false, not}
+use mathlib.Core.Bool.{Bool, true, false}
 use mathlib.Core.List.{List, [], ◌∷◌}
 use Prim.Native.Nat.{ℕ, zero, suc, ◌+◌, ◌*◌, ◌<◌, ◌≤◌}
 use native.Mathlib.Omega.{arith}
 use lib.ListN.{length, get_or, set, take, drop}
 use lib.Seq.{sets}
-use lib.Dec.{eqb, ltb, eqb-suc-zero}
-use borrow.Author.Tests.{ne_eqb, lt-ltb, le-ltb}
+use lib.Dec.{eqb-suc-zero}
 use Rattle.words.specs.Words.{words}
 use Rattle.words.specs.Laws.{length_words}
 use Rattle.ir.specs.Pick.{pick}
@@ -19,7 +18,7 @@ use Rattle.pool.specs.Layout.{members_at, run, field, is_list, concept_at, plain
 use Rattle.pool.specs.Held.{Held}
 use Rattle.pool.specs.Tabs.{length_tab, run_part}
 use Rattle.pool.specs.HeldLaws.{members_next, record_kind, list_count, list_within, list_run}
-use Rattle.rebuilding.specs.Steps.{visited_parts, part_negated, has_part}
+use Rattle.rebuilding.specs.Steps.{visited_parts, has_part}
 use Rattle.rebuilding.specs.States.{Normalizing}
 
 -- ---- a concept and its plain record
@@ -54,29 +53,9 @@ visited_is false (All _ _) = refl
 visited_is false (Min _ _ _) = refl
 visited_is false (Max _ _ _) = refl
 
-abbrev negated_by : Bool → ℕ → Bool
-negated_by b kind = pick (eqb kind 6) (not b) (pick (ltb kind 11) b false)
-
-negated_is : (b : Bool) (e : Concept) → part_negated b e ≡ negated_by b (plain e).kind
-negated_is b Top = refl
-negated_is b Bot = refl
-negated_is b (Atomic _) = refl
-negated_is b (Nominal _) = refl
-negated_is b (SelfRestriction _) = refl
-negated_is b (Not _) = refl
-negated_is b (And _) = refl
-negated_is b (Or _) = refl
-negated_is b (Some _ _) = refl
-negated_is b (All _ _) = refl
-negated_is b (Min _ _ _) = refl
-negated_is b (Max _ _ _) = refl
-
 -- ---- record c of a held pool
 module _ (w : List ℕ) (n m : ℕ) (H : Held w n m) (c : ℕ) (h : c < n) where
-  pub record_role : field w c 1 ≡ (plain (concept_at w c)).role
-  record_role = ap (λ (x : Record). x.role) (H.records c h).words
-
-  pub record_number : field w c 2 ≡ (plain (concept_at w c)).number
+  record_number : field w c 2 ≡ (plain (concept_at w c)).number
   record_number = ap (λ (x : Record). x.number) (H.records c h).words
 
   pub record_child : is_list (field w c 0) ≡ false → field w c 3 ≡ (plain (concept_at w c)).child
@@ -109,27 +88,6 @@ module _ (w : List ℕ) (n m : ℕ) (H : Held w n m) (c : ℕ) (h : c < n) where
 
     pub parts_none : has_part (field w c 0) (field w c 2) b ≡ false → visited_parts b (concept_at w c) ≡ []
     parts_none p = flat_at ∙ ap (λ (t : Bool). pick t (field w c 3 ∷ []) []) p
-
-  -- their polarity
-  negated_at : (b : Bool) → part_negated b (concept_at w c) ≡ negated_by b (field w c 0)
-  negated_at b = negated_is b (concept_at w c) ∙ ap (negated_by b) (sym (record_kind w n m H c h))
-
-  module _ (b : Bool) (k : ℕ) (e : k ≡ field w c 0) where
-    negated_by_lem : part_negated b (concept_at w c) ≡ negated_by b k
-    negated_by_lem = negated_at b ∙ ap (negated_by b) (sym e)
-
-    pub negated_not : k ≡ 6 → not b ≡ part_negated b (concept_at w c)
-    negated_not a = sym (negated_by_lem ∙ ap (negated_by b) a)
-
-    pub negated_same : (k ≡ 6 → ⊥) → k < 11 → b ≡ part_negated b (concept_at w c)
-    negated_same a l =
-        let z : negated_by b k ≡ b = rw (ne_eqb k 6 a, lt-ltb k 11 l) refl in
-        sym (negated_by_lem ∙ z)
-
-    pub negated_never : (k ≡ 6 → ⊥) → 11 ≤ k → false ≡ part_negated b (concept_at w c)
-    negated_never a l =
-        let z : negated_by b k ≡ false = rw (ne_eqb k 6 a, le-ltb k 11 l) refl in
-        sym (negated_by_lem ∙ z)
 
 -- ---- put_parts, of the record's words
 module _ (s : List ℕ) (k : Counters) (top c : ℕ) (N : Normalizing s k top c) (kind number child : ℕ) (ek : kind ≡ field (words s) c 0) (en : number ≡ field (words s) c 2) (ed : child ≡ field (words s) c 3) where

@@ -14,8 +14,8 @@ use Rattle.ir.specs.Pick.{pick}
 use Rattle.ir.specs.Roles.{role_of}
 use Rattle.ir.specs.Scratch.{marks_at, keys_at}
 use Rattle.ir.specs.declared.counters.Counters.{Counters}
-use Rattle.ir.specs.declared.answer.Answer.{Answer}
-use Rattle.ir.specs.declared.answer.Answer.TheVariants.{Done}
+use Rattle.ir.specs.Answer.{Answer}
+use Rattle.ir.specs.Answer.{Done}
 use Rattle.rules.specs.Base.{M, ok, return}
 use Rattle.rules.specs.Concept.{Concept}
 use Rattle.rules.specs.Concept.{Top, Bot, Atomic, Nominal, SelfRestriction, Not, And, Or, Some, All, Min, Max}

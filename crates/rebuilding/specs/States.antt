@@ -4,8 +4,8 @@ use Rattle.words.specs.Words.{words}
 use Rattle.ir.specs.Counts.{counters}
 use Rattle.ir.specs.Scratch.{keys_at, normal_forms_at, hands_at}
 use Rattle.ir.specs.declared.counters.Counters.{Counters}
-use Rattle.ir.specs.declared.answer.Answer.{Answer}
-use Rattle.ir.specs.declared.answer.Answer.TheVariants.{Done, Refused}
+use Rattle.ir.specs.Answer.{Answer}
+use Rattle.ir.specs.Answer.{Done, Refused}
 use Rattle.rules.specs.Base.{Res, ok, refused}
 use Rattle.rules.specs.Pool.{members}
 use Rattle.rules.specs.Normalize.{St}

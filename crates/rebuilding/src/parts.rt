@@ -2,39 +2,20 @@
 ghost use Rattle.std.specs.Prelude.{◌≡◌, ◌<◌, length};
 ghost use Rattle.std.proofs.lemmas.List.Edits.{sets};
 ghost use Rattle.words.specs.Words.{words};
-ghost use Rattle.pool.specs.Layout.{is_list, concept_at};
+ghost use Rattle.pool.specs.Layout.{concept_at};
 ghost use Rattle.pool.specs.Held.{Ready};
 ghost use Rattle.rebuilding.specs.Steps.{visited_parts, part_negated, has_part};
 ghost use Rattle.rebuilding.specs.States.{Normalizing};
 
 use ir::counters::Counters;
-use pool::layout::MEMBERS;
+use pool::layout::{MEMBERS, MIN, NOT};
 use pool::record;
-
-// And or Or.
-pub fn is_list(kind: u32) -> bool
-    ensures { result ≡ is_list kind }
-{
-    if kind == 7 {
-        return true;
-    }
-    kind == 8
-}
 
 // Whether a concept that is no list has a part that is visited: nothing of a negated Min 0 is.
 fn has_part(kind: u32, number: u32, negated: bool) -> bool
     ensures { result ≡ has_part kind number negated }
 {
-    if kind < 6 {
-        return false;
-    }
-    if kind != 11 {
-        return true;
-    }
-    if negated {
-        return number != 0;
-    }
-    true
+    NOT <= kind && (kind != MIN || !negated || number != 0)
 }
 
 // The visited parts of concept c become the words from `top` on; how many.
@@ -46,7 +27,7 @@ pub fn put_parts(scratch: &mut [u8], k: Counters, top: usize, c: u32, negated: b
     let kind = record::kind(scratch, c);
     let number = record::number(scratch, c);
     let child = record::child(scratch, c);
-    if is_list(kind) {
+    if record::is_list(kind) {
         words::move_words(scratch, MEMBERS + child as usize, top, number as usize);
         return number;
     }
@@ -63,11 +44,8 @@ pub fn part_negated(scratch: &[u8], k: Counters, c: u32, negated: bool) -> bool
     ensures { result ≡ part_negated negated (concept_at (words scratch.now) c) }
 {
     let kind = record::kind(scratch, c);
-    if kind == 6 {
+    if kind == NOT {
         return !negated;
     }
-    if kind < 11 {
-        return negated;
-    }
-    false
+    negated && kind < MIN
 }

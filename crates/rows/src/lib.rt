@@ -15,6 +15,7 @@ fn put_digits(out: &mut [u8], at: usize, number: u32)
     out[at..at + 11].fill(b' ');
     let mut rest = number;
     let mut j: usize = 10;
+    // the digits, from the last one on: how many they are is known at the end
     while 9 < rest {
         out[at + j] = b'0' + (rest % 10) as u8;
         rest /= 10;
@@ -32,7 +33,7 @@ pub fn put_field(out: &mut [u8], at: usize, number: u32) -> usize
     at + 11
 }
 
-// The same for n words of a table from word `from` on.
+// The same for n words of a table from word `from` on: they are bytes there, and put_line has numbers.
 pub fn put_words(t: &[u8], from: usize, n: usize, out: &mut [u8], at: usize) -> usize
     requires { (4 * (from + n) ≤ length t.now) × (at + 11 * n ≤ length out.old) }
     ensures { Put out.old at (columns_text (take n (drop from (words t.now)))) out.new result }

@@ -5,7 +5,7 @@ use Prim.Native.String.{String}
 use Rattle.ir.specs.Deferrals.{deferral_kind}
 use Rattle.ir.specs.declared.role.Role.TheVariants.{Named, Inverse}
 use Rattle.ir.specs.declared.atom.Atom.TheVariants.{Class, Exists, AtMost, AtLeast, Role as RoleAtom}
-use Rattle.ir.specs.declared.atom.Qualifier.TheVariants.{Qualified}
+use Rattle.std.specs.Prelude.{Some}
 use Rattle.rules.specs.Ascii.{ascii}
 use Rattle.rules.specs.State.{Clause, clause, Deferred}
 use Rattle.rules.specs.Run.{Outcome, accepted, refused, Run, run_with, ten_numbers}
@@ -115,7 +115,7 @@ cases =
           "         12          2          0          1" ∷
           "         35          0" ∷
           "         21          0          2" ∷ [];
-      answer = clauses (clause (Class 0 0 ∷ []) (AtMost (Named 0) (Qualified 1) 2 0 ∷ []) ∷ clause (Class 0 0 ∷ RoleAtom (Named 0) 0 1 ∷ []) (RoleAtom (Named 0) 0 0 ∷ []) ∷ []) [] (2 ∷ 2 ∷ 0 ∷ 0 ∷ 0 ∷ 0 ∷ 0 ∷ 0 ∷ 0 ∷ 6 ∷ []);
+      answer = clauses (clause (Class 0 0 ∷ []) (AtMost (Named 0) (Some 1) 2 0 ∷ []) ∷ clause (Class 0 0 ∷ RoleAtom (Named 0) 0 1 ∷ []) (RoleAtom (Named 0) 0 0 ∷ []) ∷ []) [] (2 ∷ 2 ∷ 0 ∷ 0 ∷ 0 ∷ 0 ∷ 0 ∷ 0 ∷ 0 ∷ 6 ∷ []);
     } ∷
     -- A ⊑ Max 2 r (B and C): q → B, q → C, A → AtMost(r,q,2)
     record {
@@ -127,7 +127,7 @@ cases =
           "          7          1          2" ∷
           "         12          2          0          3" ∷
           "         21          0          4" ∷ [];
-      answer = clauses (clause (Class 3 0 ∷ []) (Class 1 0 ∷ []) ∷ clause (Class 3 0 ∷ []) (Class 2 0 ∷ []) ∷ clause (Class 0 0 ∷ []) (AtMost (Named 0) (Qualified 3) 2 0 ∷ []) ∷ []) [] (3 ∷ 3 ∷ 0 ∷ 0 ∷ 0 ∷ 0 ∷ 0 ∷ 0 ∷ 1 ∷ 11 ∷ []);
+      answer = clauses (clause (Class 3 0 ∷ []) (Class 1 0 ∷ []) ∷ clause (Class 3 0 ∷ []) (Class 2 0 ∷ []) ∷ clause (Class 0 0 ∷ []) (AtMost (Named 0) (Some 3) 2 0 ∷ []) ∷ []) [] (3 ∷ 3 ∷ 0 ∷ 0 ∷ 0 ∷ 0 ∷ 0 ∷ 0 ∷ 1 ∷ 11 ∷ []);
     } ∷
     -- r inverse of s, A ⊑ Some s B: Exists over inverse r
     record {
@@ -173,7 +173,7 @@ limit_cases =
           "          7          1          2" ∷
           "         12          2          0          3" ∷
           "         21          0          4" ∷ [];
-      answer = clauses (clause (Class 3 0 ∷ []) (Class 1 0 ∷ []) ∷ clause (Class 3 0 ∷ []) (Class 2 0 ∷ []) ∷ clause (Class 0 0 ∷ []) (AtMost (Named 0) (Qualified 3) 2 0 ∷ []) ∷ clause (Class 1 0 ∷ Class 2 0 ∷ []) (Class 3 0 ∷ []) ∷ []) [] (4 ∷ 4 ∷ 0 ∷ 0 ∷ 0 ∷ 0 ∷ 0 ∷ 0 ∷ 1 ∷ 15 ∷ []);
+      answer = clauses (clause (Class 3 0 ∷ []) (Class 1 0 ∷ []) ∷ clause (Class 3 0 ∷ []) (Class 2 0 ∷ []) ∷ clause (Class 0 0 ∷ []) (AtMost (Named 0) (Some 3) 2 0 ∷ []) ∷ clause (Class 1 0 ∷ Class 2 0 ∷ []) (Class 3 0 ∷ []) ∷ []) [] (4 ∷ 4 ∷ 0 ∷ 0 ∷ 0 ∷ 0 ∷ 0 ∷ 0 ∷ 1 ∷ 15 ∷ []);
     } ∷
     -- A ⊑ Max 1 r (B and C) and Max 2 r (B or C): the first limit is settled first
     record {
@@ -188,7 +188,7 @@ limit_cases =
           "         12          2          0          4" ∷
           "          7          5          6" ∷
           "         21          0          7" ∷ [];
-      answer = clauses (clause (Class 3 0 ∷ []) (Class 1 0 ∷ []) ∷ clause (Class 3 0 ∷ []) (Class 2 0 ∷ []) ∷ clause (Class 0 0 ∷ []) (AtMost (Named 0) (Qualified 3) 1 0 ∷ []) ∷ clause (Class 4 0 ∷ []) (Class 1 0 ∷ Class 2 0 ∷ []) ∷ clause (Class 0 0 ∷ []) (AtMost (Named 0) (Qualified 4) 2 0 ∷ []) ∷ clause (Class 1 0 ∷ Class 2 0 ∷ []) (Class 3 0 ∷ []) ∷ clause (Class 1 0 ∷ []) (Class 4 0 ∷ []) ∷ clause (Class 2 0 ∷ []) (Class 4 0 ∷ []) ∷ []) [] (8 ∷ 7 ∷ 1 ∷ 0 ∷ 0 ∷ 0 ∷ 0 ∷ 0 ∷ 2 ∷ 31 ∷ []);
+      answer = clauses (clause (Class 3 0 ∷ []) (Class 1 0 ∷ []) ∷ clause (Class 3 0 ∷ []) (Class 2 0 ∷ []) ∷ clause (Class 0 0 ∷ []) (AtMost (Named 0) (Some 3) 1 0 ∷ []) ∷ clause (Class 4 0 ∷ []) (Class 1 0 ∷ Class 2 0 ∷ []) ∷ clause (Class 0 0 ∷ []) (AtMost (Named 0) (Some 4) 2 0 ∷ []) ∷ clause (Class 1 0 ∷ Class 2 0 ∷ []) (Class 3 0 ∷ []) ∷ clause (Class 1 0 ∷ []) (Class 4 0 ∷ []) ∷ clause (Class 2 0 ∷ []) (Class 4 0 ∷ []) ∷ []) [] (8 ∷ 7 ∷ 1 ∷ 0 ∷ 0 ∷ 0 ∷ 0 ∷ 0 ∷ 2 ∷ 31 ∷ []);
     } ∷
     -- A ⊑ Max 1 r (Max 0 s (B and C)): the outer filler first; the filler of the at-least atom that it gives does not wait
     record {
@@ -201,7 +201,7 @@ limit_cases =
           "         12          0          2          3" ∷
           "         12          1          0          4" ∷
           "         21          0          5" ∷ [];
-      answer = clauses (clause (Class 4 0 ∷ []) (Class 1 0 ∷ []) ∷ clause (Class 4 0 ∷ []) (Class 2 0 ∷ []) ∷ clause (Class 3 0 ∷ []) (AtMost (Named 1) (Qualified 4) 0 0 ∷ []) ∷ clause (Class 0 0 ∷ []) (AtMost (Named 0) (Qualified 3) 1 0 ∷ []) ∷ clause (Class 5 0 ∷ []) (Class 1 0 ∷ []) ∷ clause (Class 5 0 ∷ []) (Class 2 0 ∷ []) ∷ clause [] (Class 3 0 ∷ AtLeast (Named 1) (Qualified 5) 1 0 ∷ []) ∷ clause (Class 1 0 ∷ Class 2 0 ∷ []) (Class 4 0 ∷ []) ∷ []) [] (8 ∷ 7 ∷ 1 ∷ 0 ∷ 0 ∷ 0 ∷ 0 ∷ 0 ∷ 3 ∷ 31 ∷ []);
+      answer = clauses (clause (Class 4 0 ∷ []) (Class 1 0 ∷ []) ∷ clause (Class 4 0 ∷ []) (Class 2 0 ∷ []) ∷ clause (Class 3 0 ∷ []) (AtMost (Named 1) (Some 4) 0 0 ∷ []) ∷ clause (Class 0 0 ∷ []) (AtMost (Named 0) (Some 3) 1 0 ∷ []) ∷ clause (Class 5 0 ∷ []) (Class 1 0 ∷ []) ∷ clause (Class 5 0 ∷ []) (Class 2 0 ∷ []) ∷ clause [] (Class 3 0 ∷ AtLeast (Named 1) (Some 5) 1 0 ∷ []) ∷ clause (Class 1 0 ∷ Class 2 0 ∷ []) (Class 4 0 ∷ []) ∷ []) [] (8 ∷ 7 ∷ 1 ∷ 0 ∷ 0 ∷ 0 ∷ 0 ∷ 0 ∷ 3 ∷ 31 ∷ []);
     } ∷
     -- A is Max 1 r (B and C): after both inclusions
     record {
@@ -213,7 +213,7 @@ limit_cases =
           "          7          1          2" ∷
           "         12          1          0          3" ∷
           "         22          0          4" ∷ [];
-      answer = clauses (clause (Class 3 0 ∷ []) (Class 1 0 ∷ []) ∷ clause (Class 3 0 ∷ []) (Class 2 0 ∷ []) ∷ clause (Class 0 0 ∷ []) (AtMost (Named 0) (Qualified 3) 1 0 ∷ []) ∷ clause (Class 4 0 ∷ []) (Class 1 0 ∷ []) ∷ clause (Class 4 0 ∷ []) (Class 2 0 ∷ []) ∷ clause [] (Class 0 0 ∷ AtLeast (Named 0) (Qualified 4) 2 0 ∷ []) ∷ clause (Class 1 0 ∷ Class 2 0 ∷ []) (Class 3 0 ∷ []) ∷ []) [] (7 ∷ 6 ∷ 1 ∷ 0 ∷ 0 ∷ 0 ∷ 0 ∷ 0 ∷ 2 ∷ 28 ∷ []);
+      answer = clauses (clause (Class 3 0 ∷ []) (Class 1 0 ∷ []) ∷ clause (Class 3 0 ∷ []) (Class 2 0 ∷ []) ∷ clause (Class 0 0 ∷ []) (AtMost (Named 0) (Some 3) 1 0 ∷ []) ∷ clause (Class 4 0 ∷ []) (Class 1 0 ∷ []) ∷ clause (Class 4 0 ∷ []) (Class 2 0 ∷ []) ∷ clause [] (Class 0 0 ∷ AtLeast (Named 0) (Some 4) 2 0 ∷ []) ∷ clause (Class 1 0 ∷ Class 2 0 ∷ []) (Class 3 0 ∷ []) ∷ []) [] (7 ∷ 6 ∷ 1 ∷ 0 ∷ 0 ∷ 0 ∷ 0 ∷ 0 ∷ 2 ∷ 28 ∷ []);
     } ∷
     -- A ⊑ Min 2 r (B and C): no limit
     record {
@@ -225,7 +225,7 @@ limit_cases =
           "          7          1          2" ∷
           "         11          2          0          3" ∷
           "         21          0          4" ∷ [];
-      answer = clauses (clause (Class 3 0 ∷ []) (Class 1 0 ∷ []) ∷ clause (Class 3 0 ∷ []) (Class 2 0 ∷ []) ∷ clause (Class 0 0 ∷ []) (AtLeast (Named 0) (Qualified 3) 2 0 ∷ []) ∷ []) [] (3 ∷ 3 ∷ 0 ∷ 0 ∷ 0 ∷ 0 ∷ 0 ∷ 0 ∷ 1 ∷ 11 ∷ []);
+      answer = clauses (clause (Class 3 0 ∷ []) (Class 1 0 ∷ []) ∷ clause (Class 3 0 ∷ []) (Class 2 0 ∷ []) ∷ clause (Class 0 0 ∷ []) (AtLeast (Named 0) (Some 3) 2 0 ∷ []) ∷ []) [] (3 ∷ 3 ∷ 0 ∷ 0 ∷ 0 ∷ 0 ∷ 0 ∷ 0 ∷ 1 ∷ 11 ∷ []);
     } ∷
     -- A ⊑ Max 2 r B: no name
     record {
@@ -235,7 +235,7 @@ limit_cases =
           "          3          1" ∷
           "         12          2          0          1" ∷
           "         21          0          2" ∷ [];
-      answer = clauses (clause (Class 0 0 ∷ []) (AtMost (Named 0) (Qualified 1) 2 0 ∷ []) ∷ []) [] (1 ∷ 1 ∷ 0 ∷ 0 ∷ 0 ∷ 0 ∷ 0 ∷ 0 ∷ 0 ∷ 6 ∷ []);
+      answer = clauses (clause (Class 0 0 ∷ []) (AtMost (Named 0) (Some 1) 2 0 ∷ []) ∷ []) [] (1 ∷ 1 ∷ 0 ∷ 0 ∷ 0 ∷ 0 ∷ 0 ∷ 0 ∷ 0 ∷ 6 ∷ []);
     } ∷
     []
 

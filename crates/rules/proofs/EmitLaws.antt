@@ -4,8 +4,8 @@ use Rattle.std.specs.Prelude.{◌≡◌, refl, Bool, true, false, ◌&&◌, List
 use Rattle.std.proofs.Common.{sym, ap, ◌∙◌, append-nil, append_assoc, le_refl, le_trans, arith, length-append, ltb-true}
 use Rattle.ir.specs.declared.atom.Atom.{Atom}
 use Rattle.ir.specs.declared.atom.Atom.TheVariants.{Class, Exists, AtMost, AtLeast, Equal, Role as RoleAtom}
-use Rattle.ir.specs.declared.atom.Qualifier.{Qualifier}
-use Rattle.ir.specs.declared.atom.Qualifier.TheVariants.{Unqualified, Qualified}
+use Rattle.ir.specs.Qualifiers.{Qualifier}
+use Rattle.std.specs.Prelude.{None, Some}
 use Rattle.ir.specs.declared.deferral.Deferral.{Deferral}
 use Rattle.rules.specs.Handed.{Above}
 use Rattle.rules.specs.Base.{Res, M, then, for_each}
@@ -24,8 +24,8 @@ for_each_lem J Q f h (a ∷ l) u s j = post_then (h a s u.0 j) (λ _ t k. for_ea
 
 -- ---- more classes and variables
 qualifier_more : {m n : ℕ} → m ≤ n → (q : Qualifier) → QualifierIn m q → QualifierIn n q
-qualifier_more h Unqualified u = tt
-qualifier_more h (Qualified k) u = omega arith
+qualifier_more h None u = tt
+qualifier_more h (Some k) u = omega arith
 
 pub atom_more : (B : Bounds) {m n u v : ℕ} → m ≤ n → u ≤ v → (a : Atom) → AtomIn B m u a → AtomIn B n v a
 atom_more B h k (Class c x) i = (omega arith, omega arith)

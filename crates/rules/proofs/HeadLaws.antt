@@ -11,8 +11,8 @@ use Rattle.ir.specs.Pick.{pick}
 use Rattle.ir.specs.declared.role.Role.{Role}
 use Rattle.ir.specs.declared.atom.Atom.{Atom}
 use Rattle.ir.specs.declared.atom.Atom.TheVariants.{Class, Exists, AtMost, AtLeast, Role as RoleAtom}
-use Rattle.ir.specs.declared.atom.Qualifier.{Qualifier}
-use Rattle.ir.specs.declared.atom.Qualifier.TheVariants.{Unqualified}
+use Rattle.ir.specs.Qualifiers.{Qualifier}
+use Rattle.std.specs.Prelude.{None}
 use Rattle.ir.specs.declared.deferral.Deferral.TheVariants.{HeadOrDisjunct, HeadNotNonatomic}
 use Rattle.rules.specs.Text.{most_number}
 use Rattle.rules.specs.Base.{Res, ok, then, is_some}
@@ -141,7 +141,7 @@ module _ (B : Bounds) (env : Env) (pool : Pool) (roles : RolesKept B env) (wf : 
         name true (some a) u = visit_then s (λ _. name_or env pool emit c (some a)) (λ able. name_or_lem c s able h R (some a) u)
         name false o u = visit_then s (λ _. name_or env pool emit c o) (λ able. name_or_lem c s able h R o u)
 
-        unqualified : Post (Qualifying B s) (ok Unqualified s)
+        unqualified : Post (Qualifying B s) (ok None s)
         unqualified = give (record { stepped = stepped_refl B s; qualifier = tt })
 
         go : (b top : Bool) → Post (Qualifying B s) (qualifier_or env pool emit c top (waits (b && (not top && not (is_some (class_id_of env (at pool c)))))))

@@ -17,7 +17,7 @@ use Rattle.ir.specs.Atoms.{atom_vars, substitute_atom, replaced}
 use Rattle.ir.specs.declared.role.Role.{Role}
 use Rattle.ir.specs.declared.atom.Atom.{Atom}
 use Rattle.ir.specs.declared.atom.Atom.TheVariants.{Class, Exists, AtMost, AtLeast, Equal, Role as RoleAtom}
-use Rattle.ir.specs.declared.atom.Qualifier.{Qualifier}
+use Rattle.ir.specs.Qualifiers.{Qualifier}
 use Rattle.ir.specs.declared.deferral.Deferral.TheVariants.{ReflexiveDerivedCap}
 use Rattle.rules.specs.Base.{ok, then, any, contains}
 use Rattle.rules.specs.State.{Env, Out, E, Clause, clause, with, longer, most_in_hand}

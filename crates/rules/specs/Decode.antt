@@ -3,15 +3,15 @@ use Rattle.std.specs.Prelude.{List, [], ◌∷◌, ℕ, zero, suc, ◌+◌, ◌*
 use Rattle.std.proofs.Math.Option.{Option, none, some}
 use Rattle.ir.specs.Records.{atom_at}
 use Rattle.ir.specs.declared.atom.Atom.{Atom}
-use Rattle.ir.specs.declared.record.Read.{Read}
-use Rattle.ir.specs.declared.record.Read.TheVariants.{NoAtom, Atom as ReadAtom}
+use Rattle.ir.specs.Records.{Read}
+use Rattle.std.specs.Prelude.{None, Some}
 use Rattle.rules.specs.State.{Clause, clause}
 
 -- one atom more in front, if both are read
 abbrev pub read_on : Read → Option (List Atom) → Option (List Atom)
-read_on NoAtom rest = none
-read_on (ReadAtom a) none = none
-read_on (ReadAtom a) (some l) = some (a ∷ l)
+read_on None rest = none
+read_on (Some a) none = none
+read_on (Some a) (some l) = some (a ∷ l)
 
 -- n atoms from record `first` on; none if one of the records is no atom
 unfoldable pub decode_atoms : List ℕ → ℕ → ℕ → Option (List Atom)

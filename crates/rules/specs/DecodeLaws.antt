@@ -18,12 +18,12 @@ use Rattle.ir.specs.declared.role.Role.{Role}
 use Rattle.ir.specs.declared.role.Role.TheVariants.{Named, Inverse}
 use Rattle.ir.specs.declared.atom.Atom.{Atom}
 use Rattle.ir.specs.declared.atom.Atom.TheVariants.{Class, Exists, AtMost, AtLeast, Equal, Role as RoleAtom}
-use Rattle.ir.specs.declared.atom.Qualifier.{Qualifier}
-use Rattle.ir.specs.declared.atom.Qualifier.TheVariants.{Unqualified, Qualified}
+use Rattle.ir.specs.Qualifiers.{Qualifier}
+use Rattle.std.specs.Prelude.{None, Some}
 use Rattle.ir.specs.declared.deferral.Deferral.{Deferral}
 use Rattle.ir.specs.declared.deferral.Deferral.TheVariants.{DisjointAntecedent, DisjointUnionMember, DisjointUnionCovering, RoleChainLenNe2, Antecedent, HeadOrDisjunct, HeadExistsInner, HeadNotNonatomic, ReflexiveDerivedCap}
 use Rattle.ir.specs.declared.record.AtomWords.{AtomWords}
-use Rattle.ir.specs.declared.record.Read.TheVariants.{Atom as ReadAtom}
+use Rattle.std.specs.Prelude.{Some}
 use Rattle.rules.specs.State.{Clause, Deferred, total}
 use Rattle.rules.specs.Run.{Lengths, rooms_of, flat, atom_records, clause_records, deferral_records, table_of}
 use Rattle.rules.specs.Invariants.{Each, Bounds, RoleIn, QualifierIn, AtomIn, ClauseIn}
@@ -83,7 +83,7 @@ decode_flat (a ∷ l) front rest i e =
     let m = length-append front (six a) in
     let next = decode_flat l (front ++ six a) rest (i + 1) (omega arith) in
     let same : front ++ (six a ++ (flat l ++ rest)) ≡ (front ++ six a) ++ (flat l ++ rest) = sym (append_assoc front (six a) (flat l ++ rest)) in
-    let here : atom_at (front ++ (six a ++ (flat l ++ rest))) i ≡ ReadAtom a = ap read_words (record_behind front (flat l ++ rest) i (words_of a) e) ∙ read_six_lem a in
+    let here : atom_at (front ++ (six a ++ (flat l ++ rest))) i ≡ Some a = ap read_words (record_behind front (flat l ++ rest) i (words_of a) e) ∙ read_six_lem a in
     let there : decode_atoms (front ++ (six a ++ (flat l ++ rest))) (i + 1) (length l) ≡ some l = ap (λ (w : List ℕ). decode_atoms w (i + 1) (length l)) same ∙ next in
     ap₂ read_on here there
 
@@ -227,8 +227,8 @@ module _ (B : Bounds) (fresh vars : ℕ) (roles : B.roles ≤ 2 ^ 31) (classes :
   role_fits (Inverse i) h = omega arith
 
   qualifier_fits : (q : Qualifier) → QualifierIn fresh q → qualifier_word q < 2 ^ 32
-  qualifier_fits Unqualified h = omega arith
-  qualifier_fits (Qualified k) h = omega arith
+  qualifier_fits None h = omega arith
+  qualifier_fits (Some k) h = omega arith
 
   atom_fits : (a : Atom) → AtomIn B fresh vars a → Small (six a)
   atom_fits (Class k v) h = omega arith

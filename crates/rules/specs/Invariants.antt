@@ -5,8 +5,8 @@ use Rattle.ir.specs.Roles.{role_id}
 use Rattle.ir.specs.declared.role.Role.{Role}
 use Rattle.ir.specs.declared.atom.Atom.{Atom}
 use Rattle.ir.specs.declared.atom.Atom.TheVariants.{Class, Exists, AtMost, AtLeast, Equal, Role as RoleAtom}
-use Rattle.ir.specs.declared.atom.Qualifier.{Qualifier}
-use Rattle.ir.specs.declared.atom.Qualifier.TheVariants.{Unqualified, Qualified}
+use Rattle.ir.specs.Qualifiers.{Qualifier}
+use Rattle.std.specs.Prelude.{None, Some}
 use Rattle.rules.specs.Text.{most_number}
 use Rattle.rules.specs.Concept.{Concept, Axiom}
 use Rattle.rules.specs.Concept.{Top, Bot, Atomic, Nominal, SelfRestriction, Not, And, Or, Some, All, Min, Max}
@@ -160,8 +160,8 @@ AxiomIn B n (ClassAssertion c i) = (c < n) × (i < B.individuals)
 
 -- ---- atoms and clauses: classes below `fresh`, variables below `vars`
 abbrev pub QualifierIn : ℕ → Qualifier → Type 0
-QualifierIn fresh Unqualified = Unit {0}
-QualifierIn fresh (Qualified k) = k < fresh
+QualifierIn fresh None = Unit {0}
+QualifierIn fresh (Some k) = k < fresh
 
 abbrev pub AtomIn : Bounds → (fresh vars : ℕ) → Atom → Type 0
 AtomIn B fresh vars (Class k v) = (k < fresh) × (v < vars)

@@ -9,8 +9,8 @@ use Rattle.ir.specs.declared.role.Role.{Role}
 use Rattle.ir.specs.declared.role.Role.TheVariants.{Named, Inverse}
 use Rattle.ir.specs.declared.atom.Atom.{Atom}
 use Rattle.ir.specs.declared.atom.Atom.TheVariants.{Class, Exists, AtMost, AtLeast, Equal, Role as RoleAtom}
-use Rattle.ir.specs.declared.atom.Qualifier.{Qualifier}
-use Rattle.ir.specs.declared.atom.Qualifier.TheVariants.{Unqualified, Qualified}
+use Rattle.ir.specs.Qualifiers.{Qualifier}
+use Rattle.std.specs.Prelude.{None, Some}
 use Rattle.rules.specs.Base.{all, any}
 use Rattle.rules.specs.Concept.{Concept, Axiom}
 use Rattle.rules.specs.Concept.{Top, Bot, Atomic, Nominal, SelfRestriction, Not, And, Or, Some, All, Min, Max}
@@ -126,8 +126,8 @@ satisfied I p (ClassAssertion c i) = means I p c (I.individual i)
 -- ---- atoms and clauses
 -- over the class, or over Top if unqualified
 abbrev pub qualifies : Interpretation → Qualifier → ℕ → Bool
-qualifies I Unqualified y = true
-qualifies I (Qualified c) y = I.class c y
+qualifies I None y = true
+qualifies I (Some c) y = I.class c y
 
 abbrev pub atom_holds : Interpretation → (ℕ → ℕ) → Atom → Bool
 atom_holds I f (Class c v) = I.class c (f v)

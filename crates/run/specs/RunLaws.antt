@@ -1,13 +1,15 @@
 -- The run's answer, from the later passes' or from a refusal before them. Assumes nothing.
-use Rattle.std.specs.Prelude.{◌≡◌, List, ℕ, length}
+use Rattle.std.specs.Prelude.{◌≡◌, List, ℕ, length, Result, Ok, Err}
 use Rattle.std.proofs.Math.Path.{refl, ap, subst}
 use Rattle.std.proofs.Common.{sym, ◌∙◌, arith}
 use Prim.{tt}
 use Rattle.ir.specs.Counts.{at_line}
 use Rattle.ir.specs.Options.{body_decompose}
 use Rattle.ir.specs.declared.counters.Counters.{Counters}
-use Rattle.ir.specs.declared.answer.Answer.{Answer}
-use Rattle.ir.specs.declared.answer.Answer.TheVariants.{Done, Refused}
+use Rattle.ir.specs.Answer.{answer}
+use Rattle.ir.specs.Refusals.{refusal_number}
+use Rattle.ir.specs.declared.answer.Refused.{Refused}
+use Rattle.ir.specs.declared.refusal.Refusal.{Refusal}
 use Rattle.rules.specs.Base.{Res, ok, refused as refuses}
 use Rattle.rules.specs.Concept.{Axiom}
 use Rattle.rules.specs.Normalize.{St}
@@ -21,7 +23,6 @@ use Rattle.normalize.specs.Loaded.{normalized}
 use Rattle.tables.specs.Drawn.{Tables, tables, counters_in, clauses_in, atoms_in, deferrals_in, show, shown, after}
 use Rattle.staging.specs.Stage.{staged}
 use Rattle.run.specs.declared.Ran.{Ran}
-use Rattle.run.specs.declared.Ran.TheVariants as Rans
 use Rattle.run.specs.Ran.{Left, RanAs}
 use Rattle.run.specs.Before.{Before}
 use Rattle.late.specs.Later.{Later}
@@ -52,9 +53,9 @@ module _ (s : List ℕ) (k : Counters) (n first : ℕ) (c a d : List ℕ) (B : B
   run_latest = rw (B.staged.formed, clausified) refl
 
 -- ---- the later passes' answer
-abbrev pub ran_of : ℕ → Answer → Ran
-ran_of first (Done k m) = Rans.Accepted k first m
-ran_of first (Refused e) = Rans.Refused e 0
+abbrev pub ran_of : Counters → ℕ → Result ℕ Refusal → Result Ran Refused
+ran_of k first (Ok m) = Ok record { counters = k; first = first; decomposed = m }
+ran_of k first (Err e) = Err record { refusal = e; line = 0 }
 
 left_of : (d : Known) (limit : ℕ) (rooms : Rooms) (k l : Counters) (first m : ℕ) (s : Out) (c a f : List ℕ) → first ≡ first_fresh d → RunIn d limit rooms m s → tables l c a f ≡ show k rooms s → Left rooms (accepted_of d m s) l first m c a f
 unfolding show
@@ -74,43 +75,37 @@ left_of d limit rooms k l first m s c a f e R h =
     }
 
 module _ (d : Known) (D : DeckIn d) (limit : ℕ) (rooms : Rooms) (k : Counters) (first : ℕ) (e : first ≡ first_fresh d) (c a f : List ℕ) where
-  ran_late : (x : Res Out ℕ) (r : Answer) → deck_run limit rooms d ≡ lined 0 x → after r c a f ≡ shown (λ m. m) k rooms x → RanAs rooms (outcome_of d (lined 0 x)) c a f (ran_of first r)
-  ran_late (ok m s) (Done l i) q h =
+  ran_late : (x : Res Out ℕ) (l : Counters) (r : Result ℕ Refusal) → deck_run limit rooms d ≡ lined 0 x → after (answer l r) c a f ≡ shown (λ m. m) k rooms x → RanAs rooms (outcome_of d (lined 0 x)) c a f (ran_of l first r)
+  ran_late (ok m s) l (Ok i) q h =
       let R : RunIn d limit rooms m s = done_post (subst (LinedPost (RunIn d limit rooms)) q (run_in limit rooms d D)) in
       let same : i ≡ m = cc in
       let t : tables l c a f ≡ show k rooms s = cc in
       subst (λ (j : ℕ). Left rooms (accepted_of d m s) l first j c a f) (sym same) (left_of d limit rooms k l first m s c a f e R t)
-  ran_late (ok m s) (Refused n) q h = absurd (let z : ◌≡◌ {A = ℕ} 0 1 = cc in omega arith)
-  ran_late (refuses m) (Done l i) q h = absurd (let z : ◌≡◌ {A = ℕ} 0 1 = cc in omega arith)
-  ran_late (refuses m) (Refused n) q h = let z : n ≡ m = cc in (z, refl)
+  ran_late (ok m s) l (Err n) q h = absurd (let z : ◌≡◌ {A = ℕ} 0 1 = cc in omega arith)
+  ran_late (refuses m) l (Ok i) q h = absurd (let z : ◌≡◌ {A = ℕ} 0 1 = cc in omega arith)
+  ran_late (refuses m) l (Err n) q h = let z : refusal_number n ≡ m = cc in (z, refl)
 
 -- the run's answer is the rules', where late_passes was called with the counters k'
-module _ (s : List ℕ) (k : Counters) (n first : ℕ) (c a d : List ℕ) (B : Before s k n first c a d) (k' : Counters) (at : k' ≡ at_line 0 k) (c' a' d' : List ℕ) (r : Answer)
-    (h : (L : Later s k' n c a d) → after r c' a' d' ≡ shown (λ m. m) k' L.env.rooms (late_passes L.env L.axioms (body_decompose k'.options) L.state)) where
+module _ (s : List ℕ) (k : Counters) (n first : ℕ) (c a d : List ℕ) (B : Before s k n first c a d) (k' : Counters) (at : k' ≡ at_line 0 k) (c' a' d' : List ℕ) (l : Counters) (r : Result ℕ Refusal)
+    (h : (L : Later s k' n c a d) → after (answer l r) c' a' d' ≡ shown (λ m. m) k' L.env.rooms (late_passes L.env L.axioms (body_decompose k'.options) L.state)) where
   abbrev latest_of : ℕ → Res Out ℕ
   latest_of options = late_passes (env_of B.known B.rooms B.staged.normal) B.staged.normal (body_decompose options) (line_at 0 B.staged.state.out)
 
-  late_is : after r c' a' d' ≡ shown (λ m. m) (at_line 0 k) B.rooms (latest s k n first c a d B)
+  late_is : after (answer l r) c' a' d' ≡ shown (λ m. m) (at_line 0 k) B.rooms (latest s k n first c a d B)
   late_is =
-      subst (λ (j : Counters). (L : Later s j n c a d) → after r c' a' d' ≡ shown (λ m. m) j L.env.rooms (late_passes L.env L.axioms (body_decompose j.options) L.state)) at h (later s k n first c a d B)
+      subst (λ (j : Counters). (L : Later s j n c a d) → after (answer l r) c' a' d' ≡ shown (λ m. m) j L.env.rooms (late_passes L.env L.axioms (body_decompose j.options) L.state)) at h (later s k n first c a d B)
       ∙ ap (λ (w : ℕ). shown (λ m. m) (at_line 0 k) B.rooms (latest_of w)) B.staged.options
 
-  ran_as : RanAs B.rooms (run_deck B.limit B.rooms B.known) c' a' d' (ran_of first r)
+  pub ran_as : RanAs B.rooms (run_deck B.limit B.rooms B.known) c' a' d' (ran_of l first r)
   unfolding run_deck
   ran_as =
       let q = run_latest s k n first c a d B in
-      subst (λ (y : Lined Out ℕ). RanAs B.rooms (outcome_of B.known y) c' a' d' (ran_of first r)) (sym q)
-      (ran_late B.known B.inside B.limit B.rooms (at_line 0 k) first B.fresh c' a' d' (latest s k n first c a d B) r q late_is)
-
-  pub ran_done : (l : Counters) (m : ℕ) → r ≡ Done l m → RanAs B.rooms (run_deck B.limit B.rooms B.known) c' a' d' (Rans.Accepted l first m)
-  ran_done l m e = subst (λ (o : Answer). RanAs B.rooms (run_deck B.limit B.rooms B.known) c' a' d' (ran_of first o)) e ran_as
-
-  pub ran_refused : (m : ℕ) → r ≡ Refused m → RanAs B.rooms (run_deck B.limit B.rooms B.known) c' a' d' (Rans.Refused m 0)
-  ran_refused m e = subst (λ (o : Answer). RanAs B.rooms (run_deck B.limit B.rooms B.known) c' a' d' (ran_of first o)) e ran_as
+      subst (λ (y : Lined Out ℕ). RanAs B.rooms (outcome_of B.known y) c' a' d' (ran_of l first r)) (sym q)
+      (ran_late B.known B.inside B.limit B.rooms (at_line 0 k) first B.fresh c' a' d' (latest s k n first c a d B) l r q late_is)
 
 -- ---- refused before the later passes
-pub ran_stopped : (limit : ℕ) (rooms : Rooms) (d : Known) (c a f : List ℕ) (e line : ℕ) → staged limit rooms d ≡ stopped e line → RanAs rooms (run_deck limit rooms d) c a f (Rans.Refused e line)
-ran_stopped limit rooms d c a f e line h = subst (λ (o : Outcome). RanAs rooms o c a f (Rans.Refused e line)) (sym (run_stops limit rooms d e line h)) (refl, refl)
+pub ran_stopped : (limit : ℕ) (rooms : Rooms) (d : Known) (c a f : List ℕ) (e : Refused) → staged limit rooms d ≡ stopped (refusal_number e.refusal) e.line → RanAs rooms (run_deck limit rooms d) c a f (Err e)
+ran_stopped limit rooms d c a f e h = subst (λ (o : Outcome). RanAs rooms o c a f (Err e)) (sym (run_stops limit rooms d (refusal_number e.refusal) e.line h)) (refl, refl)
 
-pub ran_unread : (limit : ℕ) (rooms : Rooms) (t : Told) (c a f : List ℕ) (e line : ℕ) → t ≡ unread e line → RanAs rooms (run_read limit rooms t) c a f (Rans.Refused e line)
-ran_unread limit rooms t c a f e line h = subst (λ (o : Told). RanAs rooms (run_read limit rooms o) c a f (Rans.Refused e line)) (sym h) (refl, refl)
+pub ran_unread : (limit : ℕ) (rooms : Rooms) (t : Told) (c a f : List ℕ) (e : Refused) → t ≡ unread (refusal_number e.refusal) e.line → RanAs rooms (run_read limit rooms t) c a f (Err e)
+ran_unread limit rooms t c a f e h = subst (λ (o : Told). RanAs rooms (run_read limit rooms o) c a f (Err e)) (sym h) (refl, refl)

@@ -11,54 +11,47 @@ ghost use Rattle.clausifier.specs.Prepare.{Preparing};
 ghost use Rattle.staging.specs.Stage.{Blank};
 ghost use Rattle.run.specs.Ran.{RanAs};
 ghost use Rattle.run.specs.Before.{Before};
+ghost use Rattle.tables.specs.Lending.{SameReferences};
 
-use ir::answer::{Answer, Lined};
+use ir::answer::Refused;
 use ir::counters::Counters;
 use ontology::load;
-use ontology::load::Loaded;
+use tables::lent::Tables;
 
-// The counters at the end, the first fresh class and the number of decomposed bodies; or a refusal's number and line.
+// The counters at the end, the first fresh class and the number of decomposed bodies.
 #[derive(Clone, Copy)]
-pub enum Ran {
-    Accepted(Counters, u32, u32),
-    Refused(u32, u32),
+pub struct Ran {
+    pub counters: Counters,
+    pub first: u32,
+    pub decomposed: u32,
 }
 
 // The passes after the last axiom; their refusals have line 0.
-fn run_late(
-    scratch: &mut [u8],
-    clauses: &mut [u8],
-    atoms: &mut [u8],
-    deferrals: &mut [u8],
-    k: Counters,
-    n: u32,
-    first: u32,
-) -> Ran
-    requires { Before scratch.old k n first (words clauses.old) (words atoms.old) (words deferrals.old) × Sized (length clauses.old) (length atoms.old) (length deferrals.old) }
-    ensures { (B : Before scratch.old k n first (words clauses.old) (words atoms.old) (words deferrals.old)) → RanAs B.rooms (run_deck B.limit B.rooms B.known) (words clauses.new) (words atoms.new) (words deferrals.new) result }
+fn run_late(lent: &mut Tables<'_>, scratch: &mut [u8], n: u32, first: u32) -> Result<Ran, Refused>
+    requires { Before scratch.old lent.old.counters n first (words lent.old.clauses.now) (words lent.old.atoms.now) (words lent.old.deferrals.now) }
+    ensures references { SameReferences lent.old lent.new }
+    ensures did { (B : Before scratch.old lent.old.counters n first (words lent.old.clauses.now) (words lent.old.atoms.now) (words lent.old.deferrals.now)) → RanAs B.rooms (run_deck B.limit B.rooms B.known) (words lent.new.clauses.now) (words lent.new.atoms.now) (words lent.new.deferrals.now) result }
 {
-    match late::late_passes(scratch, clauses, atoms, deferrals, k.at_line(0), n) {
-        Answer::Done(l, m) => Ran::Accepted(l, first, m),
-        Answer::Refused(e) => Ran::Refused(e, 0),
+    lent.counters.at_line(0);
+    match late::late_passes(lent, scratch, n) {
+        Ok(decomposed) => Ok(Ran {
+            counters: lent.counters,
+            first,
+            decomposed,
+        }),
+        Err(refusal) => Err(Refused { refusal, line: 0 }),
     }
 }
 
 // The run of a deck that was read.
-fn run_loaded(
-    scratch: &mut [u8],
-    clauses: &mut [u8],
-    atoms: &mut [u8],
-    deferrals: &mut [u8],
-    k: Counters,
-    n: u32,
-) -> Ran
-    requires { Preparing scratch.old k n × (scratch_bytes ≤ length scratch.old) × ((rooms : Rooms) × Blank rooms (words clauses.old) (words atoms.old) (words deferrals.old)) × Sized (length clauses.old) (length atoms.old) (length deferrals.old) }
-    ensures { (P : Preparing scratch.old k n) (rooms : Rooms) → Blank rooms (words clauses.old) (words atoms.old) (words deferrals.old) → RanAs rooms (run_deck P.limit rooms P.known) (words clauses.new) (words atoms.new) (words deferrals.new) result }
+fn run_loaded(lent: &mut Tables<'_>, scratch: &mut [u8], n: u32) -> Result<Ran, Refused>
+    requires { Preparing scratch.old lent.old.counters n × (scratch_bytes ≤ length scratch.old) × ((rooms : Rooms) × Blank rooms (words lent.old.clauses.now) (words lent.old.atoms.now) (words lent.old.deferrals.now)) }
+    ensures references { SameReferences lent.old lent.new }
+    ensures did { (P : Preparing scratch.old lent.old.counters n) (rooms : Rooms) → Blank rooms (words lent.old.clauses.now) (words lent.old.atoms.now) (words lent.old.deferrals.now) → RanAs rooms (run_deck P.limit rooms P.known) (words lent.new.clauses.now) (words lent.new.atoms.now) (words lent.new.deferrals.now) result }
 {
-    match staging::clausify_deck(scratch, clauses, atoms, deferrals, k, n) {
-        Lined::Finished(v) => run_late(scratch, clauses, atoms, deferrals, v, n, k.next_class),
-        Lined::Stopped(e, line) => Ran::Refused(e, line),
-    }
+    let first = lent.counters.next_class;
+    staging::clausify_deck(lent, scratch, n)?;
+    run_late(lent, scratch, n, first)
 }
 
 // The deck's run under a limit of visits, in tables of zeros; on a refusal the tables hold what was made so far.
@@ -69,12 +62,16 @@ pub fn run(
     atoms: &mut [u8],
     deferrals: &mut [u8],
     limit: u32,
-) -> Ran
+) -> Result<Ran, Refused>
     requires { (limit ≤ 1000000) × (scratch_bytes ≤ length scratch.old) × ((rooms : Rooms) × Blank rooms (words clauses.old) (words atoms.old) (words deferrals.old)) × Sized (length clauses.old) (length atoms.old) (length deferrals.old) }
     ensures { (rooms : Rooms) → Blank rooms (words clauses.old) (words atoms.old) (words deferrals.old) → RanAs rooms (run_read limit rooms (read_deck deck.now)) (words clauses.new) (words atoms.new) (words deferrals.new) result }
 {
-    match load::load(deck, scratch, limit) {
-        Loaded::Accepted(k, n) => run_loaded(scratch, clauses, atoms, deferrals, k, n),
-        Loaded::Refused(e, line) => Ran::Refused(e, line),
-    }
+    let (counters, n) = load::load(deck, scratch, limit)?;
+    let mut lent = Tables {
+        clauses,
+        atoms,
+        deferrals,
+        counters,
+    };
+    run_loaded(&mut lent, scratch, n)
 }

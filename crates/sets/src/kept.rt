@@ -1,4 +1,4 @@
-// Sets in lent words, two words each.
+// Sets in lent words, two words each, read and written by the table's words, which their clauses are about.
 ghost use Rattle.std.specs.Prelude.{◌≡◌, Bool, ℕ, ◌≤◌, ◌<◌, ◌+◌, ◌*◌, length};
 ghost use Rattle.words.specs.Words.{words};
 ghost use Rattle.rules.specs.Run.{scratch_bytes};

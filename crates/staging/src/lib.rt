@@ -4,30 +4,22 @@
 ghost use Rattle.std.specs.Prelude.{length};
 ghost use Rattle.words.specs.Words.{words};
 ghost use Rattle.rules.specs.State.{Rooms};
-ghost use Rattle.tables.specs.Drawn.{Sized};
 ghost use Rattle.clausifier.specs.Prepare.{Preparing};
 ghost use Rattle.staging.specs.Stage.{StagedAs, Blank};
+ghost use Rattle.ir.specs.Lined.{lined};
+ghost use Rattle.tables.specs.Lending.{SameReferences};
 
 use clausifier::prepare;
-use ir::answer::Lined;
-use ir::counters::Counters;
+use ir::answer::Refused;
+use tables::lent::Tables;
 
 // The deck stands in scratch, and the lent tables are zeros; on a refusal they hold what was made so far.
-pub fn clausify_deck(
-    scratch: &mut [u8],
-    clauses: &mut [u8],
-    atoms: &mut [u8],
-    deferrals: &mut [u8],
-    k: Counters,
-    n: u32,
-) -> Lined
-    requires { Preparing scratch.old k n × ((rooms : Rooms) × Blank rooms (words clauses.old) (words atoms.old) (words deferrals.old)) × Sized (length clauses.old) (length atoms.old) (length deferrals.old) }
-    ensures { (P : Preparing scratch.old k n) (rooms : Rooms) → Blank rooms (words clauses.old) (words atoms.old) (words deferrals.old) → StagedAs P.limit rooms P.known scratch.new n (words clauses.new) (words atoms.new) (words deferrals.new) result }
+pub fn clausify_deck(lent: &mut Tables<'_>, scratch: &mut [u8], n: u32) -> Result<(), Refused>
+    requires { Preparing scratch.old lent.old.counters n × ((rooms : Rooms) × Blank rooms (words lent.old.clauses.now) (words lent.old.atoms.now) (words lent.old.deferrals.now)) }
+    ensures references { SameReferences lent.old lent.new }
+    ensures did { (P : Preparing scratch.old lent.old.counters n) (rooms : Rooms) → Blank rooms (words lent.old.clauses.now) (words lent.old.atoms.now) (words lent.old.deferrals.now) → StagedAs P.limit rooms P.known scratch.new n (words lent.new.clauses.now) (words lent.new.atoms.now) (words lent.new.deferrals.now) (lined lent.new.counters result) }
 {
-    match prepare::prepare(scratch, k, n) {
-        Lined::Finished(v) => clausifier::clausify_axioms(
-            scratch, clauses, atoms, deferrals, v, n, k.line,
-        ),
-        Lined::Stopped(e, line) => Lined::Stopped(e, line),
-    }
+    let line = lent.counters.line;
+    prepare::prepare(scratch, &mut lent.counters, n)?;
+    clausifier::clausify_axioms(lent, scratch, n, line)
 }

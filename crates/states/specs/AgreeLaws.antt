@@ -6,8 +6,8 @@ use mathlib.Core.List.{List, [], ◌∷◌, map}
 use Rattle.std.proofs.Math.Option.{some}
 use Rattle.ir.specs.declared.atom.Atom.{Atom}
 use Rattle.ir.specs.declared.atom.Atom.TheVariants.{Class, Exists, AtMost, AtLeast, Equal, Role as RoleAtom}
-use Rattle.ir.specs.declared.atom.Qualifier.{Qualifier}
-use Rattle.ir.specs.declared.atom.Qualifier.TheVariants.{Unqualified, Qualified}
+use Rattle.ir.specs.Qualifiers.{Qualifier}
+use Rattle.std.specs.Prelude.{None, Some}
 use Rattle.rules.specs.Base.{all, any}
 use Rattle.rules.specs.State.{Clause}
 use Rattle.rules.specs.Semantics.{Interpretation, with_classes, related, qualifies, implies, atom_holds, clause_vars, chosen, every_choice, clause_holds_at, clause_holds}
@@ -22,8 +22,8 @@ module _ (I : Interpretation) (sets : ℕ → ℕ → Bool) (agree : (c x : ℕ)
   J = with_classes I sets
 
   qualifies_same : (q : Qualifier) (y : ℕ) → y < I.size → qualifies J q y ≡ qualifies I q y
-  qualifies_same Unqualified y h = refl
-  qualifies_same (Qualified c) y h = agree c y h
+  qualifies_same None y h = refl
+  qualifies_same (Some c) y h = agree c y h
 
   atom_same : (f : ℕ → ℕ) → Choice I f → (a : Atom) → atom_holds J f a ≡ atom_holds I f a
   atom_same f g (Class c v) = agree c (f v) (g v)

@@ -47,6 +47,7 @@ pub fn fill<R: Read>(reader: &mut R, space: &mut [u8]) -> (usize, io::Result<()>
     ensures end { OnOk result.1 (result.0 < length space.new → IsAtEnd (R.remaining reader.new)) }
 {
     let mut done = 0;
+    // each read tells how far it came
     while done < space.len() {
         match read_behind(reader, space, done) {
             Ok(0) => return (done, Ok(())),

@@ -8,7 +8,7 @@ use Rattle.ir.specs.Records.{six, read_words, atom_at}
 use Rattle.ir.specs.RecordLaws.{read_six_lem}
 use Rattle.ir.specs.declared.atom.Atom.{Atom}
 use Rattle.ir.specs.declared.atom.Atom.TheVariants.{Equal}
-use Rattle.ir.specs.declared.record.Read.TheVariants.{Atom as ReadAtom}
+use Rattle.std.specs.Prelude.{Some}
 use Rattle.rules.specs.Run.{flat}
 use Rattle.rules.specs.DecodeLaws.{flat_long, flat_append}
 use Rattle.tables.specs.Tabled.{At, Run}
@@ -35,7 +35,7 @@ module _ (w : List ℕ) (i : ℕ) (x : Atom) (h : At w (6 * i) (six x)) where
   pub target_is : get_or w (6 * i + 5) 0 ≡ get_or (six x) 5 0
   target_is = word 5 (omega arith)
 
-  pub read_is : atom_at w i ≡ ReadAtom x
+  pub read_is : atom_at w i ≡ Some x
   read_is = ap read_words (rw (kind_is, role_is, word 2 (omega arith), word 3 (omega arith), source_is, target_is) refl) ∙ read_six_lem x
 
 -- ---- from atom i on: the first atoms, the others, and atom j

@@ -2,8 +2,8 @@
 use Rattle.std.specs.Prelude.{◌≡◌, List, ◌++◌, ℕ, ◌*◌, ◌-◌, ◌≤◌, length, replicate}
 use Rattle.ir.specs.Counts.{counters}
 use Rattle.ir.specs.declared.counters.Counters.{Counters}
-use Rattle.ir.specs.declared.answer.Answer.{Answer}
-use Rattle.ir.specs.declared.answer.Answer.TheVariants.{Done, Refused}
+use Rattle.ir.specs.Answer.{Answer}
+use Rattle.ir.specs.Answer.{Done, Refused}
 use Rattle.rules.specs.Base.{Res, ok, refused}
 use Rattle.rules.specs.State.{Rooms, Out, total}
 use Rattle.rules.specs.Run.{clause_words, atom_words, deferral_words, clause_records, atom_records, deferral_records, most_clauses, most_atoms, most_deferrals}

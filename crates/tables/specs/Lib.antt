@@ -5,3 +5,4 @@ pub mod Tabled
 pub mod TabledLaws
 pub mod AtomLaws
 pub mod ClauseLaws
+pub mod Lending

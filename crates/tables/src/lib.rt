@@ -1,11 +1,13 @@
 // The lent tables: one clause more, its atoms as one run in the atom table; one deferral more.
 #![tactic(auto)]
 
+pub mod lent;
 pub mod read;
 pub mod write;
 
 ghost use Rattle.std.specs.Prelude.{◌≡◌, List, [], ◌∷◌, ◌++◌, ℕ, ◌*◌, ◌%◌, ◌≤◌, length};
 ghost use Rattle.words.specs.Words.{words};
+ghost use Rattle.ir.specs.Answer.{done};
 ghost use Rattle.ir.specs.Records.{Fits};
 ghost use Rattle.ir.specs.declared.atom.Atom.{Atom};
 ghost use Rattle.rules.specs.State.{Env, Out, push, defer};
@@ -13,41 +15,42 @@ ghost use Rattle.tables.specs.Good.{Good, GoodAnswer, KeptAnswer};
 ghost use Rattle.tables.specs.Drawn.{tables, show, shown, after, Lent, Sized};
 ghost use Rattle.tables.specs.Tabled.{Run};
 
-use ir::answer::Answer;
 use ir::atom::Atom;
 use ir::counters::Counters;
 use ir::deferral::Deferral;
 use ir::record;
+use ir::refusal::Refusal;
 
 // The clause of this body and this head.
 pub fn push_clause(
     clauses: &mut [u8],
     atoms: &mut [u8],
-    k: Counters,
+    k: &mut Counters,
     body: &[u8],
     head: &[u8],
-) -> Answer
+) -> Result<(), Refusal>
     requires { (length body.now ≤ 24 * 256) × (length body.now % 24 ≡ 0) × (length head.now ≤ 24 * 256) × (length head.now % 24 ≡ 0) × Sized (length clauses.old) (length atoms.old) 0 }
-    ensures d_after { (env : Env) (b h : List Atom) (s : Out) (d : List ℕ) → Lent env.rooms (words clauses.old) (words atoms.old) d → Run body.now b → Run head.now h → tables k (words clauses.old) (words atoms.old) d ≡ show k env.rooms s → after result (words clauses.new) (words atoms.new) d ≡ shown (λ _. 0) k env.rooms (push env b h s) }
-    ensures good_answer { Good k → GoodAnswer result }
-    ensures kept_answer { KeptAnswer k result }
+    ensures d_after { (env : Env) (b h : List Atom) (s : Out) (d : List ℕ) → Lent env.rooms (words clauses.old) (words atoms.old) d → Run body.now b → Run head.now h → tables k.old (words clauses.old) (words atoms.old) d ≡ show k.old env.rooms s → after (done k.new result) (words clauses.new) (words atoms.new) d ≡ shown (λ _. 0) k.old env.rooms (push env b h s) }
+    ensures good_answer { Good k.old → GoodAnswer (done k.new result) }
+    ensures kept_answer { KeptAnswer k.old (done k.new result) }
 {
     let first = k.atoms;
     let i = k.clauses as usize;
     let n = body.len() / 24;
     let m = head.len() / 24;
     if read::clause_room(clauses) <= i {
-        return Answer::Refused(12);
+        return Err(Refusal::NoRoom);
     }
     if read::atom_room(atoms) < first as usize + n + m {
-        return Answer::Refused(12);
+        return Err(Refusal::NoRoom);
     }
     let bodies = n as u32;
     let heads = m as u32;
     words::copy_words(atoms, 6 * (first as usize), body);
     words::copy_words(atoms, 6 * (first as usize + n), head);
     write::put_clause(clauses, i, first, bodies, heads);
-    Answer::Done(k.push(bodies + heads), 0)
+    k.push(bodies + heads);
+    Ok(())
 }
 
 // The clause whose body is `run`, and whose head is one atom, which goes straight into the table.
@@ -56,39 +59,41 @@ pub fn push_headed(
     head: Atom,
     clauses: &mut [u8],
     atoms: &mut [u8],
-    k: Counters,
-) -> Answer
+    k: &mut Counters,
+) -> Result<(), Refusal>
     requires { (length run.now ≤ 24 * 256) × (length run.now % 24 ≡ 0) × Sized (length clauses.old) (length atoms.old) 0 × Fits head }
-    ensures d_after { (env : Env) (b : List Atom) (s : Out) (d : List ℕ) → Lent env.rooms (words clauses.old) (words atoms.old) d → Run run.now b → tables k (words clauses.old) (words atoms.old) d ≡ show k env.rooms s → after result (words clauses.new) (words atoms.new) d ≡ shown (λ _. 0) k env.rooms (push env b (head ∷ []) s) }
-    ensures good_answer { Good k → GoodAnswer result }
-    ensures kept_answer { KeptAnswer k result }
+    ensures d_after { (env : Env) (b : List Atom) (s : Out) (d : List ℕ) → Lent env.rooms (words clauses.old) (words atoms.old) d → Run run.now b → tables k.old (words clauses.old) (words atoms.old) d ≡ show k.old env.rooms s → after (done k.new result) (words clauses.new) (words atoms.new) d ≡ shown (λ _. 0) k.old env.rooms (push env b (head ∷ []) s) }
+    ensures good_answer { Good k.old → GoodAnswer (done k.new result) }
+    ensures kept_answer { KeptAnswer k.old (done k.new result) }
 {
     let first = k.atoms;
     let i = k.clauses as usize;
     let m = run.len() / 24;
     if read::clause_room(clauses) <= i {
-        return Answer::Refused(12);
+        return Err(Refusal::NoRoom);
     }
     if read::atom_room(atoms) <= first as usize + m {
-        return Answer::Refused(12);
+        return Err(Refusal::NoRoom);
     }
     let body = m as u32;
     words::copy_words(atoms, 6 * (first as usize), run);
     record::put_atom(atoms, first as usize + m, head);
     write::put_clause(clauses, i, first, body, 1);
-    Answer::Done(k.push(body + 1), 0)
+    k.push(body + 1);
+    Ok(())
 }
 
-pub fn defer(deferrals: &mut [u8], k: Counters, kind: Deferral) -> Answer
+pub fn defer(deferrals: &mut [u8], k: &mut Counters, kind: Deferral) -> Result<(), Refusal>
     requires { Sized 0 0 (length deferrals.old) }
-    ensures deferrals_after { (env : Env) (s : Out) (c a : List ℕ) → Lent env.rooms c a (words deferrals.old) → tables k c a (words deferrals.old) ≡ show k env.rooms s → after result c a (words deferrals.new) ≡ shown (λ _. 0) k env.rooms (defer env kind s) }
-    ensures good_answer { Good k → GoodAnswer result }
-    ensures kept_answer { KeptAnswer k result }
+    ensures deferrals_after { (env : Env) (s : Out) (c a : List ℕ) → Lent env.rooms c a (words deferrals.old) → tables k.old c a (words deferrals.old) ≡ show k.old env.rooms s → after (done k.new result) c a (words deferrals.new) ≡ shown (λ _. 0) k.old env.rooms (defer env kind s) }
+    ensures good_answer { Good k.old → GoodAnswer (done k.new result) }
+    ensures kept_answer { KeptAnswer k.old (done k.new result) }
 {
     let i = k.deferrals as usize;
     if read::deferral_room(deferrals) <= i {
-        return Answer::Refused(12);
+        return Err(Refusal::NoRoom);
     }
     write::put_deferral(deferrals, i, k.line, kind.kind());
-    Answer::Done(k.defer(), 0)
+    k.defer();
+    Ok(())
 }

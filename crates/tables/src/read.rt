@@ -41,7 +41,7 @@ pub fn first_atom(clauses: &[u8], i: u32) -> u32
     words::get_word(clauses, CLAUSE * (i as usize))
 }
 
-// The atoms of its body.
+// The atoms of its body. Each column of a record has its own function, whose name its contract's definition has.
 pub fn body_count(clauses: &[u8], i: u32) -> u32
     requires { 4 * (clause_words * i + clause_words) ≤ length clauses.now }
     ensures { result ≡ body_count (words clauses.now) i }

@@ -17,8 +17,7 @@ use Rattle.rules.specs.Statements.{Proper}
 use Rattle.deck.specs.declared.Refused.{Refused}
 use Rattle.deck.specs.declared.state.State.{State as Reader}
 use Rattle.deck.specs.Records.{known_in, told_of}
-use Rattle.ontology.specs.declared.load.Loaded.{Loaded}
-use Rattle.ontology.specs.declared.load.Loaded.TheVariants as Loads
+use Rattle.ontology.specs.Loads as Loads
 use Rattle.ontology.specs.Loads.{Holds, LoadedAs, loaded, stopped}
 use Rattle.states.specs.State.{State, StateTold, stated, bad, unread, read_state, is_individual_class, interpretation_of}
 use Rattle.states.specs.ProperLaws.{read_sound, read_proper}

@@ -20,7 +20,6 @@ use extents::Trial;
 use ir::counters::Counters;
 use layouts::Limits;
 use ontology::load;
-use ontology::load::Loaded;
 use sets::verdict::Broken;
 
 // In a state that is laid out.
@@ -69,7 +68,7 @@ pub fn judge(deck: &[u8], state: &[u8], store: &mut [u8], scratch: &mut [u8], fr
 {
     let m = opened::limits(deck, scratch, fresh);
     match load::load(deck, scratch, 0) {
-        Loaded::Accepted(k, n) => loaded(state, store, scratch, m, k, n),
-        Loaded::Refused(e, line) => Judged::Denied(e, line),
+        Ok((k, n)) => loaded(state, store, scratch, m, k, n),
+        Err(e) => Judged::Denied(e.refusal.number(), e.line),
     }
 }

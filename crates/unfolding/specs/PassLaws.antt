@@ -8,8 +8,8 @@ use Prim.Native.Nat.{ℕ, zero, suc, ◌+◌, ◌<◌, ◌≤◌}
 use native.Mathlib.Omega.{arith}
 use Rattle.std.proofs.Math.ListN.{length}
 use Rattle.ir.specs.declared.counters.Counters.{Counters}
-use Rattle.ir.specs.declared.answer.Answer.{Answer}
-use Rattle.ir.specs.declared.answer.Answer.TheVariants.{Done, Refused}
+use Rattle.ir.specs.Answer.{Answer}
+use Rattle.ir.specs.Answer.{Done, Refused}
 use Rattle.ir.specs.declared.atom.Atom.{Atom}
 use Rattle.rules.specs.Base.{Res, ok, then}
 use Rattle.rules.specs.State.{Env, Out, Clause, clause}
@@ -19,8 +19,8 @@ use Rattle.tables.specs.Drawn.{tables, show, shown, Lent}
 use Rattle.tables.specs.Good.{Alike}
 use Rattle.hands.specs.Hands.{Four}
 use Rattle.leaves.specs.StepLaws.{alike_then, show_alike}
-use Rattle.unfolding.specs.declared.unfold.Unfolded.{Unfolded}
-use Rattle.unfolding.specs.declared.unfold.Unfolded.TheVariants.{More, Capped, Refused as Refusal}
+use Rattle.unfolding.specs.Unfolding.{Unfolded}
+use Rattle.unfolding.specs.Unfolding.{More, Capped, Refused as Refusal}
 use Rattle.reflexive.specs.Flags.{FlagsHeld}
 use Rattle.contraction.specs.Passes.{Standing, Drawn, Passed}
 use Rattle.tables.specs.Tabled.{body_count, no_clause}

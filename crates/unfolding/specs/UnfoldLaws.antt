@@ -29,8 +29,8 @@ use Rattle.leaves.specs.StepLaws.{alike_same}
 use Rattle.contraction.specs.InHands.{ClauseInHand, HandThere}
 use Rattle.contraction.specs.Passes.{Standing}
 use Rattle.contraction.specs.PlainLaws.{plain_clause}
-use Rattle.unfolding.specs.declared.unfold.Unfolded.{Unfolded}
-use Rattle.unfolding.specs.declared.unfold.Unfolded.TheVariants.{More}
+use Rattle.unfolding.specs.Unfolding.{Unfolded}
+use Rattle.unfolding.specs.Unfolding.{More}
 use Rattle.unfolding.specs.Unfolding.{unfold_one, Counted, Stands, Follows, Moved, Unfolds, Between, Answered}
 use Rattle.unfolding.specs.ClauseLaws.{standing_at, standing_in, standing_placed}
 use Rattle.unfolding.specs.QueueLaws.{one_other}

@@ -12,13 +12,13 @@ use Rattle.rules.specs.State.{Env, Out, Clause, clause}
 use Rattle.rules.specs.Invariants.{Each, ClauseIn}
 use Rattle.rules.specs.Reflexive.{Derived, more, capped, go_on, unfold_body}
 use Rattle.rules.specs.Reflexive.{Unfolded as Turned}
-use Rattle.tables.specs.Drawn.{tables, show, after, Lent}
+use Rattle.tables.specs.Drawn.{tables, show, Lent}
 use Rattle.tables.specs.DrawnLaws.{clauses_count}
 use Rattle.tables.specs.Good.{Good}
 use Rattle.hands.specs.Hands.{Four, four}
 use Rattle.leaves.specs.StepLaws.{alike_same, alike_then, words_long, lent_kept}
-use Rattle.unfolding.specs.declared.unfold.Unfolded.{Unfolded}
-use Rattle.unfolding.specs.declared.unfold.Unfolded.TheVariants.{More, Capped, Refused as Refusal}
+use Rattle.unfolding.specs.Unfolding.{Unfolded}
+use Rattle.unfolding.specs.Unfolding.{More, Capped, Refused as Refusal}
 use Rattle.reflexive.specs.Flags.{FlagsHeld}
 use Rattle.tables.specs.Tabled.{body_count, no_clause}
 use Rattle.tables.specs.ClauseLaws.{clause_at}

@@ -27,6 +27,7 @@ pub fn count(scratch: &[u8]) -> u32
     words::get_word(scratch, LIMITS)
 }
 
+// Each column of a limit has its own function, by the name of the field.
 pub fn filler(scratch: &[u8], i: u32) -> u32
     requires { (4 * (limits_at + limits_words) ≤ length scratch.now) × (i < most_limits) }
     ensures { result ≡ (limit_in (words scratch.now) i).filler }

@@ -9,7 +9,7 @@ use Rattle.antecedents.proofs.encode_antecedent.Goals as goal
 
 pub returns : goal.returns
 returns c =
-    let k = c.args.k in
+    let k = c.args.k.now in
     let p = pool_of (words c.args.scratch.now) k.concepts in
     let r = c.encode_antecedent.ensures in (
       λ env f v z l C. r k.concepts f c.requires.1 l ∙ count_sum env p f k c.args.c v z C,

@@ -1,46 +1,57 @@
 use Rattle.clausifier.specs.AllLaws.{going_first, going_asks, going_next, going_stop, going_end}
+use Rattle.ir.specs.Answer.{Done, Refused}
+use Rattle.ir.specs.Refusals.{refusal_number}
 use native.Mathlib.Omega.{arith}
-use mathlib.Core.Path.{refl}
+use mathlib.Core.Path.{refl, ◌∙◌}
 use Prim.{tt}
-use Prim.Native.Nat.{◌+◌, ◌-◌}
+use Prim.Native.Nat.{◌+◌}
 use Rattle.clausifier.proofs.clausify_axioms.Goals as goal
 
 pub loop-i-init : goal.loop-i-init
 loop-i-init c =
-    going_first c.args.scratch.now c.args.clauses.now c.args.atoms.now c.args.deferrals.now c.args.n c.args.line c.args.k c.requires.0
+    let t = c.args.lent.now in
+    (going_first c.args.scratch.now t.clauses.now t.atoms.now t.deferrals.now c.args.n c.args.line t.counters c.requires.0, (refl, refl, refl, refl, refl, refl))
 
 pub overflow_add-here : goal.overflow_add-here
-overflow_add-here c =
-    omega (arith, c.requires.1.held.few, c.requires.3)
+overflow_add-here c = omega (arith, c.loop-i-test.true, c.requires.1.held.few, c.requires.3)
 
 pub clausify_whole-requires : goal.clausify_whole-requires
 clausify_whole-requires c =
-    let t = c.loop-i in
-    let q = going_asks c.args.scratch.now c.args.clauses.now c.args.atoms.now c.args.deferrals.now c.args.n c.args.line c.args.k c.requires.1 t.scratch t.clauses t.atoms t.deferrals t.l t.i t.invariant c.loop-i-test.true (c.args.line + t.i) refl c.at_line-at.result c.at_line-at.ensures c.requires.2 in
-    (q.0, q.1, q.2, record { clauses = omega (arith, t.invariant.clauses, c.requires.4.clauses); atoms = omega (arith, t.invariant.atoms, c.requires.4.atoms); deferrals = omega (arith, t.invariant.deferrals, c.requires.4.deferrals) })
+    let L = c.loop-i in
+    let t = c.args.lent.now in
+    going_asks c.args.scratch.now t.clauses.now t.atoms.now t.deferrals.now c.args.n c.args.line t.counters c.requires.1 L.scratch L.lent.clauses.now L.lent.atoms.now L.lent.deferrals.now L.lent.counters L.i L.invariant.0 c.loop-i-test.true (c.args.line + L.i) refl c.at_line.new.self c.at_line.ensures c.requires.2
 
-pub returns-in-Refused : goal.returns-in-Refused
-returns-in-Refused c =
-    let t = c.loop-i in
+pub returns-in-Err : goal.returns-in-Err
+returns-in-Err c =
+    let L = c.loop-i in
+    let S = L.invariant.1 in
+    let t = c.args.lent.now in
     let r = c.clausify_whole in
+    let R = r.ensures.references in
+    let e = refusal_number c.in-Err.refusal in
     record {
-      fact = going_stop c.args.scratch.now c.args.clauses.now c.args.atoms.now c.args.deferrals.now c.args.n c.args.line c.args.k c.requires.1 t.scratch t.clauses t.atoms t.deferrals t.l t.i t.invariant c.loop-i-test.true (c.args.line + t.i) refl c.at_line-at.result c.at_line-at.ensures _ _ _ _ r.auto.scratch r.auto.clauses r.auto.atoms r.auto.deferrals r.result r.ensures.fact _ c.in-Refused.is;
+      references = (R.0 ∙ S.0, R.1 ∙ S.1, R.2 ∙ S.2, R.3 ∙ S.3, R.4 ∙ S.4, R.5 ∙ S.5);
+      fact = going_stop c.args.scratch.now t.clauses.now t.atoms.now t.deferrals.now c.args.n c.args.line t.counters c.requires.1 L.scratch L.lent.clauses.now L.lent.atoms.now L.lent.deferrals.now L.lent.counters L.i L.invariant.0 c.loop-i-test.true (c.args.line + L.i) refl c.at_line.new.self c.at_line.ensures _ _ _ _ r.auto.scratch R.3 R.4 R.5 (Refused e) c.in-Err.ensures.fact e refl;
       clausifying_lined = tt;
     }
 
-pub overflow_add-i : goal.overflow_add-i
-overflow_add-i c =
-    omega (arith, c.loop-i-test.true, c.requires.1.held.few)
-
 pub loop-i-preserved : goal.loop-i-preserved
 loop-i-preserved c =
-    let t = c.loop-i in
+    let L = c.loop-i in
+    let S = L.invariant.1 in
+    let t = c.args.lent.now in
     let r = c.clausify_whole in
-    going_next c.args.scratch.now c.args.clauses.now c.args.atoms.now c.args.deferrals.now c.args.n c.args.line c.args.k c.requires.1 t.scratch t.clauses t.atoms t.deferrals t.l t.i t.invariant c.loop-i-test.true (c.args.line + t.i) refl c.at_line-at.result c.at_line-at.ensures _ _ _ _ r.auto.scratch r.auto.clauses r.auto.atoms r.auto.deferrals r.result r.ensures.fact _ _ c.in-Done.is r.ensures.clausifying_after
+    let R = r.ensures.references in
+    let E = c.in_default.ensures in (
+      going_next c.args.scratch.now t.clauses.now t.atoms.now t.deferrals.now c.args.n c.args.line t.counters c.requires.1 L.scratch L.lent.clauses.now L.lent.atoms.now L.lent.deferrals.now L.lent.counters L.i L.invariant.0 c.loop-i-test.true (c.args.line + L.i) refl c.at_line.new.self c.at_line.ensures _ _ _ _ r.auto.scratch R.3 R.4 R.5 (Done r.new.lent.counters 0) E.fact r.new.lent.counters 0 refl E.clausifying_after,
+      (R.0 ∙ S.0, R.1 ∙ S.1, R.2 ∙ S.2, R.3 ∙ S.3, R.4 ∙ S.4, R.5 ∙ S.5),
+    )
 
 pub returns : goal.returns
 returns c =
-    let t = c.loop-i in record {
-      fact = going_end c.args.scratch.now c.args.clauses.now c.args.atoms.now c.args.deferrals.now c.args.n c.args.line c.args.k c.requires.1 t.scratch t.clauses t.atoms t.deferrals t.l t.i t.invariant c.loop-i-test.false;
-      clausifying_lined = t.invariant.ready;
+    let L = c.loop-i in
+    let t = c.args.lent.now in record {
+      references = L.invariant.1;
+      fact = going_end c.args.scratch.now t.clauses.now t.atoms.now t.deferrals.now c.args.n c.args.line t.counters c.requires.1 L.scratch L.lent.clauses.now L.lent.atoms.now L.lent.deferrals.now L.lent.counters L.i L.invariant.0 c.loop-i-test.false;
+      clausifying_lined = L.invariant.0.ready;
     }

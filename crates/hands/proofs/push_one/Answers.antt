@@ -5,8 +5,8 @@ use lib.ListN.{length}
 use Rattle.hands.specs.HandLaws.{hand_run}
 use Rattle.hands.proofs.push_one.Goals as goal
 
-pub returns : goal.returns
-returns c =
+pub returns-clause-did : goal.returns-clause-did
+returns-clause-did c =
     let q = c.push_headed.ensures in
     let fits : 24 * (c.args.base + c.args.n) ≤ length c.args.scratch.now = omega (arith, c.requires.1) in
     λ d. record {
@@ -14,6 +14,6 @@ returns c =
           q.d_after env b s d E.lent
           (hand_run c.args.base c.args.n c.args.scratch.now b _ refl fits i) t;
       frame = refl;
-      good = q.good_answer c.requires.3;
+      good = q.good_answer c.requires.2;
       kept = q.kept_answer;
     }

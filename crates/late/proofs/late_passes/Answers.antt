@@ -1,65 +1,73 @@
-use mathlib.Core.Path.{◌∙◌}
+use mathlib.Core.Path.{refl}
 use native.Mathlib.Omega.{arith}
+use Rattle.std.proofs.lemmas.Result.{err_from_is_err_and}
 use Rattle.words.specs.Words.{words}
+use Rattle.ir.specs.Answer.{Done, Refused, answer}
+use Rattle.ir.specs.Refusals.{refusal_number}
 use Rattle.leaves.specs.StepLaws.{words_long}
 use Rattle.late.specs.LaterLaws.{later_flagged, late_decomposing, late_done, late_refused}
 use Rattle.late.proofs.late_passes.Goals as goal
 
 pub reflexive_passes-requires : goal.reflexive_passes-requires
 reflexive_passes-requires c =
-    let a = c.args in
-    let L = c.requires.0 in
+    let t = c.args.lent.now in
+    let C = words t.clauses.now in
+    let A = words t.atoms.now in
+    let D = words t.deferrals.now in
+    let L = c.requires in
     let i = c.reflexive_role_ids-size in
-    (later_flagged a.scratch.now a.k a.n (words a.clauses.now) (words a.atoms.now) (words a.deferrals.now) L i.new.scratch i.result i.auto.scratch (i.ensures.flags_held L.env L.map), c.requires.1)
+    later_flagged c.args.scratch.now t.counters c.args.n C A D L i.new.scratch i.result i.auto.scratch (i.ensures.flags_held L.env L.map)
+
+pub returns-in_err-reflexive_passes-clause-did : goal.returns-in_err-reflexive_passes-clause-did
+returns-in_err-reflexive_passes-clause-did c =
+    let p = err_from_is_err_and c.from_residual.result c.from_residual.ensures.1 in
+    let t = c.args.lent.now in
+    let C = words t.clauses.now in
+    let A = words t.atoms.now in
+    let D = words t.deferrals.now in
+    let i = c.reflexive_role_ids-size in
+    let m = c.reflexive_passes in
+    let n = m.new.lent in
+    let C' = words n.clauses.now in
+    let A' = words n.atoms.now in
+    let D' = words n.deferrals.now in
+    let R = m.ensures.references in
+    rw (p.1, p.2) (λ L.
+    let F = later_flagged c.args.scratch.now t.counters c.args.n C A D L i.new.scratch i.result i.auto.scratch (i.ensures.flags_held L.env L.map) in
+    late_refused c.args.scratch.now t.counters c.args.n C A D L (Refused (refusal_number c.in_err-reflexive_passes.field-0.0)) C' A' D' (c.in_err-reflexive_passes.ensures.did F) _ refl)
 
 pub decomposed-requires : goal.decomposed-requires
 decomposed-requires c =
-    let a = c.args in
-    let L = c.requires.0 in
-    let C = words a.clauses.now in
-    let A = words a.atoms.now in
-    let D = words a.deferrals.now in
+    let t = c.args.lent.now in
+    let C = words t.clauses.now in
+    let A = words t.atoms.now in
+    let D = words t.deferrals.now in
     let i = c.reflexive_role_ids-size in
     let m = c.reflexive_passes in
-    let F = later_flagged a.scratch.now a.k a.n C A D L i.new.scratch i.result i.auto.scratch (i.ensures.flags_held L.env L.map) in (
-      late_decomposing a.scratch.now a.k a.n C A D L m.result (words m.new.clauses) (words m.new.atoms) (words m.new.deferrals) (m.ensures F) c.in-Done.l c.in-Done.field-1 c.in-Done.is
-          (words_long a.clauses.now m.new.clauses m.auto.clauses) (words_long a.atoms.now m.new.atoms m.auto.atoms) (words_long a.deferrals.now m.new.deferrals m.auto.deferrals),
-      omega (arith, L.space, i.auto.scratch, m.auto.scratch),
-      record { clauses = omega (arith, c.requires.1.clauses, m.auto.clauses); atoms = omega (arith, c.requires.1.atoms, m.auto.atoms); deferrals = omega arith },
-    )
+    let n = m.new.lent in
+    let C' = words n.clauses.now in
+    let A' = words n.atoms.now in
+    let D' = words n.deferrals.now in
+    let R = m.ensures.references in
+    let L = c.requires in
+    let F = later_flagged c.args.scratch.now t.counters c.args.n C A D L i.new.scratch i.result i.auto.scratch (i.ensures.flags_held L.env L.map) in
+    (late_decomposing c.args.scratch.now t.counters c.args.n C A D L (Done n.counters 0) C' A' D' (c.in_ok-reflexive_passes.ensures.did F) n.counters 0 refl (words_long t.clauses.now n.clauses.now R.3) (words_long t.atoms.now n.atoms.now R.4) (words_long t.deferrals.now n.deferrals.now R.5), omega (arith, L.space, i.auto.scratch, m.auto.scratch))
 
-pub shape_of-scratch-in-Done : goal.shape_of-scratch-in-Done
-shape_of-scratch-in-Done c =
-    c.decomposed.auto.scratch ∙ c.reflexive_passes.auto.scratch ∙ c.reflexive_role_ids-size.auto.scratch
-
-pub returns-in-Done : goal.returns-in-Done
-returns-in-Done c =
-    let a = c.args in
-    let C = words a.clauses.now in
-    let A = words a.atoms.now in
-    let D = words a.deferrals.now in
+pub returns-clause-did : goal.returns-clause-did
+returns-clause-did c =
+    let t = c.args.lent.now in
+    let C = words t.clauses.now in
+    let A = words t.atoms.now in
+    let D = words t.deferrals.now in
     let i = c.reflexive_role_ids-size in
     let m = c.reflexive_passes in
+    let n = m.new.lent in
+    let C' = words n.clauses.now in
+    let A' = words n.atoms.now in
+    let D' = words n.deferrals.now in
+    let R = m.ensures.references in
     let q = c.decomposed in
-    let C' = words m.new.clauses in
-    let A' = words m.new.atoms in
-    let D' = words m.new.deferrals in
-    let ec = words_long a.clauses.now m.new.clauses m.auto.clauses in
-    let ea = words_long a.atoms.now m.new.atoms m.auto.atoms in
-    let ed = words_long a.deferrals.now m.new.deferrals m.auto.deferrals in
-    λ L.
-    let F = later_flagged a.scratch.now a.k a.n C A D L i.new.scratch i.result i.auto.scratch (i.ensures.flags_held L.env L.map) in
-    let X = late_decomposing a.scratch.now a.k a.n C A D L m.result C' A' D' (m.ensures F) c.in-Done.l c.in-Done.field-1 c.in-Done.is ec ea ed in
-    late_done a.scratch.now a.k a.n C A D L m.result C' A' D' (m.ensures F) c.in-Done.l c.in-Done.field-1 c.in-Done.is ec ea ed (words q.new.clauses) (words q.new.atoms) q.result (q.ensures X)
-
-pub returns-in-Refused : goal.returns-in-Refused
-returns-in-Refused c =
-    let a = c.args in
-    let C = words a.clauses.now in
-    let A = words a.atoms.now in
-    let D = words a.deferrals.now in
-    let i = c.reflexive_role_ids-size in
-    let m = c.reflexive_passes in
-    λ L.
-    let F = later_flagged a.scratch.now a.k a.n C A D L i.new.scratch i.result i.auto.scratch (i.ensures.flags_held L.env L.map) in
-    late_refused a.scratch.now a.k a.n C A D L m.result (words m.new.clauses) (words m.new.atoms) (words m.new.deferrals) (m.ensures F) c.in-Refused.e c.in-Refused.is
+    rw q.ensures.deferrals (λ L.
+    let F = later_flagged c.args.scratch.now t.counters c.args.n C A D L i.new.scratch i.result i.auto.scratch (i.ensures.flags_held L.env L.map) in
+    let X = late_decomposing c.args.scratch.now t.counters c.args.n C A D L (Done n.counters 0) C' A' D' (c.in_ok-reflexive_passes.ensures.did F) n.counters 0 refl (words_long t.clauses.now n.clauses.now R.3) (words_long t.atoms.now n.atoms.now R.4) (words_long t.deferrals.now n.deferrals.now R.5) in
+    late_done c.args.scratch.now t.counters c.args.n C A D L (Done n.counters 0) C' A' D' (c.in_ok-reflexive_passes.ensures.did F) n.counters 0 refl (words_long t.clauses.now n.clauses.now R.3) (words_long t.atoms.now n.atoms.now R.4) (words_long t.deferrals.now n.deferrals.now R.5) (words q.new.lent.clauses.now) (words q.new.lent.atoms.now) (answer q.new.lent.counters q.result) (q.ensures.did X))

@@ -1,23 +1,25 @@
 use Rattle.words.specs.Words.{words}
 use Rattle.run.specs.LateLaws.{later_at}
-use Rattle.run.specs.RunLaws.{ran_done, ran_refused}
+use Rattle.run.specs.RunLaws.{ran_as}
 use Rattle.run.proofs.run_late.Goals as goal
 
 pub late_passes-requires : goal.late_passes-requires
 late_passes-requires c =
-    let a = c.args in
-    (later_at a.scratch.now a.k a.n a.first (words a.clauses.now) (words a.atoms.now) (words a.deferrals.now) c.requires.0 c.at_line.result c.at_line.ensures, c.requires.1)
+    let t = c.args.lent.now in
+    later_at c.args.scratch.now t.counters c.args.n c.args.first (words t.clauses.now) (words t.atoms.now) (words t.deferrals.now) c.requires c.at_line.new.self c.at_line.ensures
 
-pub returns-in-Done : goal.returns-in-Done
-returns-in-Done c = λ B.
-    let a = c.args in
-    let t = c.at_line in
+pub returns-in-Ok-clause-did : goal.returns-in-Ok-clause-did
+returns-in-Ok-clause-did c = λ B.
+    let t = c.args.lent.now in
+    let l = c.at_line in
     let m = c.late_passes in
-    ran_done a.scratch.now a.k a.n a.first (words a.clauses.now) (words a.atoms.now) (words a.deferrals.now) B t.result t.ensures (words m.new.clauses) (words m.new.atoms) (words m.new.deferrals) m.result m.ensures c.in-Done.l c.in-Done.m c.in-Done.is
+    let u = m.new.lent in
+    rw c.in-Ok.is at (ran_as c.args.scratch.now t.counters c.args.n c.args.first (words t.clauses.now) (words t.atoms.now) (words t.deferrals.now) B l.new.self l.ensures (words u.clauses.now) (words u.atoms.now) (words u.deferrals.now) u.counters m.result m.ensures.did)
 
-pub returns-in-Refused : goal.returns-in-Refused
-returns-in-Refused c = λ B.
-    let a = c.args in
-    let t = c.at_line in
+pub returns-in-Err-clause-did : goal.returns-in-Err-clause-did
+returns-in-Err-clause-did c = λ B.
+    let t = c.args.lent.now in
+    let l = c.at_line in
     let m = c.late_passes in
-    ran_refused a.scratch.now a.k a.n a.first (words a.clauses.now) (words a.atoms.now) (words a.deferrals.now) B t.result t.ensures (words m.new.clauses) (words m.new.atoms) (words m.new.deferrals) m.result m.ensures c.in-Refused.e c.in-Refused.is
+    let u = m.new.lent in
+    rw c.in-Err.is at (ran_as c.args.scratch.now t.counters c.args.n c.args.first (words t.clauses.now) (words t.atoms.now) (words t.deferrals.now) B l.new.self l.ensures (words u.clauses.now) (words u.atoms.now) (words u.deferrals.now) u.counters m.result m.ensures.did)

@@ -1,35 +1,33 @@
 use native.Mathlib.Omega.{arith}
+use Rattle.std.proofs.lemmas.Result.{err_from_is_err_and}
 use Rattle.words.specs.Words.{words}
-use Rattle.staging.specs.StageLaws.{staged_is, staged_no}
 use Rattle.run.specs.LateLaws.{before_of}
 use Rattle.run.specs.RunLaws.{ran_stopped}
 use Rattle.run.proofs.run_loaded.Goals as goal
 
 pub clausify_deck-requires : goal.clausify_deck-requires
-clausify_deck-requires c = (c.requires.0, c.requires.2, c.requires.3)
+clausify_deck-requires c = (c.requires.0, c.requires.2)
+
+pub returns-in_err-clausify_deck-clause-did : goal.returns-in_err-clausify_deck-clause-did
+returns-in_err-clausify_deck-clause-did c =
+    let p = err_from_is_err_and c.from_residual.result c.from_residual.ensures.1 in
+    let u = c.clausify_deck.new.lent in
+    rw (p.1, p.2) (λ P rooms B. ran_stopped P.limit rooms P.known (words u.clauses.now) (words u.atoms.now) (words u.deferrals.now) c.in_err-clausify_deck.field-0.0 (c.in_err-clausify_deck.ensures.did P rooms B))
 
 pub run_late-requires : goal.run_late-requires
 run_late-requires c =
-    let a = c.args in
+    let t = c.args.lent.now in
     let P = c.requires.0 in
     let rooms = c.requires.2.0 in
     let m = c.clausify_deck in
-    let S = staged_is P.limit rooms P.known m.new.scratch a.n (words m.new.clauses) (words m.new.atoms) (words m.new.deferrals) m.result (m.ensures P rooms c.requires.2.1) c.in-Finished.v c.in-Finished.is in (
-      before_of a.scratch.now a.k a.n P rooms m.new.scratch c.in-Finished.v (words m.new.clauses) (words m.new.atoms) (words m.new.deferrals) S (omega (arith, c.requires.1, m.auto.scratch)),
-      record { clauses = omega (arith, c.requires.3.clauses, m.auto.clauses); atoms = omega (arith, c.requires.3.atoms, m.auto.atoms); deferrals = omega (arith, c.requires.3.deferrals, m.auto.deferrals) },
-    )
+    let u = m.new.lent in
+    let S = c.in_ok-clausify_deck.ensures.did P rooms c.requires.2.1 in
+    before_of c.args.scratch.now t.counters c.args.n P rooms m.new.scratch u.counters (words u.clauses.now) (words u.atoms.now) (words u.deferrals.now) S (omega (arith, c.requires.1, m.auto.scratch))
 
-pub returns-in-Finished : goal.returns-in-Finished
-returns-in-Finished c = λ P rooms B.
-    let a = c.args in
+pub returns-clause-did : goal.returns-clause-did
+returns-clause-did c = λ P rooms B.
+    let t = c.args.lent.now in
     let m = c.clausify_deck in
-    let q = c.run_late in
-    let S = staged_is P.limit rooms P.known m.new.scratch a.n (words m.new.clauses) (words m.new.atoms) (words m.new.deferrals) m.result (m.ensures P rooms B) c.in-Finished.v c.in-Finished.is in
-    q.ensures (before_of a.scratch.now a.k a.n P rooms m.new.scratch c.in-Finished.v (words m.new.clauses) (words m.new.atoms) (words m.new.deferrals) S (omega (arith, c.requires.1, m.auto.scratch)))
-
-pub returns-in-Stopped : goal.returns-in-Stopped
-returns-in-Stopped c = λ P rooms B.
-    let a = c.args in
-    let m = c.clausify_deck in
-    let e = staged_no P.limit rooms P.known m.new.scratch a.n (words m.new.clauses) (words m.new.atoms) (words m.new.deferrals) m.result (m.ensures P rooms B) c.in-Stopped.e c.in-Stopped.line c.in-Stopped.is in
-    ran_stopped P.limit rooms P.known (words m.new.clauses) (words m.new.atoms) (words m.new.deferrals) c.in-Stopped.e c.in-Stopped.line e
+    let u = m.new.lent in
+    let S = c.in_ok-clausify_deck.ensures.did P rooms B in
+    c.run_late.ensures.did (before_of c.args.scratch.now t.counters c.args.n P rooms m.new.scratch u.counters (words u.clauses.now) (words u.atoms.now) (words u.deferrals.now) S (omega (arith, c.requires.1, m.auto.scratch)))

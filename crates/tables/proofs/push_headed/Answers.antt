@@ -35,7 +35,7 @@ returns c =
       d_after = λ env b s d l X e.
           let j = length-append b (a.head ∷ []) in
           push_after env _ s _ _ d e b (a.head ∷ []) _ _ _ _ _ _ _ (omega (arith, l.clauses, c.clause_room.ensures, length_words a.clauses.now)) (omega (arith, l.atoms, c.atom_room.ensures, length_words a.atoms.now)) (omega (arith, X.long)) (omega (arith, X.long)) (omega arith) refl c.push.ensures c.put_clause.ensures
-          (headed_stores (words a.atoms.now) (words c.copy_words.new.s) (words c.put_atom.new.t) (words a.run.now) a.k.atoms _ b a.head X.are (omega (arith, X.long)) c.copy_words.ensures c.put_atom.ensures);
+          (headed_stores (words a.atoms.now) (words c.copy_words.new.s) (words c.put_atom.new.t) (words a.run.now) a.k.now.atoms _ b a.head X.are (omega (arith, X.long)) c.copy_words.ensures c.put_atom.ensures);
       good_answer = λ g. good_same _ _ (ap (λ (x : Counters). x.limit) c.push.ensures) (ap (λ (x : Counters). x.visits) c.push.ensures) (ap (λ (x : Counters). x.next_var) c.push.ensures) (ap (λ (x : Counters). x.next_class) c.push.ensures) g;
       kept_answer = alike_step _ _ (pushed _) c.push.ensures refl refl refl refl;
     }

@@ -1,5 +1,6 @@
-use Rattle.std.proofs.Common.{◌+◌, ◌-◌, ◌*◌}
+use Rattle.std.proofs.Common.{◌+◌, ◌*◌}
 use Rattle.words.specs.Words.{words}
+use Rattle.ir.specs.Encoded.{Found}
 use Rattle.antecedents.proofs.Counting.{Turn}
 use Rattle.antecedents.proofs.count.+encode_antecedent_encode_parts.Given as goal
 
@@ -10,7 +11,4 @@ abbrev pub decreases-encode_parts : goal.decreases-encode_parts
 decreases-encode_parts l = l.c * 2
 
 abbrev pub invariant-encode_parts-loop-i : goal.invariant-encode_parts-loop-i
-invariant-encode_parts-loop-i l = Turn (words l.scratch) l.both l.c l.start l.many l.initial.acc l.acc l.i
-
-abbrev pub decreases-encode_parts-loop-i : goal.decreases-encode_parts-loop-i
-decreases-encode_parts-loop-i l = l.many - l.i
+invariant-encode_parts-loop-i l = Turn (words l.scratch) l.both l.c l.start l.many (Found l.initial.k l.first 0) (Found l.k l.acc.count l.acc.longest) l.i

@@ -1,11 +1,8 @@
-use Rattle.antecedents.proofs.Combined.{listed_many, listed_right, listed_left}
+use Rattle.antecedents.proofs.Combined.{listed_many, listed_found}
 use Rattle.antecedents.proofs.numbers.list_numbers.Goals as goal
 
-pub returns-then-many-gt-CAP : goal.returns-then-many-gt-CAP
-returns-then-many-gt-CAP c = listed_many _ _ c.args.l _ c.args.j _ _ c.wide.ensures c.wide-2.ensures c.if-many-gt-CAP.true
-
-pub returns-then-l-j : goal.returns-then-l-j
-returns-then-l-j c = listed_right _ _ _ _ _ _ _ c.wide.ensures c.wide-2.ensures c.if-many-gt-CAP.false c.if-l-j.true
+pub returns-then-count-gt-CAP : goal.returns-then-count-gt-CAP
+returns-then-count-gt-CAP c = let A = c.args in λ k. listed_many k A.a.count A.a.longest A.b.count A.b.longest c.saturating_add-count.result c.saturating_add-count.ensures c.if-count-gt-CAP.true
 
 pub returns : goal.returns
-returns c = listed_left _ _ _ _ _ _ _ c.wide.ensures c.wide-2.ensures c.if-many-gt-CAP.false c.if-l-j.false
+returns c = let A = c.args in λ k. listed_found k A.a.count A.a.longest A.b.count A.b.longest c.saturating_add-count.result c.saturating_add-count.ensures c.if-count-gt-CAP.false _ c.max-longest.ensures

@@ -1,10 +1,6 @@
-use Prim.Native.Nat.{◌-◌}
 use Rattle.words.specs.Words.{words}
 use Rattle.antecedents.proofs.Rows.{Turn}
 use Rattle.antecedents.proofs.table.list_row.Given as goal
 
 abbrev pub invariant-loop-i : goal.invariant-loop-i
 invariant-loop-i l = Turn (words l.scratch) l.both l.start l.many l.first l.size l.vars l.i
-
-abbrev pub decreases-loop-i : goal.decreases-loop-i
-decreases-loop-i l = l.many - l.i

@@ -55,7 +55,7 @@ returns-in-8 c =
 pub returns-in-9 : goal.returns-in-9
 returns-in-9 c =
     let h : Here (words c.args.scratch.now) c.args.c c.kind-kind.result c.number-a.result c.child-b.result = record { kind_is = c.kind-kind.ensures; a_is = c.number-a.ensures; b_is = c.child-b.ensures } in
-    row_some _ _ _ _ _ h c.in-9.is _ _ _ c.size_of-size.ensures c.vars_of.ensures c.plus-vars.ensures
+    row_some _ _ _ _ _ h c.in-9.is _ _ _ c.size_of-size.ensures c.vars_of.ensures c.saturating_add-vars.ensures
 
 pub returns-in_default : goal.returns-in_default
 returns-in_default c =

@@ -29,8 +29,8 @@ write_one-write_parts-requires t c =
     let L : Listed (words c.args.scratch.now) c.args.c c.child-b.result c.number-a.result = list_of_lem _ _ _ _ (writable_stands _ _ _ c.requires.0) c.kind-kind.ensures c.child-b.ensures _ c.number-a.ensures (rw c.in-7.is refl) in
     (omega arith, (c.requires.0, c.requires.1, L))
 
-pub write_one-disjunct-q-requires : goal.write_one-disjunct-q-requires
-write_one-disjunct-q-requires t c =
+pub write_one-disjunct-requires : goal.write_one-disjunct-requires
+write_one-disjunct-requires t c =
     let S = c.requires.0 in
     let L : Listed (words c.args.scratch.now) c.args.c c.child-b.result c.number-a.result = list_of_lem _ _ _ _ (writable_stands _ _ _ c.requires.0) c.kind-kind.ensures c.child-b.ensures _ c.number-a.ensures (rw c.in-8.is refl) in
     (omega (arith, S.inside, S.held.few), omega (arith, S.room), L)
@@ -39,7 +39,7 @@ pub write_one-write_one-requires : goal.write_one-write_one-requires
 write_one-write_one-requires t c =
     let m : c.args.c * 2 + 1 ≡ t = c.decreases in
     let L : Listed (words c.args.scratch.now) c.args.c c.child-b.result c.number-a.result = list_of_lem _ _ _ _ (writable_stands _ _ _ c.requires.0) c.kind-kind.ensures c.child-b.ensures _ c.number-a.ensures (rw c.in-8.is refl) in
-    let x : c.in-One.x < c.args.c = chosen_below _ _ _ _ _ _ _ _ _ _ L c.disjunct-q.ensures c.in-One.is in
+    let x : c.in-Some.q.id < c.args.c = chosen_below _ _ _ _ _ _ _ _ L c.disjunct.ensures c.in-Some.is in
     (omega arith, (writable_below _ _ _ c.requires.0 _ x, c.requires.1))
 
 pub write_one-put_role-p-requires : goal.write_one-put_role-p-requires
@@ -75,23 +75,23 @@ write_one-returns-in-7 t c =
     let h : Here (words c.args.scratch.now) c.args.c c.kind-kind.result c.number-a.result c.child-b.result = record { kind_is = c.kind-kind.ensures; a_is = c.number-a.ensures; b_is = c.child-b.ensures } in
     is_and _ _ _ _ _ _ h _ _ _ _ c.in-7.is _ _ c.write_parts.ensures
 
-pub write_one-returns-in-One : goal.write_one-returns-in-One
-write_one-returns-in-One t c =
+pub write_one-returns-in-Some : goal.write_one-returns-in-Some
+write_one-returns-in-Some t c =
     let h : Here (words c.args.scratch.now) c.args.c c.kind-kind.result c.number-a.result c.child-b.result = record { kind_is = c.kind-kind.ensures; a_is = c.number-a.ensures; b_is = c.child-b.ensures } in
     let L : Listed (words c.args.scratch.now) c.args.c c.child-b.result c.number-a.result = list_of_lem _ _ _ _ (writable_stands _ _ _ c.requires.0) c.kind-kind.ensures c.child-b.ensures _ c.number-a.ensures (rw c.in-8.is refl) in
-    is_one_lem _ _ _ _ _ _ h _ _ _ _ c.in-8.is L _ c.disjunct-q.ensures _ _ _ c.in-One.is _ _ c.write_one.ensures
+    is_one_lem _ _ _ _ _ _ h _ _ _ _ c.in-8.is L _ c.disjunct.ensures _ c.in-Some.is _ _ c.write_one.ensures
 
-pub write_one-returns-in-Nothing : goal.write_one-returns-in-Nothing
-write_one-returns-in-Nothing t c =
+pub write_one-returns-in-None : goal.write_one-returns-in-None
+write_one-returns-in-None t c =
     let h : Here (words c.args.scratch.now) c.args.c c.kind-kind.result c.number-a.result c.child-b.result = record { kind_is = c.kind-kind.ensures; a_is = c.number-a.ensures; b_is = c.child-b.ensures } in
     let L : Listed (words c.args.scratch.now) c.args.c c.child-b.result c.number-a.result = list_of_lem _ _ _ _ (writable_stands _ _ _ c.requires.0) c.kind-kind.ensures c.child-b.ensures _ c.number-a.ensures (rw c.in-8.is refl) in
-    is_nothing _ _ _ _ _ _ h _ _ _ _ c.in-8.is L _ c.disjunct-q.ensures c.in-Nothing.is
+    is_nothing _ _ _ _ _ _ h _ _ _ _ c.in-8.is L _ c.disjunct.ensures c.in-None.is
 
 pub write_one-returns-in-9 : goal.write_one-returns-in-9
 write_one-returns-in-9 t c =
     let h : Here (words c.args.scratch.now) c.args.c c.kind-kind.result c.number-a.result c.child-b.result = record { kind_is = c.kind-kind.ensures; a_is = c.number-a.ensures; b_is = c.child-b.ensures } in
     let d : c.child-b.result < c.args.c = down_of _ _ _ _ (writable_stands _ _ _ c.requires.0) c.kind-kind.ensures c.child-b.ensures c.in-9.is in
-    is_some_lem _ _ _ _ _ _ h _ _ _ _ c.in-9.is c.requires.1 d _ _ c.put_role-p.ensures _ c.plus-w.ensures _ _ c.write_one-in-9.ensures
+    is_some_lem _ _ _ _ _ _ h _ _ _ _ c.in-9.is c.requires.1 d _ _ c.put_role-p.ensures _ c.saturating_add-w.ensures _ _ c.write_one-in-9.ensures
 
 pub write_one-returns-in_default : goal.write_one-returns-in_default
 write_one-returns-in_default t c =

@@ -6,8 +6,8 @@ use Rattle.antecedents.proofs.write.disjunct.Goals as goal
 pub loop-i-init : goal.loop-i-init
 loop-i-init c = look_first _ _ _ _ _
 
-pub overflow_add-at : goal.overflow_add-at
-overflow_add-at c = let r = c.requires.2.within in let l = c.loop-i-test.true in omega arith
+pub overflow_add-start : goal.overflow_add-start
+overflow_add-start c = let r = c.requires.2.within in let l = c.loop-i-test.true in omega arith
 
 pub member-x-requires : goal.member-x-requires
 member-x-requires c = let r = c.requires.2.within in let l = c.loop-i-test.true in (omega arith, omega (arith, c.requires.1))
@@ -28,7 +28,7 @@ vars_of-requires c =
 
 pub loop-i-preserved : goal.loop-i-preserved
 loop-i-preserved c =
-    look_next _ _ _ _ _ _ _ _ c.loop-i.invariant _ _ c.member-x.ensures c.size_of-size.ensures c.loop-i-test.true c.if-j-size.false _ _ c.vars_of.ensures c.plus-w.ensures
+    look_next _ _ _ _ _ _ _ _ c.loop-i.invariant _ _ c.member-x.ensures c.size_of-size.ensures c.loop-i-test.true c.if-j-size.false _ _ c.vars_of.ensures c.saturating_add-w.ensures
 
 pub returns : goal.returns
 returns c = look_end _ _ _ _ _ _ _ _ c.loop-i.invariant c.loop-i-test.false

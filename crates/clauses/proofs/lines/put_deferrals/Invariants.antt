@@ -1,4 +1,3 @@
-use Prim.Native.Nat.{◌-◌, ◌≤◌}
 use Rattle.words.specs.Words.{words}
 use Rattle.rows.specs.Rows.{texts_of, texts_left}
 use Rattle.rows.specs.RowLaws.{Left}

@@ -15,13 +15,13 @@ narrow_atom-requires c =
     let A = c.args in
     let R = c.requires.1 in
     there_nth A.size A.v A.text.now A.store.now A.scratch.now R.list A.i _ (run_within A.run.now A.i R.list R.are c.requires.0)
-    (read_nth A.run.now A.i R.list R.are c.requires.0 c.get_atom.result c.get_atom.ensures _ c.in-Atom.is) R.there
+    (read_nth A.run.now A.i R.list R.are c.requires.0 c.get_atom.result c.get_atom.ensures _ c.in-Some.is) R.there
 
 pub returns : goal.returns
 returns c =
     let A = c.args in record {
       tables = (λ I roles vs l one two R M T.
-          let e = read_nth A.run.now A.i l R c.requires.0 c.get_atom.result c.get_atom.ensures _ c.in-Atom.is in
+          let e = read_nth A.run.now A.i l R c.requires.0 c.get_atom.result c.get_atom.ensures _ c.in-Some.is in
           let h = run_within A.run.now A.i l R c.requires.0 in
           tables_nth I vs A.head A.size A.v.n _ (get_or l A.i no_atom) one two _ e
           (c.narrow_atom.ensures.tables I roles vs one two

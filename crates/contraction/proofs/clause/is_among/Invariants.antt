@@ -1,7 +1,7 @@
 use mathlib.Core.Path.{◌≡◌}
-use mathlib.Core.Bool.{true, false}
+use mathlib.Core.Bool.{false}
 use mathlib.Core.List.{List}
-use Prim.Native.Nat.{◌-◌, ◌<◌, ◌≤◌}
+use Prim.Native.Nat.{◌≤◌}
 use lib.ListN.{drop}
 use Rattle.words.specs.Words.{words}
 use Rattle.rules.specs.Base.{any}
@@ -9,11 +9,7 @@ use Rattle.rules.specs.State.{Clause}
 use Rattle.rules.specs.Reflexive.{same_clause}
 use Rattle.tables.specs.Tabled.{Tabled}
 use Rattle.contraction.specs.InHands.{ClauseInHand}
-use Rattle.contraction.specs.Sizes.{has_size}
 use Rattle.contraction.proofs.clause.is_among.Given as goal
 
 abbrev pub invariant-loop-c : goal.invariant-loop-c
-invariant-loop-c now = (now.from ≤ now.c) × (now.c ≤ now.to) × (now.from < now.c → has_size (words now.clauses) now.nb now.nh (now.c - 1) ≡ true) × ((l : List Clause) (x : Clause) → Tabled (words now.clauses) (words now.atoms) now.to l → ClauseInHand (words now.scratch) now.nb now.nh x → any (same_clause x) (drop now.c l) ≡ false)
-
-abbrev pub decreases-loop-c : goal.decreases-loop-c
-decreases-loop-c l = l.c
+invariant-loop-c now = (now.from ≤ now.c) × ((l : List Clause) (x : Clause) → Tabled (words now.clauses) (words now.atoms) now.to l → ClauseInHand (words now.scratch) now.nb now.nh x → any (same_clause x) (drop now.c l) ≡ false)

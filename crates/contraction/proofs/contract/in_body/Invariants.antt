@@ -1,6 +1,6 @@
 use mathlib.Core.Path.{◌≡◌}
 use mathlib.Core.List.{List}
-use Prim.Native.Nat.{◌*◌, ◌-◌}
+use Prim.Native.Nat.{◌*◌}
 use lib.ListN.{length, drop}
 use Rattle.words.specs.Words.{words}
 use Rattle.ir.specs.Records.{six, same_atom}
@@ -13,6 +13,3 @@ use Rattle.contraction.proofs.contract.in_body.Given as goal
 
 abbrev pub invariant-loop-j : goal.invariant-loop-j
 invariant-loop-j l = (b : List Atom) (x : Atom) → l.nb ≡ length b → At (words l.scratch) (6 * hand_at) (flat b) → At (words l.scratch) (6 * l.i) (six x) → any (same_atom x) b ≡ any (same_atom x) (drop l.j b)
-
-abbrev pub decreases-loop-j : goal.decreases-loop-j
-decreases-loop-j l = l.nb - l.j

@@ -1,64 +1,30 @@
-use mathlib.Core.Path.{sym, ap, ◌∙◌}
-use Prim.Native.Nat.{ℕ, ◌/◌}
+use mathlib.Core.Path.{sym, ◌∙◌}
 use native.Mathlib.Omega.{arith}
 use Rattle.words.specs.Words.{words}
-use Rattle.rules.specs.Base.{contains}
-use Rattle.tables.specs.AtomLaws.{kind_is, role_is, source_is, target_is}
 use Rattle.contraction.specs.PlacedLaws.{atom_room}
-use Rattle.contraction.specs.FlagWords.{loop_kind, loop_apart, loop_role}
+use Rattle.contraction.specs.ContractLaws.{read_none, read_same}
+use Rattle.contraction.specs.FlagWords.{role_small, role_loop, role_apart, other_loop}
 use Rattle.contraction.proofs.contract.is_self_loop.Goals as goal
 
-pub overflow_mul-i : goal.overflow_mul-i
-overflow_mul-i c = omega (arith, atom_room c.args.scratch.now c.args.i c.requires.0)
+pub get_atom-requires : goal.get_atom-requires
+get_atom-requires c = omega (arith, atom_room c.args.scratch.now c.args.i c.requires.0)
 
-pub get_word-requires : goal.get_word-requires
-get_word-requires c = omega (arith, atom_room c.args.scratch.now c.args.i c.requires.0)
-
-pub returns-then-get_word-ne2 : goal.returns-then-get_word-ne2
-returns-then-get_word-ne2 c =
-    λ set x F h. sym (loop_kind set x (λ e. c.if-get_word-ne2.true (c.get_word.ensures ∙ kind_is (words c.args.scratch.now) c.args.i x h ∙ e)))
-
-pub overflow_mul-i-2 : goal.overflow_mul-i-2
-overflow_mul-i-2 c = omega (arith, atom_room c.args.scratch.now c.args.i c.requires.0)
-
-pub overflow_add-i : goal.overflow_add-i
-overflow_add-i c = omega (arith, atom_room c.args.scratch.now c.args.i c.requires.0)
-
-pub get_word-requires-2 : goal.get_word-requires-2
-get_word-requires-2 c = omega (arith, atom_room c.args.scratch.now c.args.i c.requires.0)
-
-pub overflow_mul-i-3 : goal.overflow_mul-i-3
-overflow_mul-i-3 c = omega (arith, atom_room c.args.scratch.now c.args.i c.requires.0)
-
-pub overflow_add-i-2 : goal.overflow_add-i-2
-overflow_add-i-2 c = omega (arith, atom_room c.args.scratch.now c.args.i c.requires.0)
-
-pub get_word-requires-3 : goal.get_word-requires-3
-get_word-requires-3 c = omega (arith, atom_room c.args.scratch.now c.args.i c.requires.0)
-
-pub returns-then-get_word : goal.returns-then-get_word
-returns-then-get_word c =
-    let w = words c.args.scratch.now in
-    λ set x F h. sym (loop_apart set x (λ e. c.if-get_word.true (c.get_word-2.ensures ∙ source_is w c.args.i x h ∙ e ∙ sym (target_is w c.args.i x h) ∙ sym c.get_word-3.ensures)))
-
-pub overflow_mul-i-4 : goal.overflow_mul-i-4
-overflow_mul-i-4 c = omega (arith, atom_room c.args.scratch.now c.args.i c.requires.0)
-
-pub overflow_add-i-3 : goal.overflow_add-i-3
-overflow_add-i-3 c = omega (arith, atom_room c.args.scratch.now c.args.i c.requires.0)
-
-pub get_word-requires-4 : goal.get_word-requires-4
-get_word-requires-4 c = omega (arith, atom_room c.args.scratch.now c.args.i c.requires.0)
+pub returns-in_default : goal.returns-in_default
+returns-in_default c =
+    λ set x F h. absurd (read_none (words c.args.scratch.now) c.args.i c.requires.0 c.get_atom.result c.get_atom.ensures c.in_default.is)
 
 pub is_flagged-requires : goal.is_flagged-requires
 is_flagged-requires c =
-    let A = c.requires.0 in
-    (rw (c.get_word-4.ensures ∙ role_is (words c.args.scratch.now) c.args.i A.atom A.there) A.plain.role, c.requires.1)
+    (role_small (words c.args.scratch.now) c.args.i c.requires.0 c.get_atom.result c.get_atom.ensures c.in-Some.a _ _ _ c.in-Some.is c.in-Role.is, c.requires.1)
 
-pub returns : goal.returns
-returns c =
-    let w = words c.args.scratch.now in
-    λ set x F h. c.is_flagged.ensures set F
-    ∙ ap (λ (n : ℕ). contains set (n / 2)) (c.get_word-4.ensures ∙ role_is w c.args.i x h)
-    ∙ sym (loop_role set x (sym (kind_is w c.args.i x h) ∙ sym c.get_word.ensures ∙ c.if-get_word-ne2.false)
-    (sym (source_is w c.args.i x h) ∙ sym c.get_word-2.ensures ∙ c.if-get_word.false ∙ c.get_word-3.ensures ∙ target_is w c.args.i x h))
+pub returns-then-u-v : goal.returns-then-u-v
+returns-then-u-v c =
+    λ set x F h. c.is_flagged.ensures set F ∙ sym (role_loop set x c.in-Some.a (read_same (words c.args.scratch.now) c.args.i c.requires.0 c.get_atom.result c.get_atom.ensures x c.in-Some.a h c.in-Some.is) _ _ _ c.in-Role.is c.if-u-v.true)
+
+pub returns-else-u-v : goal.returns-else-u-v
+returns-else-u-v c =
+    λ set x F h. sym (role_apart set x c.in-Some.a (read_same (words c.args.scratch.now) c.args.i c.requires.0 c.get_atom.result c.get_atom.ensures x c.in-Some.a h c.in-Some.is) _ _ _ c.in-Role.is c.if-u-v.false)
+
+pub returns-in_default-a : goal.returns-in_default-a
+returns-in_default-a c =
+    λ set x F h. sym (other_loop set x c.in-Some.a (read_same (words c.args.scratch.now) c.args.i c.requires.0 c.get_atom.result c.get_atom.ensures x c.in-Some.a h c.in-Some.is) (λ q u v g. c.in_default-a.not-Role q u v g))

@@ -1,6 +1,6 @@
 use mathlib.Core.Path.{◌≡◌}
 use mathlib.Core.List.{List}
-use Prim.Native.Nat.{ℕ, ◌-◌}
+use Prim.Native.Nat.{ℕ}
 use lib.ListN.{drop}
 use Rattle.words.specs.Words.{words}
 use Rattle.rules.specs.Base.{any}
@@ -13,6 +13,3 @@ use Rattle.contraction.proofs.contract.is_trivial.Given as goal
 
 abbrev pub invariant-loop-j : goal.invariant-loop-j
 invariant-loop-j l = (set : List ℕ) (x : Clause) → FlagsHeld (words l.scratch) set → ClauseInHand (words l.scratch) l.nb l.nh x → is_trivial set x ≡ any (always set x) (drop l.j x.head)
-
-abbrev pub decreases-loop-j : goal.decreases-loop-j
-decreases-loop-j l = l.nh - l.j

@@ -19,10 +19,10 @@ returns-in_default c =
 
 pub put_atom-requires : goal.put_atom-requires
 put_atom-requires c =
-    (c.requires.1, rw c.substitute_atom.ensures (fits_substituted c.in-Atom.a (replaced c.args.drop c.args.keep) (read_fits (words c.args.run.now) c.args.i c.requires.0 c.get_atom.result c.get_atom.ensures c.in-Atom.a c.in-Atom.is)))
+    (c.requires.1, rw c.substitute_atom.ensures (fits_substituted c.in-Some.a (replaced c.args.drop c.args.keep) (read_fits (words c.args.run.now) c.args.i c.requires.0 c.get_atom.result c.get_atom.ensures c.in-Some.a c.in-Some.is)))
 
 pub returns : goal.returns
 returns c =
     let g = c.get_atom in
     λ x h. c.put_atom.ensures ∙ ap (λ (z : Atom). sets (words c.args.scratch.now) (6 * c.args.to) (six z))
-    (c.substitute_atom.ensures ∙ ap (λ (z : Atom). substitute_atom z (replaced c.args.drop c.args.keep)) (read_same (words c.args.run.now) c.args.i c.requires.0 g.result g.ensures x c.in-Atom.a h c.in-Atom.is))
+    (c.substitute_atom.ensures ∙ ap (λ (z : Atom). substitute_atom z (replaced c.args.drop c.args.keep)) (read_same (words c.args.run.now) c.args.i c.requires.0 g.result g.ensures x c.in-Some.a h c.in-Some.is))

@@ -1,7 +1,7 @@
 use mathlib.Core.Path.{refl, ◌∙◌}
 use Prim.{tt}
-use Prim.Native.Nat.{◌-◌}
 use native.Mathlib.Omega.{arith}
+use Rattle.std.proofs.lemmas.Result.{err_from_is_err_and}
 use Rattle.words.specs.Words.{words}
 use Rattle.words.specs.Laws.{length_words}
 use Rattle.leaves.specs.StepLaws.{words_long}
@@ -9,65 +9,60 @@ use Rattle.counted.specs.OneLoop.{looping_there}
 use Rattle.counted.specs.LoopTurns.{heads_start, heads_there, heads_next, heads_stop, heads_end}
 use Rattle.counted.proofs.loops.loops_of_head.Goals as goal
 
-pub head_count-nh-requires : goal.head_count-nh-requires
-head_count-nh-requires c =
-    let C = words c.args.clauses.now in
-    let A = words c.args.atoms.now in
-    omega (arith, length_words c.args.clauses.now, (looping_there c.args.k C A c.args.from c.requires.0 c.args.c c.requires.1).is.row)
+pub head_count-j-end-requires : goal.head_count-j-end-requires
+head_count-j-end-requires c =
+    let A = c.args.lent.now in
+    omega (arith, length_words A.clauses.now, (looping_there A.counters (words A.clauses.now) (words A.atoms.now) c.args.from c.requires.0 c.args.c c.requires.1).is.row)
 
 pub loop-j-init : goal.loop-j-init
 loop-j-init c =
-    let W = words c.args.scratch.now in
-    let C = words c.args.clauses.now in
-    let A = words c.args.atoms.now in
-    (heads_start c.args.from c.args.c c.head_count-nh.result c.args.k W C A c.requires.0 c.requires.1 c.head_count-nh.ensures c.requires.2, refl, refl, refl)
+    let A = c.args.lent.now in
+    (heads_start c.args.from c.args.c c.head_count-j-end.result A.counters (words c.args.scratch.now) (words A.clauses.now) (words A.atoms.now) c.requires.0 c.requires.1 c.head_count-j-end.ensures c.requires.2, refl, (refl, refl, refl, refl, refl, refl), refl)
 
 pub loop_of-requires : goal.loop_of-requires
 loop_of-requires c =
     let L = c.loop-j in
-    let W = words c.args.scratch.now in
-    let C = words c.args.clauses.now in
-    let A = words c.args.atoms.now in (
-      L.invariant.0.looped.looping,
+    let A = c.args.lent.now in
+    let I = L.invariant in (
+      I.0.looped.looping,
       c.requires.1,
-      heads_there c.args.from c.args.c c.head_count-nh.result c.args.k W C A c.requires.0 c.requires.1 c.head_count-nh.ensures (words L.scratch) (words L.clauses) (words L.atoms) L.l L.j L.invariant.0 c.loop-j-test.true,
-      L.invariant.0.good,
-      omega (arith, c.requires.3, L.invariant.1),
-      record { clauses = omega (arith, c.requires.4.clauses, L.invariant.2); atoms = omega (arith, c.requires.4.atoms, L.invariant.3); deferrals = omega arith },
+      heads_there c.args.from c.args.c c.head_count-j-end.result A.counters (words c.args.scratch.now) (words A.clauses.now) (words A.atoms.now) c.requires.0 c.requires.1 c.head_count-j-end.ensures (words L.scratch) (words L.lent.clauses.now) (words L.lent.atoms.now) L.lent.counters L.j I.0 c.loop-j-test.true,
+      I.0.good,
+      omega (arith, c.requires.3, I.1),
     )
 
-pub returns-in-Refused : goal.returns-in-Refused
-returns-in-Refused c =
+pub returns-in_err-loop_of-clause-fact : goal.returns-in_err-loop_of-clause-fact
+returns-in_err-loop_of-clause-fact c =
+    let p = err_from_is_err_and c.from_residual.result c.from_residual.ensures.1 in
     let L = c.loop-j in
-    let W = words c.args.scratch.now in
-    let C = words c.args.clauses.now in
-    let A = words c.args.atoms.now in
-    record {
-      fact = heads_stop c.args.from c.args.c c.head_count-nh.result c.args.k W C A c.requires.0 c.requires.1 c.head_count-nh.ensures (words L.scratch) (words L.clauses) (words L.atoms) L.l L.j L.invariant.0 c.loop-j-test.true (words_long c.args.clauses.now L.clauses L.invariant.2) (words_long c.args.atoms.now L.atoms L.invariant.3) _ _ _ c.loop_of.result c.loop_of.ensures.fact c.in-Refused.e c.in-Refused.is;
-      looped_after = tt;
-    }
+    let A = c.args.lent.now in
+    let I = L.invariant in
+    rw (p.1, p.2) (λ d. heads_stop c.args.from c.args.c c.head_count-j-end.result A.counters (words c.args.scratch.now) (words A.clauses.now) (words A.atoms.now) c.requires.0 c.requires.1 c.head_count-j-end.ensures (words L.scratch) (words L.lent.clauses.now) (words L.lent.atoms.now) L.lent.counters L.j I.0 c.loop-j-test.true (words_long A.clauses.now L.lent.clauses.now I.2.3) (words_long A.atoms.now L.lent.atoms.now I.2.4) _ _ _ _ c.in_err-loop_of.ensures.fact _ refl d)
 
-pub loop-j-smaller : goal.loop-j-smaller
-loop-j-smaller c =
-    let h = c.loop-j-test.true in
-    omega (arith, h)
+pub returns-in_err-loop_of-clause-looped_after : goal.returns-in_err-loop_of-clause-looped_after
+returns-in_err-loop_of-clause-looped_after c =
+    let p = err_from_is_err_and c.from_residual.result c.from_residual.ensures.1 in
+    rw p.1 tt
 
 pub loop-j-preserved : goal.loop-j-preserved
 loop-j-preserved c =
     let L = c.loop-j in
-    let W = words c.args.scratch.now in
-    let C = words c.args.clauses.now in
-    let A = words c.args.atoms.now in
-    let kp = c.loop_of.auto in
-    (heads_next c.args.from c.args.c c.head_count-nh.result c.args.k W C A c.requires.0 c.requires.1 c.head_count-nh.ensures (words L.scratch) (words L.clauses) (words L.atoms) L.l L.j L.invariant.0 c.loop-j-test.true (words_long c.args.clauses.now L.clauses L.invariant.2) (words_long c.args.atoms.now L.atoms L.invariant.3) _ _ _ c.loop_of.result c.loop_of.ensures.fact c.loop_of.ensures.looped_after c.in-Done.m c.in-Done.field-1 c.in-Done.is, kp.scratch ∙ L.invariant.1, kp.clauses ∙ L.invariant.2, kp.atoms ∙ L.invariant.3)
+    let A = c.args.lent.now in
+    let I = L.invariant in
+    let S = I.2 in
+    let P = c.loop_of in
+    let R = P.ensures.references in (
+      heads_next c.args.from c.args.c c.head_count-j-end.result A.counters (words c.args.scratch.now) (words A.clauses.now) (words A.atoms.now) c.requires.0 c.requires.1 c.head_count-j-end.ensures (words L.scratch) (words L.lent.clauses.now) (words L.lent.atoms.now) L.lent.counters L.j I.0 c.loop-j-test.true (words_long A.clauses.now L.lent.clauses.now S.3) (words_long A.atoms.now L.lent.atoms.now S.4) _ _ _ _ c.in_ok-loop_of.ensures.fact c.in_ok-loop_of.ensures.looped_after _ 0 refl,
+      P.auto.scratch ∙ I.1,
+      (R.0 ∙ S.0, R.1 ∙ S.1, R.2 ∙ S.2, R.3 ∙ S.3, R.4 ∙ S.4, R.5 ∙ S.5),
+      P.ensures.deferrals ∙ I.3,
+    )
 
-pub returns : goal.returns
-returns c =
+pub returns-clause-fact : goal.returns-clause-fact
+returns-clause-fact c =
     let L = c.loop-j in
-    let W = words c.args.scratch.now in
-    let C = words c.args.clauses.now in
-    let A = words c.args.atoms.now in
-    record {
-      fact = heads_end c.args.from c.args.c c.head_count-nh.result c.args.k W C A c.requires.0 c.requires.1 c.head_count-nh.ensures (words L.scratch) (words L.clauses) (words L.atoms) L.l L.j L.invariant.0 c.loop-j-test.false;
-      looped_after = L.invariant.0.looped;
-    }
+    let A = c.args.lent.now in
+    heads_end c.args.from c.args.c c.head_count-j-end.result A.counters (words c.args.scratch.now) (words A.clauses.now) (words A.atoms.now) c.requires.0 c.requires.1 c.head_count-j-end.ensures (words L.scratch) (words L.lent.clauses.now) (words L.lent.atoms.now) L.lent.counters L.j L.invariant.0 c.loop-j-test.false
+
+pub returns-clause-looped_after : goal.returns-clause-looped_after
+returns-clause-looped_after c = c.loop-j.invariant.0.looped

@@ -1,7 +1,6 @@
 use borrow.Author.Rules.{rules}
-use Rattle.leaves.specs.Classes.{SmallClass}
-use Prim.Native.Nat.{◌+◌, ◌*◌, ◌-◌, ◌≤◌}
-use mathlib.Core.Path.{refl, subst}
+use Prim.Native.Nat.{◌+◌, ◌*◌, ◌≤◌}
+use mathlib.Core.Path.{refl}
 use native.Mathlib.Omega.{arith}
 use lib.ListN.{length}
 use Rattle.words.specs.Words.{words}
@@ -13,12 +12,6 @@ use Rattle.disjointness.proofs.cover.put_heads.Goals as goal
 pub loop-i-init : goal.loop-i-init
 loop-i-init c = (heads_start c.args.k c.args.at c.args.count (words c.args.scratch.now), refl)
 
-pub overflow_add-at : goal.overflow_add-at
-overflow_add-at c = let b = c.requires.1.below in omega (arith, b, c.loop-i-test.true)
-
-pub get_word-m-requires : goal.get_word-m-requires
-get_word-m-requires c = let b = c.requires.1.below in omega (arith, b, c.loop-i-test.true, c.requires.0.room, c.loop-i.invariant.1)
-
 pub class_id_of-requires : goal.class_id_of-requires
 class_id_of-requires c = let L = c.loop-i in (
   reading_kept c.args.scratch.now L.scratch c.args.k 13501 c.requires.0 (omega arith) L.invariant.0.frame L.invariant.1,
@@ -29,22 +22,13 @@ pub returns-then-i-ge256 : goal.returns-then-i-ge256
 returns-then-i-ge256 c = let L = c.loop-i in
     heads_long c.args.k c.args.at c.args.count (words c.args.scratch.now) (words L.scratch) L.i _ c.requires.0.ready.held c.requires.1 L.invariant.0 c.loop-i-test.true c.get_word-m.ensures _ c.class_id_of.ensures.result_value c.in-Some.a c.in-Some.is c.if-i-ge256.true
 
-pub overflow_add-i : goal.overflow_add-i
-overflow_add-i c = let h = c.if-i-ge256.false in omega (arith, h)
-
 pub put_atom-requires : goal.put_atom-requires
 put_atom-requires c = let L = c.loop-i in let h = c.if-i-ge256.false in
-    let z = subst SmallClass c.in-Some.is c.class_id_of.ensures.small_class in (omega (arith, h, c.requires.2, L.invariant.1), omega (arith, z))
+    let z = c.in-Some.ensures.small_class in (omega (arith, h, c.requires.2, L.invariant.1), omega (arith, z))
 
-pub returns-in-None : goal.returns-in-None
-returns-in-None c = let L = c.loop-i in
-    heads_missing c.args.k c.args.at c.args.count (words c.args.scratch.now) (words L.scratch) L.i _ c.requires.0.ready.held c.requires.1 L.invariant.0 c.loop-i-test.true c.get_word-m.ensures _ c.class_id_of.ensures.result_value c.in-None.is
-
-pub overflow_add-i-in-loop-i : goal.overflow_add-i-in-loop-i
-overflow_add-i-in-loop-i c = let h = c.if-i-ge256.false in omega (arith, h)
-
-pub loop-i-smaller : goal.loop-i-smaller
-loop-i-smaller c = let h = c.loop-i-test.true in omega (arith, h)
+pub returns-in_default : goal.returns-in_default
+returns-in_default c = let L = c.loop-i in
+    heads_missing c.args.k c.args.at c.args.count (words c.args.scratch.now) (words L.scratch) L.i _ c.requires.0.ready.held c.requires.1 L.invariant.0 c.loop-i-test.true c.get_word-m.ensures _ c.class_id_of.ensures.result_value c.in_default.is
 
 pub loop-i-preserved : goal.loop-i-preserved
 loop-i-preserved c = let L = c.loop-i in

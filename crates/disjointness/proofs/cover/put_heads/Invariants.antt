@@ -1,4 +1,3 @@
-use Prim.Native.Nat.{◌-◌}
 use mathlib.Core.Path.{◌≡◌}
 use lib.ListN.{length}
 use Rattle.words.specs.Words.{words}
@@ -7,6 +6,3 @@ use Rattle.disjointness.proofs.cover.put_heads.Given as goal
 
 abbrev pub invariant-loop-i : goal.invariant-loop-i
 invariant-loop-i l = HeadsAt l.k l.at l.count (words l.initial.scratch) (words l.scratch) l.i × (length l.scratch ≡ length l.initial.scratch)
-
-abbrev pub decreases-loop-i : goal.decreases-loop-i
-decreases-loop-i l = l.count - l.i

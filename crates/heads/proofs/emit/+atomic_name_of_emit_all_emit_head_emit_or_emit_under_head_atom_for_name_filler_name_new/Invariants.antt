@@ -1,9 +1,10 @@
 use mathlib.Core.Path.{◌≡◌}
-use Prim.Native.Nat.{◌+◌, ◌*◌, ◌-◌}
+use Prim.Native.Nat.{◌+◌, ◌*◌}
 use lib.ListN.{length}
 use Rattle.words.specs.Words.{words}
 use Rattle.pool.specs.Layout.{members_at, pool_of}
-use Rattle.hands.specs.Hands.{four}
+use Rattle.tables.specs.Lending.{SameReferences}
+use Rattle.hands.specs.Hands.{four_of}
 use Rattle.heads.specs.QueueLoops.{TurnQueues, TurnedQueues}
 use Rattle.heads.specs.LoopLaws.{Turn, Turned}
 use Rattle.heads.proofs.emit.+atomic_name_of_emit_all_emit_head_emit_or_emit_under_head_atom_for_name_filler_name_new.Given as goal
@@ -33,13 +34,21 @@ abbrev pub decreases-name_new : goal.decreases-name_new
 decreases-name_new l = 8 * l.c + 2
 
 abbrev pub invariant-emit_all-loop-i : goal.invariant-emit_all-loop-i
-invariant-emit_all-loop-i l = ((Turn (pool_of (words l.initial.scratch) l.initial.l.concepts) (words l.initial.scratch) (members_at + l.start) l.count l.initial.l l.base l.n l.c l.v (four (words l.initial.scratch) (words l.initial.clauses) (words l.initial.atoms) (words l.initial.deferrals)) (four (words l.scratch) (words l.clauses) (words l.atoms) (words l.deferrals)) l.l l.i) × (length l.scratch ≡ length l.initial.scratch) × (length l.clauses ≡ length l.initial.clauses) × (length l.atoms ≡ length l.initial.atoms) × (length l.deferrals ≡ length l.initial.deferrals) × TurnQueues (pool_of (words l.initial.scratch) l.initial.l.concepts) (words l.initial.scratch) (members_at + l.start) l.count l.initial.l l.base l.n l.c l.v (four (words l.initial.scratch) (words l.initial.clauses) (words l.initial.atoms) (words l.initial.deferrals)) (four (words l.scratch) (words l.clauses) (words l.atoms) (words l.deferrals)) l.l l.i)
-
-abbrev pub decreases-emit_all-loop-i : goal.decreases-emit_all-loop-i
-decreases-emit_all-loop-i l = l.count - l.i
+invariant-emit_all-loop-i l =
+    let w = words l.initial.scratch in
+    let k = l.initial.lent.counters in
+    let P = pool_of w k.concepts in
+    let x = four_of w l.initial.lent in
+    let y = four_of (words l.scratch) l.lent in
+    Turn P w (members_at + l.start) l.count k l.base l.n l.c l.v x y l.lent.counters l.i × (length l.scratch ≡ length l.initial.scratch) × SameReferences l.initial.lent l.lent
+    × TurnQueues P w (members_at + l.start) l.count k l.base l.n l.c l.v x y l.lent.counters l.i
 
 abbrev pub invariant-emit_or-loop-i : goal.invariant-emit_or-loop-i
-invariant-emit_or-loop-i l = ((Turned (pool_of (words l.initial.scratch) l.initial.l.concepts) (words l.initial.scratch) (members_at + l.start) l.count l.initial.l l.base l.n l.c l.v (four (words l.initial.scratch) (words l.initial.clauses) (words l.initial.atoms) (words l.initial.deferrals)) (four (words l.scratch) (words l.clauses) (words l.atoms) (words l.deferrals)) l.l l.i) × (length l.scratch ≡ length l.initial.scratch) × (length l.clauses ≡ length l.initial.clauses) × (length l.atoms ≡ length l.initial.atoms) × (length l.deferrals ≡ length l.initial.deferrals) × TurnedQueues (pool_of (words l.initial.scratch) l.initial.l.concepts) (words l.initial.scratch) (members_at + l.start) l.count l.initial.l l.base l.n l.c l.v (four (words l.initial.scratch) (words l.initial.clauses) (words l.initial.atoms) (words l.initial.deferrals)) (four (words l.scratch) (words l.clauses) (words l.atoms) (words l.deferrals)) l.l l.i)
-
-abbrev pub decreases-emit_or-loop-i : goal.decreases-emit_or-loop-i
-decreases-emit_or-loop-i l = l.count - l.i
+invariant-emit_or-loop-i l =
+    let w = words l.initial.scratch in
+    let k = l.initial.lent.counters in
+    let P = pool_of w k.concepts in
+    let x = four_of w l.initial.lent in
+    let y = four_of (words l.scratch) l.lent in
+    Turned P w (members_at + l.start) l.count k l.base l.n l.c l.v x y l.lent.counters l.i × (length l.scratch ≡ length l.initial.scratch) × SameReferences l.initial.lent l.lent
+    × TurnedQueues P w (members_at + l.start) l.count k l.base l.n l.c l.v x y l.lent.counters l.i

@@ -9,4 +9,4 @@ returns-then-w-ne0 c = rw (ne_eqb _ _ c.if-w-ne0.true) refl
 
 pub returns : goal.returns
 unfolding at_least_read
-returns c = rw (eq-eqb _ _ c.if-w-ne0.false, c.of_code.ensures, c.of_word.ensures) refl
+returns c = rw (eq-eqb _ _ c.if-w-ne0.false, c.of_code.ensures, c.qualifier_of.ensures) refl

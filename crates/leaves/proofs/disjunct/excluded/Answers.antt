@@ -1,18 +1,20 @@
 use mathlib.Core.Path.{sym, ap, subst}
 use Prim.{tt}
-use Rattle.leaves.specs.declared.leaf.Literal.{Literal}
+use Rattle.std.specs.Prelude.{Option, IfSome}
+use Rattle.ir.specs.Records.{Fits}
+use Rattle.ir.specs.declared.atom.Atom.{Atom}
+use Rattle.leaves.specs.Classes.{option_in}
 use Rattle.leaves.specs.Leaves.{negated_or}
-use Rattle.leaves.specs.Reading.{literal_in, LiteralFits}
 use Rattle.leaves.proofs.disjunct.excluded.Goals as goal
 
-pub returns-in-Atom : goal.returns-in-Atom
-returns-in-Atom c = record {
-  value = λ env p. ap (λ (l : Literal). negated_or env p (literal_in l)) (sym c.in-Atom.is);
-  disjunct_fits = λ e. subst LiteralFits c.in-Atom.is c.requires;
+pub returns-in-Some : goal.returns-in-Some
+returns-in-Some c = record {
+  value = λ env p. ap (λ (l : Option Atom). negated_or env p (option_in l)) (sym c.in-Some.is);
+  disjunct_fits = λ e. subst (λ (l : Option Atom). IfSome l Fits) c.in-Some.is c.requires;
 }
 
 pub returns-in-None : goal.returns-in-None
 returns-in-None c = record {
-  value = λ env p. ap (λ (l : Literal). negated_or env p (literal_in l)) (sym c.in-None.is);
+  value = λ env p. ap (λ (l : Option Atom). negated_or env p (option_in l)) (sym c.in-None.is);
   disjunct_fits = λ e. tt;
 }

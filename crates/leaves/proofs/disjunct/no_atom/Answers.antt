@@ -19,5 +19,5 @@ returns-then-at_least_none c = let l = c.requires.2 in let ek = kind_of c.args.s
 pub over_dkey-requires : goal.over_dkey-requires
 over_dkey-requires c = let b = counted_child c.args.scratch.now c.args.k c.requires.0 c.args.c c.requires.1 c.requires.2 in (c.requires.0, omega (arith, b, c.child.ensures, c.requires.1))
 
-pub returns : goal.returns
-returns c = let l = c.requires.2 in let ek = kind_of c.args.scratch.now c.args.k c.requires.0 c.args.c c.requires.1 in λ env E. sym ((no_atom_is env (pool_of (words c.args.scratch.now) c.args.k.concepts) 0 (concept_at (words c.args.scratch.now) c.args.c) (omega (arith, l, ek))) ∙ or_rest env.card_disjunct_atoms (at_least_none (concept_at (words c.args.scratch.now) c.args.c)) _ (ap not (sym E.option ∙ sym c.card_disjunct_atoms.ensures) ∙ c.if-not-card_disjunct_atoms.false-raw) (sym c.at_least_none.ensures ∙ c.if-at_least_none.false) ∙ ap (λ (z : Concept). is_dkey env (class_id_of env z)) (counted_at c.args.scratch.now c.args.k c.requires.0 c.args.c c.requires.1 l ∙ ap (λ (x : ℕ). concept_at (words c.args.scratch.now) x) (sym c.child.ensures)) ∙ sym (c.over_dkey.ensures env E))
+pub returns-else-at_least_none : goal.returns-else-at_least_none
+returns-else-at_least_none c = let l = c.requires.2 in let ek = kind_of c.args.scratch.now c.args.k c.requires.0 c.args.c c.requires.1 in λ env E. sym ((no_atom_is env (pool_of (words c.args.scratch.now) c.args.k.concepts) 0 (concept_at (words c.args.scratch.now) c.args.c) (omega (arith, l, ek))) ∙ or_rest env.card_disjunct_atoms (at_least_none (concept_at (words c.args.scratch.now) c.args.c)) _ (ap not (sym E.option ∙ sym c.card_disjunct_atoms.ensures) ∙ c.if-not-card_disjunct_atoms.false-raw) (sym c.at_least_none.ensures ∙ c.if-at_least_none.false) ∙ ap (λ (z : Concept). is_dkey env (class_id_of env z)) (counted_at c.args.scratch.now c.args.k c.requires.0 c.args.c c.requires.1 l ∙ ap (λ (x : ℕ). concept_at (words c.args.scratch.now) x) (sym c.child.ensures)) ∙ sym (c.over_dkey.ensures env E))

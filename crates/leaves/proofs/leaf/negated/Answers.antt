@@ -1,7 +1,4 @@
-use Rattle.ir.specs.declared.atom.Atom.TheVariants as AtomIs
-use Rattle.ir.specs.declared.atom.Atom.TheVariants as AtomIs
-use Rattle.ir.specs.declared.atom.Atom.TheVariants as AtomIs
-use mathlib.Core.Path.{◌∙◌, sym, ap, subst}
+use mathlib.Core.Path.{◌∙◌, sym, ap}
 use mathlib.Core.Option.{some}
 use Prim.{tt}
 use native.Mathlib.Omega.{arith}
@@ -9,7 +6,6 @@ use Rattle.words.specs.Words.{words}
 use Rattle.pool.specs.Layout.{concept_at, pool_of}
 use Rattle.ir.specs.declared.role.Role.{Role}
 use Rattle.ir.specs.declared.atom.Atom.TheVariants as AtomIs
-use Rattle.leaves.specs.Classes.{class_in, SmallClass}
 use Rattle.leaves.specs.ReadLaws.{kind_of, concept_5, self_role, negated_class, negated_none}
 use Rattle.leaves.proofs.leaf.negated.Goals as goal
 
@@ -23,16 +19,14 @@ returns-then-kind-eq5 c = let e = sym c.kind.ensures ∙ c.if-kind-eq5.true in
       literal_fits = c.canon.ensures.result_bound;
     }
 
-pub returns-in-Some : goal.returns-in-Some
-returns-in-Some c = let q = c.class_id_of in
-    record {
-      result_value = λ env E. negated_class env (pool_of (words c.args.scratch.now) c.args.k.concepts) c.args.v c.in-Some.a (concept_at (words c.args.scratch.now) c.args.d) (ap class_in (sym c.in-Some.is) ∙ q.ensures.result_value env E);
-      literal_fits = (let h = subst SmallClass c.in-Some.is q.ensures.small_class in omega (arith, h));
-    }
+pub returns-in_err-a : goal.returns-in_err-a
+returns-in_err-a c = rw c.from_residual.ensures (record {
+  result_value = λ env E. negated_none env (pool_of (words c.args.scratch.now) c.args.k.concepts) c.args.v 0 (concept_at (words c.args.scratch.now) c.args.d) (λ h. c.if-kind-eq5.false (c.kind.ensures ∙ kind_of c.args.scratch.now c.args.k c.requires.0 c.args.d c.requires.1 ∙ h)) (c.in_err-a.ensures.result_value env E);
+  literal_fits = tt;
+})
 
-pub returns-in-None : goal.returns-in-None
-returns-in-None c = let q = c.class_id_of in
-    record {
-      result_value = λ env E. negated_none env (pool_of (words c.args.scratch.now) c.args.k.concepts) c.args.v 0 (concept_at (words c.args.scratch.now) c.args.d) (λ h. c.if-kind-eq5.false (c.kind.ensures ∙ kind_of c.args.scratch.now c.args.k c.requires.0 c.args.d c.requires.1 ∙ h)) (ap class_in (sym c.in-None.is) ∙ q.ensures.result_value env E);
-      literal_fits = tt;
-    }
+pub returns : goal.returns
+returns c = record {
+  result_value = λ env E. negated_class env (pool_of (words c.args.scratch.now) c.args.k.concepts) c.args.v c.in_ok-a.a (concept_at (words c.args.scratch.now) c.args.d) (c.in_ok-a.ensures.result_value env E);
+  literal_fits = (let h = c.in_ok-a.ensures.small_class in omega (arith, h));
+}

@@ -5,7 +5,8 @@ use lib.ListN.{length, get_or}
 use Rattle.words.specs.Words.{words}
 use Rattle.rules.specs.Axioms.{paired}
 use Rattle.pool.specs.Layout.{run}
-use Rattle.hands.specs.Hands.{four}
+use Rattle.tables.specs.Lending.{SameReferences}
+use Rattle.hands.specs.Hands.{four_of}
 use Rattle.lists.specs.Turns.{Turned}
 use Rattle.lists.specs.ListTurns.{each_of}
 use Rattle.lists.specs.WordLaws.{left}
@@ -15,8 +16,5 @@ use Rattle.lists.proofs.disjoints.disjoint_with.Given as goal
 abbrev pub invariant-loop-j : goal.invariant-loop-j
 invariant-loop-j l = Turned (each_of (pair_of l.deferred) (paired (get_or (words l.initial.scratch) (l.at + l.i) 0) (run (words l.initial.scratch) (l.at + l.i + 1) (l.count - (l.i + 1))) []))
     (each_of (pair_of l.deferred) (paired (get_or (words l.initial.scratch) (l.at + l.i) 0) (left (words l.initial.scratch) l.at l.count l.j) []))
-    l.initial.l l.l (four (words l.initial.scratch) (words l.initial.clauses) (words l.initial.atoms) (words l.initial.deferrals)) l.scratch (words l.clauses) (words l.atoms) (words l.deferrals)
-    × (length l.scratch ≡ length l.initial.scratch) × (length l.clauses ≡ length l.initial.clauses) × (length l.atoms ≡ length l.initial.atoms) × (length l.deferrals ≡ length l.initial.deferrals)
-
-abbrev pub decreases-loop-j : goal.decreases-loop-j
-decreases-loop-j l = l.count - l.j
+    l.initial.lent.counters l.lent.counters (four_of (words l.initial.scratch) l.initial.lent) l.scratch (words l.lent.clauses.now) (words l.lent.atoms.now) (words l.lent.deferrals.now)
+    × (length l.scratch ≡ length l.initial.scratch) × SameReferences l.initial.lent l.lent

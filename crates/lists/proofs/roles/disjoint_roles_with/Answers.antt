@@ -1,41 +1,30 @@
 use mathlib.Core.Path.{refl, sym, ap, ◌∙◌}
 use mathlib.Core.List.{List, [], map}
-use Prim.{tt}
-use Prim.Native.Nat.{ℕ, ◌+◌, ◌-◌}
+use Prim.Native.Nat.{ℕ, ◌+◌}
 use native.Mathlib.Omega.{arith}
 use lib.ListN.{get_or}
+use Rattle.std.proofs.lemmas.Result.{err_from_is_err_and}
 use Rattle.words.specs.Words.{words}
 use Rattle.ir.specs.Roles.{role_of}
 use Rattle.rules.specs.Axioms.{paired}
 use Rattle.lists.specs.Listed.{pair_disjoint}
-use Rattle.lists.specs.TurnLaws.{long_words_3, sized_kept}
+use Rattle.lists.specs.TurnLaws.{long_words_3}
 use Rattle.lists.specs.ListTurns.{list_start, list_end, list_pass, list_next, list_stop}
 use Rattle.lists.specs.PairLaws.{paired_end}
 use Rattle.lists.specs.WordLaws.{left, left_after, left_end, roles_kept, word_read, pair_roles}
 use Rattle.lists.specs.CallLaws.{roles_turn, roles_nothing}
 use Rattle.lists.proofs.roles.disjoint_roles_with.Goals as goal
-use Rattle.lists.proofs.roles.disjoint_roles_with.Goals.{then-r-s+in-Done, else-r-s}
+use Rattle.lists.proofs.roles.disjoint_roles_with.Goals.{then-r-s+in_ok-not_both, else-r-s}
 
 pub loop-j-init : goal.loop-j-init
 loop-j-init c =
     let w₀ = words c.args.scratch.now in (
-      λ d. list_start pair_disjoint c.args.k c.args.scratch.now (words c.args.clauses.now) (words c.args.atoms.now) d _ _ c.requires.0
+      λ d. list_start pair_disjoint c.args.lent.now.counters c.args.scratch.now (words c.args.lent.now.clauses.now) (words c.args.lent.now.atoms.now) d _ _ c.requires.0
           (ap (λ (l : List ℕ). paired (role_of (get_or w₀ (c.args.at + c.args.i) 0)) (map role_of l) []) (sym (left_after w₀ c.args.at c.args.count c.args.i))),
       refl,
-      refl,
+      (refl, refl, refl, refl, refl, refl),
       refl,
     )
-
-pub get_word-r-requires : goal.get_word-r-requires
-get_word-r-requires c =
-    let L = c.loop-j in
-    omega (arith, (L.invariant.0 []).clausifying.space, c.requires.1.below, c.requires.2)
-
-pub get_word-s-requires : goal.get_word-s-requires
-get_word-s-requires c =
-    let L = c.loop-j in
-    let h = c.loop-j-test.true in
-    omega (arith, (L.invariant.0 []).clausifying.space, c.requires.1.below, h)
 
 pub not_both-requires : goal.not_both-requires
 not_both-requires c =
@@ -45,10 +34,11 @@ not_both-requires c =
     let a = c.get_word-r.ensures in
     let b = c.get_word-s.ensures in
     let h = c.loop-j-test.true in
-    (omega (arith, a, M.codes c.args.i c.requires.2), omega (arith, b, M.codes L.j h), omega (arith, T.clausifying.space), sized_kept _ _ _ _ _ _ L.invariant.2 L.invariant.3 refl c.requires.3, T.clausifying.good)
+    (omega (arith, a, c.requires.1.codes c.args.i c.requires.2), omega (arith, b, M.codes L.j h), omega (arith, T.clausifying.space), T.clausifying.good)
 
-pub returns-in-Refused : goal.returns-in-Refused
-returns-in-Refused c =
+pub returns-in_err-not_both-clause-fact : goal.returns-in_err-not_both-clause-fact
+returns-in_err-not_both-clause-fact c =
+    let p = err_from_is_err_and c.from_residual.result c.from_residual.ensures.1 in
     let L = c.loop-j in
     let T = L.invariant.0 in
     let h = c.loop-j-test.true in
@@ -57,21 +47,16 @@ returns-in-Refused c =
     let U = (T []).passed.untouched in
     let m = c.get_word-r.result in
     let n = c.get_word-s.result in
-    let a = word_read w₀ (words L.scratch) U c.args.at c.args.count N.above N.below c.args.i m c.requires.2 c.get_word-r.ensures in
+    let a = c.get_word-r.ensures in
     let b = word_read w₀ (words L.scratch) U c.args.at c.args.count N.above N.below L.j n h c.get_word-s.ensures in
     let q = pair_roles w₀ c.args.at c.args.count L.j m (get_or w₀ (c.args.at + c.args.i) 0) n h a b in
-    let r = c.not_both in record {
-      fact = (λ d. list_stop pair_disjoint _ c.args.k L.l _ L.scratch (words L.clauses) (words L.atoms) d _ (T d) _ _ _ _ r.result (role_of m, role_of n) _ q
-          (roles_turn L.l L.scratch (words L.clauses) (words L.atoms) d _ _ _ _ r.result (T d).clausifying r.auto.scratch m n c.if-r-s.true (r.ensures d)) c.in-Refused.e c.in-Refused.is);
-      clausifying_after = tt;
-    }
-
-pub loop-j-smaller : goal.loop-j-smaller
-loop-j-smaller c = let h = c.loop-j-test.true in omega (arith, h)
+    let r = c.not_both in rw (p.1, p.2) ((λ d. list_stop pair_disjoint _ c.args.lent.now.counters L.lent.counters _ L.scratch (words L.lent.clauses.now) (words L.lent.atoms.now) d _ (T d) _ _ _ _ _ (role_of m, role_of n) _ q
+    (roles_turn L.lent.counters L.scratch (words L.lent.clauses.now) (words L.lent.atoms.now) d _ _ _ _ _ (T d).clausifying r.auto.scratch m n c.if-r-s.true (c.in_err-not_both.ensures.did d)) _ refl))
 
 pub loop-j-preserved : goal.loop-j-preserved
 loop-j-preserved c =
     let L = c.loop-j in
+    let S = L.invariant.2 in
     let T = L.invariant.0 in
     let h = c.loop-j-test.true in
     let w₀ = words c.args.scratch.now in
@@ -79,22 +64,22 @@ loop-j-preserved c =
     let U = (T []).passed.untouched in
     let m = c.get_word-r.result in
     let n = c.get_word-s.result in
-    let a = word_read w₀ (words L.scratch) U c.args.at c.args.count N.above N.below c.args.i m c.requires.2 c.get_word-r.ensures in
+    let a = c.get_word-r.ensures in
     let b = word_read w₀ (words L.scratch) U c.args.at c.args.count N.above N.below L.j n h c.get_word-s.ensures in
     let q = pair_roles w₀ c.args.at c.args.count L.j m (get_or w₀ (c.args.at + c.args.i) 0) n h a b in
     elim c.if-r-s.branch [
-      | then-r-s+in-Done w ↦ rw (w.scratch-is, w.clauses-is, w.atoms-is, w.l-is) (
-          let r = w.not_both in (
-            (λ d. list_next pair_disjoint _ c.args.k L.l _ L.scratch (words L.clauses) (words L.atoms) d _ (T d) _ _ _ _ r.result (role_of m, role_of n) _ q
-                (roles_turn L.l L.scratch (words L.clauses) (words L.atoms) d _ _ _ _ r.result (T d).clausifying r.auto.scratch m n w.if-r-s.true (r.ensures d)) (long_words_3 _ _ L.clauses L.atoms d _ _ r.auto.clauses r.auto.atoms) w.in-Done.m w.in-Done.field-1 w.in-Done.is),
+      | then-r-s+in_ok-not_both w ↦ rw (w.scratch-is, w.lent-is) (
+          let r = w.not_both in let R = r.ensures.references in (
+            (λ d. list_next pair_disjoint _ c.args.lent.now.counters L.lent.counters _ L.scratch (words L.lent.clauses.now) (words L.lent.atoms.now) d _ (T d) _ _ _ _ _ (role_of m, role_of n) _ q
+                (roles_turn L.lent.counters L.scratch (words L.lent.clauses.now) (words L.lent.atoms.now) d _ _ _ _ _ (T d).clausifying r.auto.scratch m n w.if-r-s.true (w.in_ok-not_both.ensures.did d)) (long_words_3 _ _ L.lent.clauses.now L.lent.atoms.now d _ _ R.3 R.4) _ 0 refl),
             r.auto.scratch ∙ L.invariant.1,
-            r.auto.clauses ∙ L.invariant.2,
-            r.auto.atoms ∙ L.invariant.3,
+            (R.0 ∙ S.0, R.1 ∙ S.1, R.2 ∙ S.2, R.3 ∙ S.3, R.4 ∙ S.4, R.5 ∙ S.5),
+            r.ensures.deferrals ∙ L.invariant.3,
           ))
-      | else-r-s w ↦ rw (w.scratch-is, w.clauses-is, w.atoms-is, w.l-is) (
-        (λ d. list_pass pair_disjoint _ c.args.k L.l _ L.scratch (words L.clauses) (words L.atoms) d _ (T d) (role_of m, role_of n) _ q (roles_nothing m n w.if-r-s.false)),
+      | else-r-s w ↦ rw (w.scratch-is, w.lent-is) (
+        (λ d. list_pass pair_disjoint _ c.args.lent.now.counters L.lent.counters _ L.scratch (words L.lent.clauses.now) (words L.lent.atoms.now) d _ (T d) (role_of m, role_of n) _ q (roles_nothing m n w.if-r-s.false)),
         L.invariant.1,
-        L.invariant.2,
+        S,
         L.invariant.3,
       )
     ]
@@ -105,6 +90,8 @@ returns c =
     let w₀ = words c.args.scratch.now in
     let z = ap (map role_of) (left_end w₀ c.args.at c.args.count L.j c.loop-j-test.false) in
     record {
-      fact = (λ d. (list_end pair_disjoint _ c.args.k L.l _ L.scratch (words L.clauses) (words L.atoms) d _ (L.invariant.0 d) (paired_end (role_of (get_or w₀ (c.args.at + c.args.i) 0)) (map role_of (left w₀ c.args.at c.args.count L.j)) z)).0);
+      references = L.invariant.2;
+      deferrals = L.invariant.3;
+      fact = (λ d. (list_end pair_disjoint _ c.args.lent.now.counters L.lent.counters _ L.scratch (words L.lent.clauses.now) (words L.lent.atoms.now) d _ (L.invariant.0 d) (paired_end (role_of (get_or w₀ (c.args.at + c.args.i) 0)) (map role_of (left w₀ c.args.at c.args.count L.j)) z)).0);
       clausifying_after = (L.invariant.0 []).clausifying;
     }

@@ -1,4 +1,4 @@
-use Prim.Native.Nat.{◌+◌, ◌*◌, ◌-◌}
+use Prim.Native.Nat.{◌+◌, ◌*◌}
 use Rattle.normalize.proofs.Turns.{Turn}
 use Rattle.normalize.proofs.nnf.+normal_normal_anew_normal_each.Given as goal
 
@@ -12,7 +12,4 @@ abbrev pub decreases-normal_each : goal.decreases-normal_each
 decreases-normal_each l = l.c * 3
 
 abbrev pub invariant-normal_each-loop-i : goal.invariant-normal_each-loop-i
-invariant-normal_each-loop-i l = Turn l.initial.scratch l.initial.v l.at l.n l.top l.c l.negated l.memo l.scratch l.v l.i
-
-abbrev pub decreases-normal_each-loop-i : goal.decreases-normal_each-loop-i
-decreases-normal_each-loop-i l = l.count - l.i
+invariant-normal_each-loop-i l = Turn l.initial.scratch l.initial.k l.at l.n l.top l.c l.negated l.memo l.scratch l.k l.i

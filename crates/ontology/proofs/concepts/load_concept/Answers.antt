@@ -33,15 +33,15 @@ add-requires c =
     let l = c.concept_line-line in
     let p = c.put_row in
     let x = c.record_of-x in
-    let o : OnStack c.args.deck.now c.args.scratch.now c.args.k c.args.i l.result p.new.scratch =
+    let o : OnStack c.args.deck.now c.args.scratch.now c.args.k.now c.args.i l.result p.new.scratch =
     record { room = c.requires.0; read = c.requires.1; pooled = c.requires.2; line = l.ensures; size = p.auto.scratch; put = p.ensures } in record {
       ready = (
-        line_ready c.args.deck.now c.args.scratch.now c.args.k c.args.i l.result p.new.scratch o,
-        line_asked c.args.deck.now c.args.scratch.now c.args.k c.args.i l.result p.new.scratch o x.result x.ensures,
+        line_ready c.args.deck.now c.args.scratch.now c.args.k.now c.args.i l.result p.new.scratch o,
+        line_asked c.args.deck.now c.args.scratch.now c.args.k.now c.args.i l.result p.new.scratch o x.result x.ensures,
       );
-      concepts_lt_most_concepts = line_space c.args.deck.now c.args.scratch.now c.args.k c.args.i l.result p.new.scratch o x.result x.ensures;
-      each = line_below c.args.deck.now c.args.scratch.now c.args.k c.args.i l.result p.new.scratch o x.result x.ensures;
-      concepts_value = line_fresh c.args.deck.now c.args.scratch.now c.args.k c.args.i l.result p.new.scratch o x.result x.ensures;
+      concepts_lt_most_concepts = line_space c.args.deck.now c.args.scratch.now c.args.k.now c.args.i l.result p.new.scratch o x.result x.ensures;
+      each = line_below c.args.deck.now c.args.scratch.now c.args.k.now c.args.i l.result p.new.scratch o x.result x.ensures;
+      concepts_value = line_fresh c.args.deck.now c.args.scratch.now c.args.k.now c.args.i l.result p.new.scratch o x.result x.ensures;
     }
 
 pub returns : goal.returns
@@ -50,7 +50,7 @@ returns c =
     let p = c.put_row in
     let x = c.record_of-x in
     let a = c.add in
-    let o : OnStack c.args.deck.now c.args.scratch.now c.args.k c.args.i l.result p.new.scratch =
+    let o : OnStack c.args.deck.now c.args.scratch.now c.args.k.now c.args.i l.result p.new.scratch =
     record { room = c.requires.0; read = c.requires.1; pooled = c.requires.2; line = l.ensures; size = p.auto.scratch; put = p.ensures } in
-    line_pooled c.args.deck.now c.args.scratch.now c.args.k c.args.i l.result p.new.scratch o x.result x.ensures
-    (words a.new.scratch) a.ensures c.intern.result (c.intern.ensures ∙ ap (λ (m : ℕ). interned m c.args.k) c.count.ensures)
+    line_pooled c.args.deck.now c.args.scratch.now c.args.k.now c.args.i l.result p.new.scratch o x.result x.ensures
+    (words a.new.scratch) a.ensures c.intern.new.self (c.intern.ensures ∙ ap (λ (m : ℕ). interned m c.args.k.now) c.count.ensures)

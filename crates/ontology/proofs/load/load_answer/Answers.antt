@@ -9,7 +9,8 @@ pub load_lines-requires : goal.load_lines-requires
 load_lines-requires c = (c.requires.0, accepted_is c.args.deck.now (table_in c.args.scratch.now) c.args.answer c.requires.1 c.in-Ok.st c.in-Ok.is)
 
 pub overflow_cast-result : goal.overflow_cast-result
-overflow_cast-result c = omega (arith, (refused_few c.args.deck.now (table_in c.args.scratch.now) c.args.answer c.requires.1 c.in-Err.refused c.in-Err.is).1)
+overflow_cast-result c = omega (arith, (refused_few c.args.deck.now (table_in c.args.scratch.now) c.args.answer c.requires.1 c.in-Err.e c.in-Err.is).1)
 
 pub returns-in-Err : goal.returns-in-Err
-returns-in-Err c = rw c.number.ensures (stopped (refusal_number c.in-Err.refused.refusal) c.in-Err.refused.line (refused_is c.args.deck.now (table_in c.args.scratch.now) c.args.answer c.requires.1 c.in-Err.refused c.in-Err.is))
+returns-in-Err c =
+    stopped (refusal_number c.in-Err.e.refusal) c.in-Err.e.line (refused_is c.args.deck.now (table_in c.args.scratch.now) c.args.answer c.requires.1 c.in-Err.e c.in-Err.is)

@@ -22,4 +22,4 @@ shape_of-scratch c = c.loop-i.invariant.0
 
 pub returns : goal.returns
 returns c = let r = length_row c.args.deck.now c.args.p c.args.n in
-    putting_end (words c.args.scratch.now) c.args.at (row_at c.args.deck.now c.args.p c.args.n) c.loop-i.i (words c.loop-i.scratch) c.loop-i.invariant.1 (rw r c.loop-i-test.false)
+    putting_end (words c.args.scratch.now) c.args.at (row_at c.args.deck.now c.args.p c.args.n) c.loop-i.i (words c.loop-i.scratch) c.loop-i.invariant.1 (omega (arith, r, c.loop-i-test.false))

@@ -4,17 +4,11 @@ use mathlib.Core.Path.{◌≡◌, refl, ◌∙◌}
 use mathlib.Core.Bool.{true, false}
 use lib.Dec.{eqb}
 use Rattle.words.specs.Words.{words}
-use Rattle.pool.specs.Layout.{field, is_list, pool_of, plain}
+use Rattle.pool.specs.Layout.{field, is_list, pool_of}
 use Rattle.rules.specs.Pool.{members}
 use Rattle.pool.specs.HeldLaws.{list_within}
 use Rattle.pool.proofs.Equal.{same_as, same_as_lem}
 use Rattle.pool.proofs.index.same.Goals as goal
-
-pub returns-then-kind-x : goal.returns-then-kind-x
-returns-then-kind-x c = let q : false ≡ same_as (words c.args.scratch.now) c.args.c c.args.at c.args.x = rw (← c.kind.ensures, ne_eqb _ _ c.if-kind-x.true) refl in q ∙ same_as_lem (words c.args.scratch.now) c.args.c c.args.at c.args.x (members (pool_of (words c.args.scratch.now) c.args.c)) c.requires.1.plain (c.requires.0.held.records c.args.c c.requires.2).words
-
-pub returns-then-role-x : goal.returns-then-role-x
-returns-then-role-x c = let q : false ≡ same_as (words c.args.scratch.now) c.args.c c.args.at c.args.x = rw (← c.kind.ensures, eq-eqb _ _ c.if-kind-x.false, ← c.role.ensures, ne_eqb _ _ c.if-role-x.true) refl in q ∙ same_as_lem (words c.args.scratch.now) c.args.c c.args.at c.args.x (members (pool_of (words c.args.scratch.now) c.args.c)) c.requires.1.plain (c.requires.0.held.records c.args.c c.requires.2).words
 
 pub returns-then-number-x : goal.returns-then-number-x
 returns-then-number-x c = let q : false ≡ same_as (words c.args.scratch.now) c.args.c c.args.at c.args.x = rw (← c.kind.ensures, eq-eqb _ _ c.if-kind-x.false, ← c.role.ensures, eq-eqb _ _ c.if-role-x.false, ← c.number.ensures, ne_eqb _ _ c.if-number-x.true) refl in q ∙ same_as_lem (words c.args.scratch.now) c.args.c c.args.at c.args.x (members (pool_of (words c.args.scratch.now) c.args.c)) c.requires.1.plain (c.requires.0.held.records c.args.c c.requires.2).words

@@ -2,7 +2,6 @@ use native.Mathlib.Omega.{arith}
 use mathlib.Core.Path.{refl, ◌∙◌}
 use Rattle.words.specs.Words.{words}
 use Rattle.words.specs.Laws.{length_words}
-use Rattle.pool.specs.Layout.{plain}
 use Rattle.pool.proofs.Interning.{added}
 use Rattle.pool.proofs.intern.add.Goals as goal
 

@@ -8,14 +8,14 @@ pub intern_new-requires : goal.intern_new-requires
 intern_new-requires c = record {
   ready = c.requires.ready;
   each = c.requires.each;
-  concepts_value = sym (rw c.in-Absent.is at c.find-found.ensures);
+  concepts_value = sym (rw c.in-None.is at c.find.ensures);
 }
 
-pub returns-in-At : goal.returns-in-At
-returns-in-At c = record {
-  interned = found (words c.args.scratch.now) c.args.k (concept_over (words c.args.scratch.now) c.args.at c.args.x) c.requires.ready.0.held c.in-At.c (rw c.in-At.is at c.find-found.ensures);
+pub returns-in-Some : goal.returns-in-Some
+returns-in-Some c = record {
+  interned = found (words c.args.scratch.now) c.args.k.now (concept_over (words c.args.scratch.now) c.args.at c.args.x) c.requires.ready.0.held c.in-Some.c (rw c.in-Some.is at c.find.ensures);
   scratch_unchanged = refl;
 }
 
-pub returns-in-Absent : goal.returns-in-Absent
-returns-in-Absent c = c.intern_new.ensures
+pub returns-in-None : goal.returns-in-None
+returns-in-None c = c.intern_new.ensures

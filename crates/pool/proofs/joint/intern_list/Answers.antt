@@ -1,3 +1,4 @@
+use Rattle.ir.specs.Answer.{answer}
 use mathlib.Core.Path.{sym, subst}
 use Prim.Native.Nat.{◌<◌}
 use Rattle.words.specs.Words.{words}
@@ -13,12 +14,12 @@ use Rattle.pool.proofs.joint.intern_list.Goals as goal
 
 pub intern-requires : goal.intern-requires
 intern-requires c = record {
-  ready = (c.requires.0, list_asked (joint_of c.args.joint) c.args.scratch.now c.args.at c.args.count c.kind-kind.result c.kind-kind.ensures c.requires.1);
-  each = subst (λ (e : Concept). Each (λ d. d < c.args.k.concepts) (parts_of e)) (sym (list_over (joint_of c.args.joint) (words c.args.scratch.now) c.args.at c.args.count c.kind-kind.result c.kind-kind.ensures)) (rw (list_parts (joint_of c.args.joint) (run (words c.args.scratch.now) c.args.at c.args.count)) c.requires.2);
+  ready = (c.requires.0, list_asked (joint_of c.args.joint) c.args.scratch.now c.args.at c.args.count c.kind.result c.kind.ensures c.requires.1);
+  each = subst (λ (e : Concept). Each (λ d. d < c.args.k.now.concepts) (parts_of e)) (sym (list_over (joint_of c.args.joint) (words c.args.scratch.now) c.args.at c.args.count c.kind.result c.kind.ensures)) (rw (list_parts (joint_of c.args.joint) (run (words c.args.scratch.now) c.args.at c.args.count)) c.requires.2);
 }
 
 pub returns : goal.returns
 returns c = record {
-  interned = subst (λ (e : Concept). Interned c.args.k (intern_raw e) (words c.args.scratch.now) (words c.intern.new.scratch) c.intern.result) (list_over (joint_of c.args.joint) (words c.args.scratch.now) c.args.at c.args.count c.kind-kind.result c.kind-kind.ensures) c.intern.ensures.interned;
+  interned = subst (λ (e : Concept). Interned c.args.k.now (intern_raw e) (words c.args.scratch.now) (words c.intern.new.scratch) (answer c.intern.new.k c.intern.result)) (list_over (joint_of c.args.joint) (words c.args.scratch.now) c.args.at c.args.count c.kind.result c.kind.ensures) c.intern.ensures.interned;
   scratch_unchanged = c.intern.ensures.scratch_unchanged;
 }

@@ -1,3 +1,4 @@
+use Rattle.ir.specs.Answer.{answer}
 use native.Mathlib.Omega.{arith}
 use Rattle.words.specs.Words.{words}
 use Rattle.rules.specs.Pool.{collapsed}
@@ -13,7 +14,7 @@ pub place_all-first-requires : goal.place_all-first-requires
 place_all-first-requires c = c.requires.operands
 
 pub overflow_add-m : goal.overflow_add-m
-overflow_add-m c = omega (arith, all_space (joint_of c.args.joint) c.args.scratch.now c.args.k c.args.marks c.args.at c.args.count c.requires.operands, c.place_all-first.auto.scratch)
+overflow_add-m c = omega (arith, all_space (joint_of c.args.joint) c.args.scratch.now c.args.k.now c.args.marks c.args.at c.args.count c.requires.operands, c.place_all-first.auto.scratch)
 
 pub overflow_sub-m : goal.overflow_sub-m
 overflow_sub-m c = c.place_all-first.ensures.stands.high
@@ -22,10 +23,10 @@ pub overflow_cast-m : goal.overflow_cast-m
 overflow_cast-m c = omega (arith, c.place_all-first.ensures.stands.low)
 
 pub collapse-requires : goal.collapse-requires
-collapse-requires c = (short_ready (joint_of c.args.joint) c.args.scratch.now c.args.k c.args.marks c.args.at c.args.count c.requires.operands c.place_all-first.new.scratch c.place_all-first.auto.scratch c.place_all-first.result c.place_all-first.ensures.stands c.place_all-first.ensures.outside, omega (arith, all_space (joint_of c.args.joint) c.args.scratch.now c.args.k c.args.marks c.args.at c.args.count c.requires.operands, c.place_all-first.auto.scratch, c.place_all-first.ensures.stands.high), short_below (joint_of c.args.joint) c.args.scratch.now c.args.k c.args.marks c.args.at c.args.count c.requires.operands c.place_all-first.new.scratch c.place_all-first.auto.scratch c.place_all-first.result c.place_all-first.ensures.stands c.place_all-first.ensures.outside)
+collapse-requires c = (short_ready (joint_of c.args.joint) c.args.scratch.now c.args.k.now c.args.marks c.args.at c.args.count c.requires.operands c.place_all-first.new.scratch c.place_all-first.auto.scratch c.place_all-first.result c.place_all-first.ensures.stands c.place_all-first.ensures.outside, omega (arith, all_space (joint_of c.args.joint) c.args.scratch.now c.args.k.now c.args.marks c.args.at c.args.count c.requires.operands, c.place_all-first.auto.scratch, c.place_all-first.ensures.stands.high), short_below (joint_of c.args.joint) c.args.scratch.now c.args.k.now c.args.marks c.args.at c.args.count c.requires.operands c.place_all-first.new.scratch c.place_all-first.auto.scratch c.place_all-first.result c.place_all-first.ensures.stands c.place_all-first.ensures.outside)
 
 pub returns : goal.returns
 returns c = record {
-  interned = interned_over c.args.k (collapsed (identity_of (joint_of c.args.joint)) (list_of (joint_of c.args.joint)) (last_from c.args.marks (words c.place_all-first.new.scratch) c.place_all-first.result)) (mk_joint (joint_of c.args.joint) (run (words c.args.scratch.now) c.args.at c.args.count)) (words c.place_all-first.new.scratch) (words c.args.scratch.now) (words c.collapse.new.scratch) c.collapse.result c.collapse.ensures.interned (short_joined (joint_of c.args.joint) c.args.scratch.now c.args.k c.args.marks c.args.at c.args.count c.requires.operands c.place_all-first.new.scratch c.place_all-first.auto.scratch c.place_all-first.result c.place_all-first.ensures.stands c.place_all-first.ensures.outside c.requires.count_value);
+  interned = interned_over c.args.k.now (collapsed (identity_of (joint_of c.args.joint)) (list_of (joint_of c.args.joint)) (last_from c.args.marks (words c.place_all-first.new.scratch) c.place_all-first.result)) (mk_joint (joint_of c.args.joint) (run (words c.args.scratch.now) c.args.at c.args.count)) (words c.place_all-first.new.scratch) (words c.args.scratch.now) (words c.collapse.new.scratch) (answer c.collapse.new.k c.collapse.result) c.collapse.ensures.interned (short_joined (joint_of c.args.joint) c.args.scratch.now c.args.k.now c.args.marks c.args.at c.args.count c.requires.operands c.place_all-first.new.scratch c.place_all-first.auto.scratch c.place_all-first.result c.place_all-first.ensures.stands c.place_all-first.ensures.outside c.requires.count_value);
   beside = beside c.place_all-first.ensures.outside c.requires.operands.above (words c.collapse.new.scratch) c.collapse.ensures.scratch_unchanged;
 }

@@ -1,52 +1,53 @@
-use mathlib.Core.Path.{refl, subst}
+use mathlib.Core.Path.{refl}
 use Prim.Native.Nat.{◌+◌, ◌<◌}
 use native.Mathlib.Omega.{arith}
 use lib.ListN.{length}
+use Rattle.std.proofs.lemmas.Result.{err_from_is_err_and}
 use Rattle.words.specs.Words.{words}
 use Rattle.words.specs.Laws.{length_words}
-use Rattle.tables.specs.Good.{GoodAnswer, KeptAnswer}
-use Rattle.hands.specs.Hands.{four}
-use Rattle.unfolding.specs.DeriveLaws.{derive_capped, derive_full, derive_more, derive_long, between_put}
+use Rattle.ir.specs.Answer.{Done, Refused}
+use Rattle.ir.specs.Refusals.{refusal_number}
+use Rattle.hands.specs.Hands.{four_of}
+use Rattle.unfolding.specs.DeriveLaws.{derive_capped, derive_full, derive_more, derive_long}
 use Rattle.unfolding.proofs.unfold.derive.Goals as goal
 
 -- the cap, and its deferral
-pub returns-in-Done : goal.returns-in-Done
-returns-in-Done c =
-    let q = c.defer in record {
-      fact = λ env roles left v t x L T H F. derive_capped env roles c.args.originals left c.args.k c.args.queued (words c.args.scratch.now) (words c.args.clauses.now) (words c.args.atoms.now) (words c.args.deferrals.now) v t T c.requires.0 x _ q.result c.if-k-originals-eq-CAP.true (q.ensures.deferrals_after env t (words c.args.clauses.now) (words c.args.atoms.now) L T.drawn) c.in-Done.l c.in-Done.field-1 c.in-Done.is q.ensures.kept_answer;
-      answered = record { good = subst GoodAnswer c.in-Done.is (q.ensures.good_answer c.requires.3); kept = subst (KeptAnswer c.args.k) c.in-Done.is q.ensures.kept_answer; between = λ j h i. refl };
-    }
+pub returns-in_err-defer-clause-fact : goal.returns-in_err-defer-clause-fact
+returns-in_err-defer-clause-fact c =
+    let p = err_from_is_err_and c.from_residual.result c.from_residual.ensures.1 in
+    let t = c.args.lent.now in
+    let C = words t.clauses.now in
+    let A = words t.atoms.now in
+    let D = words t.deferrals.now in
+    rw (p.1, p.2) (λ env roles left v s x L T H F. derive_full env roles c.args.originals left t.counters c.args.queued (words c.args.scratch.now) C A D v s T c.requires.0 x (four_of (words c.args.scratch.now) t) (Refused (refusal_number c.in_err-defer.field-0.0)) c.if-number-originals-eq-CAP.true (c.in_err-defer.ensures.deferrals_after env s C A L T.drawn) _ refl)
 
-pub returns-in-Refused : goal.returns-in-Refused
-returns-in-Refused c =
-    let q = c.defer in record {
-      fact = λ env roles left v t x L T H F. derive_full env roles c.args.originals left c.args.k c.args.queued (words c.args.scratch.now) (words c.args.clauses.now) (words c.args.atoms.now) (words c.args.deferrals.now) v t T c.requires.0 x (four (words c.args.scratch.now) (words c.args.clauses.now) (words c.args.atoms.now) _) q.result c.if-k-originals-eq-CAP.true (q.ensures.deferrals_after env t (words c.args.clauses.now) (words c.args.atoms.now) L T.drawn) c.in-Refused.e c.in-Refused.is;
-      answered = record { good = tt; kept = tt; between = λ j h i. refl };
-    }
-
-pub put_word-requires : goal.put_word-requires
-put_word-requires c = omega (arith, c.requires.0.cap, c.requires.0.within, c.requires.4)
-
-pub overflow_add-result : goal.overflow_add-result
-overflow_add-result c = omega (arith, c.requires.0.cap, c.requires.0.within, c.requires.4)
+pub returns-then-number-originals-eq-CAP-clause-fact : goal.returns-then-number-originals-eq-CAP-clause-fact
+returns-then-number-originals-eq-CAP-clause-fact c =
+    let t = c.args.lent.now in
+    let C = words t.clauses.now in
+    let A = words t.atoms.now in
+    let D = words t.deferrals.now in
+    λ env roles left v s x L T H F. derive_capped env roles c.args.originals left t.counters c.args.queued (words c.args.scratch.now) C A D v s T c.requires.0 x _ (Done c.defer.new.k 0) c.if-number-originals-eq-CAP.true (c.in_ok-defer.ensures.deferrals_after env s C A L T.drawn) _ 0 refl c.in_ok-defer.ensures.kept_answer
 
 -- a clause more, and its number on the queue
-pub returns-in-Done-push_run : goal.returns-in-Done-push_run
-returns-in-Done-push_run c =
-    let q = c.push_run in
-    let p = c.put_word in
-    let off = c.if-k-originals-eq-CAP.false in
-    let few : c.args.queued < 4096 = omega (arith, c.requires.0.first, c.requires.0.cap, c.requires.0.within, off) in
-    let room : c.args.queued < length (words c.args.scratch.now) = omega (arith, few, c.requires.4, length_words c.args.scratch.now) in record {
-      fact = λ env roles left v t x L T H F. derive_more env roles c.args.originals left c.args.k c.args.queued (words c.args.scratch.now) (words c.args.clauses.now) (words c.args.atoms.now) (words c.args.deferrals.now) v t T c.requires.0 x room F _ _ q.result off (q.ensures.d_after env x.body x.head t (words c.args.deferrals.now) H.body H.hand L T.drawn) c.in-Done-push_run.l c.in-Done-push_run.field-1 _ (0 + c.args.queued) c.in-Done-push_run.is q.ensures.kept_answer (omega arith) p.ensures;
-      answered = record { good = subst GoodAnswer c.in-Done-push_run.is q.ensures.good_answer; kept = subst (KeptAnswer c.args.k) c.in-Done-push_run.is q.ensures.kept_answer; between = between_put (words c.args.scratch.now) _ (0 + c.args.queued) c.args.k.clauses p.ensures (omega (arith, few)) };
-    }
+pub returns-in_err-push_run-clause-fact : goal.returns-in_err-push_run-clause-fact
+returns-in_err-push_run-clause-fact c =
+    let p = err_from_is_err_and c.from_residual-in_err-push_run.result c.from_residual-in_err-push_run.ensures.1 in
+    let t = c.args.lent.now in
+    let C = words t.clauses.now in
+    let A = words t.atoms.now in
+    let D = words t.deferrals.now in
+    let off = c.if-number-originals-eq-CAP.false in
+    let room : c.args.queued < length (words c.args.scratch.now) = omega (arith, c.requires.0.first, c.requires.0.cap, c.requires.0.within, off, c.requires.4, length_words c.args.scratch.now) in
+    rw (p.1, p.2) (λ env roles left v s x L T H F. derive_long env roles c.args.originals left t.counters c.args.queued (words c.args.scratch.now) C A D v s T c.requires.0 x room F (words c.push_run.new.lent.clauses.now) (words c.push_run.new.lent.atoms.now) (Refused (refusal_number c.in_err-push_run.field-0.0)) off (c.in_err-push_run.ensures.d_after env x.body x.head s D H.body H.hand L T.drawn) _ refl)
 
-pub returns-in-Refused-push_run : goal.returns-in-Refused-push_run
-returns-in-Refused-push_run c =
+pub returns-clause-fact : goal.returns-clause-fact
+returns-clause-fact c =
+    let t = c.args.lent.now in
+    let C = words t.clauses.now in
+    let A = words t.atoms.now in
+    let D = words t.deferrals.now in
+    let off = c.if-number-originals-eq-CAP.false in
+    let room : c.args.queued < length (words c.args.scratch.now) = omega (arith, c.requires.0.first, c.requires.0.cap, c.requires.0.within, off, c.requires.4, length_words c.args.scratch.now) in
     let q = c.push_run in
-    let off = c.if-k-originals-eq-CAP.false in
-    let room : c.args.queued < length (words c.args.scratch.now) = omega (arith, c.requires.0.first, c.requires.0.cap, c.requires.0.within, off, c.requires.4, length_words c.args.scratch.now) in record {
-      fact = λ env roles left v t x L T H F. derive_long env roles c.args.originals left c.args.k c.args.queued (words c.args.scratch.now) (words c.args.clauses.now) (words c.args.atoms.now) (words c.args.deferrals.now) v t T c.requires.0 x room F _ _ q.result off (q.ensures.d_after env x.body x.head t (words c.args.deferrals.now) H.body H.hand L T.drawn) c.in-Refused-push_run.e c.in-Refused-push_run.is;
-      answered = record { good = tt; kept = tt; between = λ j h i. refl };
-    }
+    rw q.ensures.deferrals (λ env roles left v s x L T H F. derive_more env roles c.args.originals left t.counters c.args.queued (words c.args.scratch.now) C A D v s T c.requires.0 x room F (words q.new.lent.clauses.now) (words q.new.lent.atoms.now) (Done q.new.lent.counters 0) off (c.in_ok-push_run.ensures.d_after env x.body x.head s D H.body H.hand L T.drawn) q.new.lent.counters 0 _ (0 + c.args.queued) refl c.in_ok-push_run.ensures.kept_answer (omega arith) c.put_word.ensures)
