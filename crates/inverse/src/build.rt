@@ -58,10 +58,8 @@ fn clear_roles(scratch: &mut [u8])
     ensures mapped { Mapped (words scratch.new) [] most_roles }
     ensures beside { Beside (words scratch.old) (words scratch.new) }
 {
-    let mut r: u32 = 0;
-    while r < 1024 {
+    for r in 0..1024 {
         words::put_word(scratch, ROLES + r as usize, 2 * r);
-        r += 1;
     }
 }
 
@@ -85,10 +83,8 @@ fn declare_all(scratch: &mut [u8], n: u32)
     ensures mapped { Mapped (words scratch.new) (build_inverse_canon (axioms_of (words scratch.old) n)) most_roles }
     ensures beside { Beside (words scratch.old) (words scratch.new) }
 {
-    let mut i: u32 = 0;
-    while i < n {
+    for i in 0..n {
         declare_axiom(scratch, n, i);
-        i += 1;
     }
 }
 

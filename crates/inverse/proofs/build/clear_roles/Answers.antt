@@ -1,4 +1,3 @@
-use Prim.Native.Nat.{◌-◌}
 use native.Mathlib.Omega.{arith}
 use Rattle.inverse.specs.BuildLaws.{clearing_first, clearing_next, clearing_end}
 use Rattle.inverse.proofs.build.clear_roles.Goals as goal

@@ -1,4 +1,3 @@
-use Prim.Native.Nat.{◌-◌}
 use Rattle.inverse.specs.AxiomLaws.{reading_first, reading_asks, reading_next, reading_end}
 use Rattle.inverse.proofs.build.declare_all.Goals as goal
 
