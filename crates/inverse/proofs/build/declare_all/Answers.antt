@@ -1,8 +1,5 @@
-use Rattle.inverse.specs.AxiomLaws.{reading_first, reading_asks, reading_next, reading_end}
+use Rattle.inverse.specs.AxiomLaws.{reading_asks, reading_next, reading_end}
 use Rattle.inverse.proofs.build.declare_all.Goals as goal
-
-pub loop-i-init : goal.loop-i-init
-loop-i-init c = reading_first _ _ c.requires.0 c.requires.1
 
 pub declare_axiom-requires : goal.declare_axiom-requires
 declare_axiom-requires c = (reading_asks _ _ _ _ c.loop-i.invariant, c.loop-i-test.true)
@@ -12,8 +9,5 @@ loop-i-preserved c =
     let x = c.declare_axiom in
     reading_next _ _ _ _ c.loop-i.invariant c.loop-i-test.true _ x.ensures.mapped x.ensures.beside x.auto.scratch
 
-pub returns : goal.returns
-returns c = record {
-  mapped = reading_end _ _ _ _ c.loop-i.invariant c.loop-i-test.false;
-  beside = c.loop-i.invariant.beside;
-}
+pub returns-clause-mapped : goal.returns-clause-mapped
+returns-clause-mapped c = reading_end _ _ _ _ c.loop-i.invariant c.loop-i-test.false
