@@ -18,7 +18,7 @@ use Rattle.ontology.specs.Layout.{axiom_start, axiom_count, axiom_number, axiom_
 use Rattle.ontology.specs.KeptAxioms.{axiom_kept, axioms_kept, held_axioms}
 use Rattle.ontology.specs.Rows.{inverse_is}
 use Rattle.inverse.specs.Layout.{Mapped, Beside, Building}
-use Rattle.inverse.specs.BuildLaws.{beside_refl, beside_trans}
+use Rattle.inverse.specs.BuildLaws.{beside_trans}
 
 -- ---- one axiom
 abbrev Idle : InverseCanon → List ℕ → ℕ → Type 0
@@ -48,12 +48,6 @@ module _ (s : List ℕ) (n i : ℕ) (A : Building s n) (h : i < n) where
   axiom_idle k e d m M = subst (λ (x : InverseCanon). Mapped (words s) x most_roles) (sym (other_kind m (axiom_row (words s) i) (axiom_number (words s) i 0) (A.held.kinds i h) (λ z. d (e ∙ z)))) M
 
   module _ (k : axiom_number (words s) i 0 ≡ 32) where
-    pub roles_inside : (j : ℕ) → j < 3 → numbers_at + axiom_start (words s) i + j < lines_at
-    roles_inside j l =
-        let q = A.held.within i h in
-        let c = three (words s) n i A.held h k in
-        omega arith
-
     roles_in : RoleIn A.bounds (role_of (axiom_number (words s) i 1)) × RoleIn A.bounds (role_of (axiom_number (words s) i 2))
     roles_in =
         let e : 0 + i ≡ i = zero-add i in
@@ -98,17 +92,6 @@ pub record Reading (s₀ s : List ℕ) (n i : ℕ) : Type 0 where
   pub rest : build_from [] (axioms_of (words s₀) n) ≡ build_from map (tab (axiom_at (words s₀)) i (n - i))
   pub beside : Beside (words s₀) (words s)
   pub long : length s ≡ length s₀
-
-pub reading_first : (s : List ℕ) (n : ℕ) → Building s n → Mapped (words s) [] most_roles → Reading s s n 0
-reading_first s n A M = record {
-  asked = A;
-  within = omega arith;
-  map = [];
-  mapped = M;
-  beside = beside_refl (words s);
-  long = refl;
-  rest = let e : n - 0 ≡ n = omega arith in rw e refl;
-}
 
 module _ (s₀ s : List ℕ) (n i : ℕ) (R : Reading s₀ s n i) where
   pub reading_asks : Building s n

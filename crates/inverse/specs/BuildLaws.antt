@@ -1,8 +1,8 @@
 -- The map while it is built. Assumes nothing.
 use Rattle.std.specs.Prelude.{◌≡◌, refl, Bool, true, ◌||◌, List, [], ◌∷◌, ℕ, zero, suc, ◌+◌, ◌*◌, ◌/◌, ◌%◌, ◌<◌, ◌≤◌, length, get_or, set}
-use Rattle.std.proofs.Common.{subst, ◌∙◌, arith, get_or-set_same, get_or-set_other}
+use Rattle.std.proofs.Common.{◌∙◌, arith, get_or-set_same, get_or-set_other}
 use Rattle.std.proofs.Math.Bool.{false}
-use borrow.Author.Tests.{eqb-true, eqb-false, ne_eqb, eq-eqb}
+use borrow.Author.Tests.{eqb-true, eqb-false}
 use Rattle.std.proofs.Math.Dec.{eqb}
 use Rattle.words.specs.Words.{words}
 use Rattle.words.specs.Laws.{length_words}
@@ -24,14 +24,6 @@ mapped_held w m M = record { mapped = λ r l. at r (M.each r l) }
     at : (r : ℕ) → MappedAt w m r → get_or w (roles_at + r) 0 ≡ role_code (canon_of (Named r) (lookup m r))
     at r (free a b) = rw a b
     at r (key i a b) = rw a b
-
--- ---- keys
-pub key_is : (w : List ℕ) (m : InverseCanon) (r x : ℕ) → Mapped w m most_roles → r < most_roles → x ≡ get_or w (roles_at + r) 0 → eqb (x % 2) 1 ≡ is_some (lookup m r)
-key_is w m r x M l e = at (M.each r l)
-  where
-    at : MappedAt w m r → eqb (x % 2) 1 ≡ is_some (lookup m r)
-    at (free a b) = let o : x % 2 ≡ 0 = omega arith in rw (a, o) refl
-    at (key i a b) = let o : x % 2 ≡ 1 = omega arith in rw (a, o) refl
 
 -- ---- an axiom that makes no entry
 or_true : (b : Bool) → (b || true) ≡ true
@@ -59,22 +51,8 @@ module _ (m : InverseCanon) (r s : ℕ) where
       by true = refl
       by false = refl
 
-  module _ (p : r % 2 ≡ 1 → ⊥) (q : s % 2 ≡ 1 → ⊥) where
-    pub skip_same : r ≡ s → true ≡ skipped m (role_of r) (role_of s)
-    skip_same e = rw (even_named r (even_of r p), even_named s (even_of s q), e, eq-eqb (s / 2) (s / 2) refl) refl
-
-    pub skip_keys : (a b : Bool) → (r ≡ s → ⊥) → a ≡ is_some (lookup m (r / 2)) → b ≡ is_some (lookup m (s / 2)) → (a || b) ≡ skipped m (role_of r) (role_of s)
-    skip_keys a b d e f =
-        let x = even_of r p in
-        let y = even_of s q in
-        let o : r / 2 ≡ s / 2 → ⊥ = λ z. absurd (d (omega arith)) in
-        rw (even_named r x, even_named s y, ne_eqb (r / 2) (s / 2) o, e, f) refl
-
 -- ---- one entry more
 module _ (w w' : List ℕ) (m : InverseCanon) (r s : ℕ) (M : Mapped w m most_roles) where
-  pub declare_skip : skipped m (role_of r) (role_of s) ≡ true → w' ≡ w → Mapped w' (declared m (role_of r) (role_of s)) most_roles
-  declare_skip h e = rw (h, e) M
-
   module _ (h : skipped m (role_of r) (role_of s) ≡ false) (e : w' ≡ set w (roles_at + s / 2) (r + 1)) (long : roles_at + most_roles ≤ length w) where
     p : r % 2 ≡ 0
     p = by_test (eqb (r % 2) 1) (λ t. absurd (let z : true ≡ false = skip_inverse m r s (eqb-true (r % 2) 1 t) ∙ h in let y : ◌≡◌ {A = ℕ} 0 1 = cc in omega arith)) (λ t. even_of r (eqb-false (r % 2) 1 t))
@@ -132,9 +110,6 @@ pub record Clearing (s₀ s : List ℕ) (n : ℕ) : Type 0 where
   pub beside : Beside (words s₀) (words s)
   pub long : length s ≡ length s₀
 
-pub clearing_first : (s : List ℕ) → Clearing s s 0
-clearing_first s = record { within = omega arith; mapped = mapped_none (words s); beside = beside_refl (words s); long = refl }
-
 pub clearing_next : (s₀ s s' : List ℕ) (n : ℕ) → Clearing s₀ s n → n < most_roles → 4 * (roles_at + most_roles) ≤ length s₀ → words s' ≡ set (words s) (roles_at + n) (2 * n) → length s' ≡ length s → Clearing s₀ s' (n + 1)
 clearing_next s₀ s s' n C h r e l = record {
   within = omega arith;
@@ -142,6 +117,3 @@ clearing_next s₀ s s' n C h r e l = record {
   beside = beside_trans (words s₀) (words s) (words s') C.beside (beside_set (words s) (words s') n (2 * n) h e);
   long = l ∙ C.long;
 }
-
-pub clearing_end : (s₀ s : List ℕ) (n : ℕ) → Clearing s₀ s n → most_roles ≤ n → Mapped (words s) [] most_roles
-clearing_end s₀ s n C h = let e : n ≡ most_roles = omega (arith, C.within) in subst (Mapped (words s) []) e C.mapped

@@ -1,6 +1,6 @@
 -- Roles by their codes, and the map on inverse roles. Assumes nothing.
-use Rattle.std.specs.Prelude.{◌≡◌, refl, ℕ, zero, suc, ◌+◌, ◌-◌, ◌/◌, ◌%◌, ◌<◌}
-use Rattle.std.proofs.Common.{sym, ap, ◌∙◌, arith, ne_eqb}
+use Rattle.std.specs.Prelude.{◌≡◌, refl, ℕ, ◌/◌, ◌%◌}
+use Rattle.std.proofs.Common.{sym, ap, ◌∙◌, ne_eqb}
 use Rattle.std.proofs.Math.Option.{Option, none, some}
 use Rattle.ir.specs.Roles.{role_code, role_of, flipped, role_code_lem}
 use Rattle.ir.specs.declared.role.Role.{Role}
@@ -13,18 +13,6 @@ even_named c e = rw e refl
 pub odd_inverse : (c : ℕ) → (c % 2 ≡ 0 → ⊥) → role_of c ≡ Inverse (c / 2)
 odd_inverse c h = rw (ne_eqb (c % 2) 0 h) refl
 
-pub flip_even : (c : ℕ) → c % 2 ≡ 0 → c + 1 ≡ role_code (flipped (role_of c))
-flip_even c e = rw (even_named c e) (omega arith)
-
-pub flip_odd : (c : ℕ) → (c % 2 ≡ 0 → ⊥) → c - 1 ≡ role_code (flipped (role_of c))
-flip_odd c h =
-    let o : c % 2 ≡ 1 = odd (c % 2) (omega arith) h in
-    rw (odd_inverse c h) (omega arith)
-  where
-    odd : (n : ℕ) → n < 2 → (n ≡ 0 → ⊥) → n ≡ 1
-    odd zero l h = absurd (h refl)
-    odd (suc n) l h = omega arith
-
 -- a role's inverse is mapped to the inverse of what the role is mapped to
 pub canon_inverse : (m : InverseCanon) (i : ℕ) → canon_role m (Inverse i) ≡ flipped (canon_role m (Named i))
 unfolding canon_role
@@ -35,9 +23,6 @@ canon_inverse m i = by (lookup m i)
     by (some r) = refl
 
 -- ---- canon_role, of the word of the map
-pub canon_even : (m : InverseCanon) (c x : ℕ) → c % 2 ≡ 0 → x ≡ role_code (canon_role m (Named (c / 2))) → x ≡ role_code (canon_role m (role_of c))
-canon_even m c x e h = h ∙ ap (λ (r : Role). role_code (canon_role m r)) (sym (even_named c e))
-
 pub canon_odd : (m : InverseCanon) (c x y : ℕ) → (c % 2 ≡ 0 → ⊥) → x ≡ role_code (canon_role m (Named (c / 2))) → y ≡ role_code (flipped (role_of x)) → y ≡ role_code (canon_role m (role_of c))
 canon_odd m c x y e h f =
     f ∙ ap (λ (n : ℕ). role_code (flipped (role_of n))) h ∙ ap (λ (r : Role). role_code (flipped r)) (role_code_lem (canon_role m (Named (c / 2))))
