@@ -42,13 +42,11 @@ fn declared(scratch: &mut [u8], n: u32) -> u32
 {
     words::clear_words(scratch, FLAGS, 1024);
     let mut size: u32 = 0;
-    let mut i: u32 = 0;
-    while i < n {
+    for i in 0..n {
         if axiom::number(scratch, i, 0) == 35 {
             let id = canon_id(scratch, axiom::number(scratch, i, 1));
             size = insert(scratch, id, size);
         }
-        i += 1;
     }
     size
 }
@@ -70,13 +68,11 @@ fn edges_from(scratch: &mut [u8], a: u32, at: usize, count: u32, size: u32) -> u
     ensures { Step (words scratch.old) (words scratch.new) size result (edges_to (words scratch.old) a at count) }
 {
     let mut s = size;
-    let mut j: u32 = 0;
-    while j < count {
+    for j in 0..count {
         let b = canon_id(scratch, words::get_word(scratch, at + j as usize));
         if a != b {
             s = along(scratch, a, b, s);
         }
-        j += 1;
     }
     s
 }
@@ -87,11 +83,9 @@ fn edges_among(scratch: &mut [u8], at: usize, count: u32, size: u32) -> u32
     ensures { Step (words scratch.old) (words scratch.new) size result (edges_across (words scratch.old) at count count) }
 {
     let mut s = size;
-    let mut i: u32 = 0;
-    while i < count {
+    for i in 0..count {
         let a = canon_id(scratch, words::get_word(scratch, at + i as usize));
         s = edges_from(scratch, a, at, count, s);
-        i += 1;
     }
     s
 }
@@ -121,10 +115,8 @@ fn round(scratch: &mut [u8], n: u32, size: u32) -> u32
     ensures { Step (words scratch.old) (words scratch.new) size result (axioms_edges (words scratch.old) n) }
 {
     let mut s = size;
-    let mut i: u32 = 0;
-    while i < n {
+    for i in 0..n {
         s = edges_of(scratch, i, s);
-        i += 1;
     }
     s
 }
