@@ -1,40 +1,19 @@
-use Prim.Native.Nat.{◌-◌}
 use mathlib.Core.Path.{sym, ◌∙◌}
 use native.Mathlib.Omega.{arith}
 use Rattle.words.specs.Words.{words}
 use Rattle.words.specs.Laws.{length_words}
-use Rattle.ontology.specs.KeptAxioms.{kind_inside}
 use Rattle.reflexive.specs.Steps.{declared_ids}
 use Rattle.reflexive.specs.FlagLaws.{id_small, begun_empty, walk_at, walk_end}
-use Rattle.reflexive.specs.AxiomLaws.{reflexive_inside, reflexive_small}
+use Rattle.reflexive.specs.AxiomLaws.{reflexive_small}
 use Rattle.reflexive.specs.WalkLaws.{walk_ready, walk_building, declared_first, declared_skip, declared_turn, cleared_building, cleared_ready, declared_end}
 use Rattle.reflexive.proofs.ids.declared.Goals as goal
 use Rattle.reflexive.proofs.ids.declared.Goals.{then-number-eq35, else-number-eq35}
-
-pub clear_words-requires : goal.clear_words-requires
-clear_words-requires c = omega (arith, c.requires.0.space)
 
 pub loop-i-init : goal.loop-i-init
 loop-i-init c = let x = c.clear_words in
     let E = begun_empty (words c.args.scratch.now) (words x.new.s) x.ensures (omega (arith, length_words c.args.scratch.now, c.requires.0.space)) in
     let R = cleared_ready c.args.scratch.now x.new.s c.args.n c.requires.0 c.requires.1 E x.auto.s in
     (declared_first x.new.s c.args.n 0 R, R, cleared_building c.args.scratch.now x.new.s c.args.n c.requires.0 c.requires.1 E x.auto.s)
-
-pub number-requires : goal.number-requires
-number-requires c =
-    let s = c.clear_words.new.s in
-    let L = c.loop-i in
-    let h = c.loop-i-test.true in
-    let A = walk_building s L.scratch 0 L.size L.i c.args.n (declared_ids (words s)) L.invariant.2 L.invariant.0 in
-    (omega (arith, A.held.few, h), A.space, kind_inside (words L.scratch) c.args.n L.i A.held h)
-
-pub number-requires-then-number-eq35 : goal.number-requires-then-number-eq35
-number-requires-then-number-eq35 c =
-    let s = c.clear_words.new.s in
-    let L = c.loop-i in
-    let h = c.loop-i-test.true in
-    let A = walk_building s L.scratch 0 L.size L.i c.args.n (declared_ids (words s)) L.invariant.2 L.invariant.0 in
-    (omega (arith, A.held.few, h), A.space, reflexive_inside L.scratch c.args.n L.i A h (sym c.number.ensures ∙ c.if-number-eq35.true))
 
 pub canon_id-id-requires : goal.canon_id-id-requires
 canon_id-id-requires c =

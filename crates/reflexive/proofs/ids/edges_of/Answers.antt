@@ -3,31 +3,15 @@ use Prim.Native.Nat.{ℕ, ◌+◌, ◌-◌}
 use native.Mathlib.Omega.{arith}
 use Rattle.words.specs.Words.{words}
 use Rattle.ir.specs.Scratch.{numbers_at}
-use Rattle.ontology.specs.KeptAxioms.{kind_inside}
 use Rattle.reflexive.specs.FlagLaws.{id_small}
-use Rattle.reflexive.specs.AxiomLaws.{sub_inside, sub_small, sup_small, some, equal_codes}
+use Rattle.reflexive.specs.AxiomLaws.{sub_small, sup_small, equal_codes}
 use Rattle.reflexive.specs.WalkLaws.{edges_none, edges_sub, edges_equal}
 use Rattle.reflexive.proofs.ids.edges_of.Goals as goal
-
-pub number-requires : goal.number-requires
-number-requires c =
-    let A = c.requires.1 in
-    (omega (arith, A.building.held.few, A.below), A.building.space, kind_inside (words c.args.scratch.now) A.count c.args.i A.building.held A.below)
-
-pub number-requires-in-33 : goal.number-requires-in-33
-number-requires-in-33 c =
-    let A = c.requires.1 in
-    (omega (arith, A.building.held.few, A.below), A.building.space, sub_inside c.args.scratch.now A.count c.args.i A.building A.below (sym c.number.ensures ∙ c.in-33.is) 1 (omega arith))
 
 pub canon_id-a-requires : goal.canon_id-a-requires
 canon_id-a-requires c =
     let A = c.requires.1 in
     (sub_small c.args.scratch.now A.count c.args.i A.building A.below (sym c.number.ensures ∙ c.in-33.is) _ c.number-in-33.ensures, omega (arith, A.building.space))
-
-pub number-requires-in-33-2 : goal.number-requires-in-33-2
-number-requires-in-33-2 c =
-    let A = c.requires.1 in
-    (omega (arith, A.building.held.few, A.below), A.building.space, sub_inside c.args.scratch.now A.count c.args.i A.building A.below (sym c.number.ensures ∙ c.in-33.is) 2 (omega arith))
 
 pub canon_id-b-requires : goal.canon_id-b-requires
 canon_id-b-requires c =
@@ -39,11 +23,6 @@ along-requires c =
     let A = c.requires.1 in
     let q = (sym c.number.ensures ∙ c.in-33.is) in
     (c.requires.0, id_small (words c.args.scratch.now) _ _ c.requires.0.map (sub_small c.args.scratch.now A.count c.args.i A.building A.below q _ c.number-in-33.ensures) c.canon_id-a.ensures, id_small (words c.args.scratch.now) _ _ c.requires.0.map (sup_small c.args.scratch.now A.count c.args.i A.building A.below q _ c.number-in-33-2.ensures) c.canon_id-b.ensures)
-
-pub overflow_sub-count : goal.overflow_sub-count
-overflow_sub-count c =
-    let A = c.requires.1 in
-    omega (arith, c.count.ensures, some c.args.scratch.now A.count c.args.i A.building A.below (sym c.number.ensures ∙ c.in-34.is))
 
 pub edges_among-requires : goal.edges_among-requires
 edges_among-requires c =

@@ -1,15 +1,11 @@
-use Prim.Native.Nat.{◌-◌}
 use native.Mathlib.Omega.{arith}
 use Rattle.words.specs.Words.{words}
 use Rattle.rules.specs.Deck.{most_roles}
-use Rattle.reflexive.specs.FlagLaws.{only_trans, map_kept, flagged_most}
+use Rattle.reflexive.specs.FlagLaws.{map_kept, flagged_most}
 use Rattle.inverse.specs.AxiomLaws.{building_kept}
 use Rattle.reflexive.specs.AxiomLaws.{flags_axioms}
 use Rattle.reflexive.specs.RoundLaws.{closing_first, closing_back, closing_ready, closing_building, closing_next, closing_end}
 use Rattle.reflexive.proofs.ids.reflexive_role_ids.Goals as goal
-
-pub declared-size-requires : goal.declared-size-requires
-declared-size-requires c = c.requires
 
 pub loop-size-init : goal.loop-size-init
 loop-size-init c = let d = c.declared-size in
@@ -31,11 +27,9 @@ loop-size-preserved c =
     let x = c.round-after in
     (closing_next d.new.scratch L.scratch c.args.n L.size L.invariant.0 L.invariant.1 _ _ x.ensures x.auto.scratch c.if-after-size.false, L.invariant.1, L.invariant.2)
 
-pub returns : goal.returns
-returns c =
+pub returns-clause-flags_held : goal.returns-clause-flags_held
+returns-clause-flags_held c =
     let d = c.declared-size in
     let L = c.loop-size in
-    let x = c.round-after in record {
-      flags_held = closing_back c.args.scratch.now d.new.scratch c.args.n _ c.requires.0 d.ensures d.auto.scratch _ _ (closing_end d.new.scratch L.scratch c.args.n L.size L.invariant.0 L.invariant.1 _ _ x.ensures x.auto.scratch c.if-after-size.true);
-      only_flags = only_trans (words c.args.scratch.now) (words d.new.scratch) _ d.ensures.only (only_trans (words d.new.scratch) (words L.scratch) _ L.invariant.0.only x.ensures.only);
-    }
+    let x = c.round-after in
+    closing_back c.args.scratch.now d.new.scratch c.args.n _ c.requires.0 d.ensures d.auto.scratch _ _ (closing_end d.new.scratch L.scratch c.args.n L.size L.invariant.0 L.invariant.1 _ _ x.ensures x.auto.scratch c.if-after-size.true)

@@ -1,7 +1,5 @@
-use Prim.Native.Nat.{◌-◌}
 use Rattle.words.specs.Words.{words}
 use Rattle.reflexive.specs.Steps.{axioms_edges}
-use Rattle.reflexive.specs.FlagLaws.{walk_end}
 use Rattle.reflexive.specs.WalkLaws.{walk_ready, round_first, walk_building, round_turn}
 use Rattle.reflexive.proofs.ids.round.Goals as goal
 
@@ -18,8 +16,3 @@ loop-i-preserved c =
     let L = c.loop-i in
     let x = c.edges_of-s in
     round_turn c.args.scratch.now L.scratch _ c.args.size L.s _ L.i c.args.n L.invariant c.requires.1 c.loop-i-test.true x.ensures x.auto.scratch
-
-pub returns : goal.returns
-returns c =
-    let L = c.loop-i in
-    walk_end c.args.scratch.now L.scratch c.args.size L.s L.i c.args.n (axioms_edges (words c.args.scratch.now)) L.invariant c.loop-i-test.false
