@@ -61,9 +61,6 @@ module _ (s : List ℕ) (n i : ℕ) (A : Building s n) (h : i < n) where
     three : axiom_count (words s) i ≡ 3
     three = eqb-true (axiom_count (words s) i) 3 (fields 33 k)
 
-    pub sub_inside : (j : ℕ) → j < 3 → numbers_at + axiom_start (words s) i + j < lines_at
-    sub_inside j l = omega (arith, A.held.within i h, three)
-
     sub_axiom : axiom_at (words s) i ≡ SubObjectPropertyOf (role_of (axiom_number (words s) i 1)) (role_of (axiom_number (words s) i 2))
     sub_axiom = of_kind 33 k ∙ sub_role_is (words s) (numbers_at + axiom_start (words s) i) (axiom_count (words s) i) three
 
@@ -85,9 +82,6 @@ module _ (s : List ℕ) (n i : ℕ) (A : Building s n) (h : i < n) where
   module _ (k : axiom_number (words s) i 0 ≡ 35) where
     two : axiom_count (words s) i ≡ 2
     two = eqb-true (axiom_count (words s) i) 2 (fields 35 k)
-
-    pub reflexive_inside : numbers_at + axiom_start (words s) i + 1 < lines_at
-    reflexive_inside = omega (arith, A.held.within i h, two)
 
     reflexive_axiom : axiom_at (words s) i ≡ ReflexiveRole (role_of (axiom_number (words s) i 1))
     reflexive_axiom = of_kind 35 k ∙ reflexive_is (words s) (numbers_at + axiom_start (words s) i) (axiom_count (words s) i) two

@@ -154,9 +154,6 @@ module _ (w w' : List ℕ) (e : w' ≡ sets w flags_at (replicate most_roles 0))
 
 -- ---- one id more
 module _ (w : List ℕ) (a x size : ℕ) (h : a < most_roles) (e : x ≡ get_or w (flags_at + a) 0) (sized : size ≡ flagged w most_roles) where
-  pub insert_old : (x ≡ 0 → ⊥) → Step w w size size (insertion a)
-  insert_old d = step_as w w size size (λ env set. set) (insertion a) (λ env R set H. rw (in_set w a x h e d set H) refl) (step_none w size sized)
-
   module _ (z : x ≡ 0) (w' : List ℕ) (put : w' ≡ set w (flags_at + a) 1) (long : alternatives_at ≤ length w) where
     new : is_flagged w' a ≡ true
     new = rw (put, get_or-set_same w (flags_at + a) 1 0 (omega arith)) refl

@@ -1,5 +1,5 @@
 -- The loops over role codes and over axioms. Assumes nothing.
-use Rattle.std.specs.Prelude.{◌≡◌, refl, ℕ, ◌+◌, ◌*◌, ◌-◌, ◌<◌, length, get_or}
+use Rattle.std.specs.Prelude.{◌≡◌, refl, ℕ, ◌+◌, ◌-◌, ◌<◌, length, get_or}
 use Rattle.std.proofs.Common.{sym, ◌∙◌, arith}
 use Rattle.std.proofs.Math.Path.{ap}
 use mathlib.Core.List.{List, [], ◌∷◌}
@@ -16,7 +16,7 @@ use Rattle.ontology.specs.Layout.{axiom_start, axiom_count, axiom_number, axiom_
 use Rattle.inverse.specs.Layout.{Building}
 use Rattle.reflexive.specs.Flags.{MapWithin, OnlyFlags}
 use Rattle.reflexive.specs.Steps.{id_at, ids_at, flagged, insertion, edge, edges_to, edges_across, axiom_edges, axioms_edges, declared_ids, Ready, Codes, HasAxiom, Step, Begun, Walk}
-use Rattle.reflexive.specs.FlagLaws.{roles_kept, map_kept, id_kept, id_small, codes_kept, ready_after, step_none, step_as, begun_then, begun_as, walk_first, walk_next}
+use Rattle.reflexive.specs.FlagLaws.{roles_kept, map_kept, id_kept, ready_after, step_none, step_as, begun_then, begun_as, walk_first, walk_next}
 use Rattle.reflexive.specs.IdLaws.{mapped_id}
 use Rattle.reflexive.specs.EdgeLaws.{from_next, from_same, among_next, all_next, declared_next}
 use Rattle.ontology.specs.KeptAxioms.{axiom_kept, axioms_kept}
@@ -36,14 +36,6 @@ module _ (w w' : List ℕ) (at n : ℕ) (C : Codes w at n) (O : OnlyFlags w w') 
 
   ids_kept : ids_at w' at n ≡ ids_at w at n
   ids_kept = tab_same (λ j. id_at w' (get_or w' j 0)) (λ j. id_at w (get_or w j 0)) at at n ids_kept_at
-
--- what is read in a turn
-module _ (s₀ s : List ℕ) (size r i n : ℕ) (f : ℕ → Env → List ℕ → List ℕ) (W : Walk s₀ s size r i n f) (at x : ℕ) (C : Codes (words s₀) at n) (h : i < n) (e : x ≡ get_or (words s) (at + i) 0) where
-  pub code_read : x < 2 * most_roles
-  code_read = rw e ((codes_kept (words s₀) (words s) W.step.only at n C).small i h)
-
-  pub id_read : Ready s₀ size → (b : ℕ) → b ≡ id_at (words s) x → b < most_roles
-  id_read A b q = id_small (words s) x b (walk_ready s₀ s size r i n f A W).map code_read q
 
 -- ---- edges from one role
 pub from_first : (s : List ℕ) (a at n size : ℕ) → Ready s size → Walk s s size size 0 n (edges_to (words s) a at)

@@ -42,4 +42,4 @@ returns-in-34 c =
 pub returns-in_default : goal.returns-in_default
 returns-in_default c =
     let A = c.requires.1 in
-    edges_none c.args.scratch.now c.args.i c.args.size A _ c.number.ensures c.in_default.in_default-own.rest.0.1 c.in_default.in_default-own.rest.1 c.requires.0.sized
+    edges_none c.args.scratch.now c.args.i c.args.size A _ c.number.ensures (λ q. absurd (omega (arith, q))) (λ q. absurd (omega (arith, q))) c.requires.0.sized
