@@ -1,4 +1,5 @@
-// to_nnf and push_negation_in: one function, which is negated for the second, and its loop over a concept's parts.
+// to_nnf and push_negation_in: one function, which is negated for the second, and its loop over a concept's parts. `negated` and
+// `memo` choose what `nnf_by` and `KnownIf` choose by the same Bool.
 ghost use Rattle.std.specs.Prelude.{◌≡◌, true, false, ℕ, ◌<◌};
 ghost use Rattle.words.specs.Words.{words};
 ghost use Rattle.ir.specs.Scratch.{stack_at};

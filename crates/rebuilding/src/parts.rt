@@ -1,4 +1,5 @@
-// The parts of a concept that are visited.
+// The parts of a concept that are visited. Where they stand and how many there are, two words of its record say: an iterator would be
+// made of the same two. `negated` chooses what the clauses' definitions choose by the same Bool.
 ghost use Rattle.std.specs.Prelude.{◌≡◌, ◌<◌, length};
 ghost use Rattle.std.proofs.lemmas.List.Edits.{sets};
 ghost use Rattle.words.specs.Words.{words};

@@ -1,4 +1,4 @@
-// A concept made again of its parts' normal forms.
+// A concept made again of its parts' normal forms. `negated` chooses what `rebuilt` chooses by the same Bool.
 ghost use Rattle.std.specs.Prelude.{◌≡◌, true, false, [], ◌∷◌, ◌≤◌, ◌<◌, drop};
 ghost use Rattle.words.specs.Words.{words};
 ghost use Rattle.ir.specs.Scratch.{keys_at};
