@@ -14,3 +14,4 @@ pub mod HomePlaces
 pub mod SortLaws
 pub mod StepLaws
 pub mod HomeTops
+pub mod Grouping
