@@ -26,6 +26,7 @@ use Rattle.naming.specs.Splits.{Turned, group_rule, child_of, groups_rule, Stand
 use Rattle.naming.specs.GoesLaws.{Goes, rest_goes}
 use Rattle.naming.specs.AgreeLaws.{keep_stay}
 use Rattle.branches.specs.declared.memo.Naming.{Naming}
+use Rattle.naming.specs.declared.name.Reached.{Reached}
 
 -- ---- the sizes
 pub sum_all : (l : List (ℕ × List Atom)) (cs : List ℕ) (r : ℕ) → r ≡ length l → r ≤ length cs → ((i : ℕ) → i < r → get_or cs i 0 ≡ length (get_or l i no_group).1) → sum (take r cs) ≡ length (all_of l)
@@ -203,9 +204,9 @@ module _ (w₀ tops counts : List ℕ) (base count r root keep : ℕ) (s : Namin
 
           -- after it
           module _ (w' : List ℕ) where
-            next_go : (n : Naming) (q' : ℕ) (b : Bool) (o : Res Rules.Naming (List Atom × Bool)) → child_of f root t child.1 any (mentions kept child.1) D.state ≡ o
-                → TurnedBy w' base q (p + c) D.result (all_of after) m o (Ok (n, q', b)) → Left base count root f (i + 1) kept g z s w' n b (p + c) q'
-            next_go n q' b (ok o y) e T = record {
+            next_go : (v : Reached) (o : Res Rules.Naming (List Atom × Bool)) → child_of f root t child.1 any (mentions kept child.1) D.state ≡ o
+                → TurnedBy w' base q (p + c) D.result (all_of after) m o (Ok v) → Left base count root f (i + 1) kept g z s w' v.naming v.any (p + c) v.end
+            next_go v (ok o y) e T = record {
               result = D.result ++ o.0;
               state = y;
               rule = rule_on ∙ ap (λ x. then x (λ o y. rest f root kept after (D.result ++ o.0) o.1 y)) e ∙ ap (λ (x : Bool). rest f root kept after (D.result ++ o.0) x y) (sym T.named);
@@ -223,11 +224,11 @@ module _ (w₀ tops counts : List ℕ) (base count r root keep : ℕ) (s : Namin
                   let x = child_same f root t child.1 any (mentions kept child.1) D.state o y e (sym T.named ∙ k) in
                   ap (λ (v : List Atom). (D.result ++ v) ++ all_of after) x.1 ∙ append_assoc D.result child.1 (all_of after) ∙ ap (λ (v : List Atom). D.result ++ v) (sym cut_all) ∙ D.same x.0;
             }
-            next_go n q' b (refused k) e T = absurd T
+            next_go v (refused k) e T = absurd T
 
-            pub left_next : (n : Naming) (q' : ℕ) (b : Bool) → TurnedBy w' base q (p + c) D.result (all_of after) m (child_of f root t child.1 any (mentions kept child.1) D.state) (Ok (n, q', b))
-                → Left base count root f (i + 1) kept g z s w' n b (p + c) q'
-            left_next n q' b T = next_go n q' b (child_of f root t child.1 any (mentions kept child.1) D.state) refl T
+            pub left_next : (v : Reached) → TurnedBy w' base q (p + c) D.result (all_of after) m (child_of f root t child.1 any (mentions kept child.1) D.state) (Ok v)
+                → Left base count root f (i + 1) kept g z s w' v.naming v.any (p + c) v.end
+            left_next v T = next_go v (child_of f root t child.1 any (mentions kept child.1) D.state) refl T
 
             -- no room: the rule goes on, and takes nothing back
             stop_goes : (x : Refusal) (y : Rules.Naming) (o : Res Rules.Naming (Option (List Atom))) → Full x y → Goes (length (named_words y.named)) o → (l : List Atom) → ReducedBy w' base count l kept s o (Err x)
@@ -344,19 +345,19 @@ module _ (w₀ tops counts : List ℕ) (base count r root keep : ℕ) (s : Namin
           (keep_stay w₀ w same keep kept Y.only.keep K)
           (omega (arith, k, child_most))
 
-      most_go : (n : Naming) (q' : ℕ) (b : Bool) (result rest : List Atom) (o : Res Rules.Naming (List Atom × Bool)) → TurnedBy w' base q (p + c) result rest m o (Ok (n, q', b)) → q' ≤ p + c
-      most_go n q' b result rest (ok o y) D = D.below
-      most_go n q' b result rest (refused k) D = absurd D
+      most_go : (v : Reached) (result rest : List Atom) (o : Res Rules.Naming (List Atom × Bool)) → TurnedBy w' base q (p + c) result rest m o (Ok v) → v.end ≤ p + c
+      most_go v result rest (ok o y) D = D.below
+      most_go v result rest (refused k) D = absurd D
 
-      pub walk_next : (n : Naming) (q' : ℕ) (b : Bool) → z ≡ Ok (n, q', b) → Walk w₀ tops counts base count r root keep s w' n b (p + c) q' (i + 1)
-      walk_next n q' b e = record {
+      pub walk_next : (v : Reached) → z ≡ Ok v → Walk w₀ tops counts base count r root keep s w' v.naming v.any (p + c) v.end (i + 1)
+      walk_next v e = record {
         here = omega (arith, h);
-        below = most_go n q' b some_left.result (all_of (drop (i + 1) G.groups.groups)) (child_of count root t (get_or G.groups.groups i no_group).1 any (mentions some_kept (get_or G.groups.groups i no_group).1) some_left.state)
+        below = most_go v some_left.result (all_of (drop (i + 1) G.groups.groups)) (child_of count root t (get_or G.groups.groups i no_group).1 any (mentions some_kept (get_or G.groups.groups i no_group).1) some_left.state)
             (rw e at (turned G.groups G.laid N.state some_kept count (keep_there w₀ keep kf long) (omega arith) some_left));
         only = walk_only;
         left = λ g x kept f L H K k.
             let D = Y.left g x kept f L H K k in
-            left_next w₀ tops counts base count r root keep s w m any p q i Y g L low high few fi h c t ec et x kept f D w' n q' b (rw e at (turned g L x kept f K k D));
+            left_next w₀ tops counts base count r root keep s w m any p q i Y g L low high few fi h c t ec et x kept f D w' v (rw e at (turned g L x kept f K k D));
       }
 
       pub walk_stop : (x : Refusal) → z ≡ Err x → (g : Groups) (y : Rules.Naming) (kept : List ℕ) (f : ℕ) → Laid w₀ tops counts base count g r → NamedHeld w₀ s y → KeepIs w₀ keep kept → count ≤ f

@@ -16,6 +16,7 @@ use Rattle.branches.specs.Edges.{edges_of, inner_of}
 use Rattle.branches.specs.Grouped.{Arranged, all_of}
 use Rattle.naming.specs.Names.{To, Full}
 use Rattle.branches.specs.declared.memo.Naming.{Naming}
+use Rattle.naming.specs.declared.name.Reached.{Reached}
 
 -- ---- a child split one level down
 unfoldable pub split_rule : ℕ → List Atom → ℕ → ℕ → W (List Atom)
@@ -86,12 +87,12 @@ pub record Onward (w : List ℕ) (base q p : ℕ) (result rest : List Atom) (s :
   pub first : m.first ≡ s.first
   pub quiet : b ≡ false → m ≡ s
 
--- the numbers then, where the result ends, and whether a child is named
+-- what is reached then
 abbrev pub Turned : Type 0
-Turned = Result (Naming × ℕ × Bool) Refusal
+Turned = Result Reached Refusal
 
 abbrev pub TurnedBy : (w : List ℕ) → (base q p : ℕ) → (result rest : List Atom) → Naming → Res Rules.Naming (List Atom × Bool) → Turned → Type 0
-TurnedBy w base q p result rest s (ok o z) (Ok r) = Onward w base q p result rest s o.0 o.1 z r.0 r.1 r.2
+TurnedBy w base q p result rest s (ok o z) (Ok r) = Onward w base q p result rest s o.0 o.1 z r.naming r.end r.any
 TurnedBy w base q p result rest s (ok o z) (Err x) = Full x z
 TurnedBy w base q p result rest s (refused k) r = ⊥
 

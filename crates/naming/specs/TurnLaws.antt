@@ -95,7 +95,7 @@ module _ (w w' : List ℕ) (base count q p c : ℕ) (result group rest : List At
   stay_only = put_only w w' base count q (p + c) result group rest stay_put D.here fit_stay D.all D.low D.high long
 
   pub stay_turned : (f root t : ℕ) (any : Bool) (kept : List ℕ) → mentions kept group ≡ true
-      → TurnedBy w' base q (p + c) result rest s (child_of f root t group any (mentions kept group) z) (Ok (s, q + c, any))
+      → TurnedBy w' base q (p + c) result rest s (child_of f root t group any (mentions kept group) z) (Ok (record { naming = s; end = q + c; any = any }))
   stay_turned f root t any kept h = rw h (record {
     here = omega (arith, D.many);
     below = omega (arith, D.below);
@@ -157,7 +157,7 @@ module _ (w w1 : List ℕ) (base count q p c : ℕ) (result group rest : List At
     left_call = flat_stay w w1 long1 (p + c) rest (λ j a b. O.between j a (omega (arith, D.all, D.high))) D.left
 
     pub call_turned : (f t : ℕ) (any : Bool) (kept : List ℕ) → mentions kept group ≡ false → CalledBy w1 root s (group_rule f group root t z) (Ok (m, e))
-        → TurnedBy w' base q (p + c) result rest s (child_of f root t group any (mentions kept group) z) (Ok (m, q + 1, true))
+        → TurnedBy w' base q (p + c) result rest s (child_of f root t group any (mentions kept group) z) (Ok (record { naming = m; end = q + 1; any = true }))
     call_turned f t any kept h C = rw h (go (group_rule f group root t z) C)
       where
         named : (y : Rules.Naming) (a : Atom) → a ≡ Class e root → Called w1 root s a y m e → Onward w' base q (p + c) result rest s (a ∷ []) true y m (q + 1) true
@@ -173,7 +173,7 @@ module _ (w w1 : List ℕ) (base count q p c : ℕ) (result group rest : List At
           quiet = λ (b : true ≡ false). absurd (let k : ◌≡◌ {A = ℕ} 0 1 = cc in omega arith);
         })
 
-        go : (o : Res Rules.Naming Atom) → CalledBy w1 root s o (Ok (m, e)) → TurnedBy w' base q (p + c) result rest s (then o (λ a y. ok (a ∷ [], true) y)) (Ok (m, q + 1, true))
+        go : (o : Res Rules.Naming Atom) → CalledBy w1 root s o (Ok (m, e)) → TurnedBy w' base q (p + c) result rest s (then o (λ a y. ok (a ∷ [], true) y)) (Ok (record { naming = m; end = q + 1; any = true }))
         go (ok a y) K = named y a K.is K
         go (refused k) K = absurd K
 

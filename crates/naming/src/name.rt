@@ -18,7 +18,16 @@ use branches::{edges, memo, vars};
 use ir::atom::Atom;
 use ir::record;
 use ir::refusal::Refusal;
+use trees::group::Children;
 use trees::{group, tree};
+
+// What the children so far have come to: the numbers, where the result ends, and whether a child is named.
+#[derive(Clone, Copy)]
+pub struct Reached {
+    pub naming: Naming,
+    pub end: usize,
+    pub any: bool,
+}
 
 // A child over the cap is first split one level down: the numbers then, and how many atoms are left.
 #[cycle(name_branches_name_group_name_groups_split_group_turn)]
@@ -73,63 +82,66 @@ fn name_group(
     memo::name_of(scratch, m, Atoms { base, count }, root)
 }
 
-// A child, whose atoms stand behind the result, which ends at q; with one of the `keep` variables it stays. The numbers then, where
-// the result ends, and whether a child is named.
+// A child, whose atoms stand behind the result; with one of the `keep` variables it stays. What is reached then.
 #[cycle(name_branches_name_group_name_groups_split_group_turn)]
 fn turn(
     scratch: &mut [u8],
-    s: Naming,
-    any: bool,
+    reached: Reached,
     child: Atoms,
-    q: usize,
     root: u32,
     t: u32,
     keep: u32,
-) -> Result<(Naming, usize, bool), Refusal>
-    requires { StandingThere (words scratch.old) q child.base child.count s × (keep ≤ 512) × (4 * work_words ≤ length scratch.old) }
-    ensures fact { (base count : ℕ) (made group rest : List Atom) (z : Rules.Naming) (kept : List ℕ) (f : ℕ) → Standing (words scratch.old) base count q child.base child.count made group rest s z → KeepIs (words scratch.old) keep kept → child.count ≤ f → TurnedBy (words scratch.new) base q (child.base + child.count) made rest s (child_of f root t group any (mentions kept group) z) result }
-    ensures fact_2 { (base count : ℕ) (made group rest : List Atom) (z : Rules.Naming) → Standing (words scratch.old) base count q child.base child.count made group rest s z → OnlyNames base count (words scratch.old) (words scratch.new) }
+) -> Result<Reached, Refusal>
+    requires { StandingThere (words scratch.old) reached.end child.base child.count reached.naming × (keep ≤ 512) × (4 * work_words ≤ length scratch.old) }
+    ensures fact { (base count : ℕ) (made group rest : List Atom) (z : Rules.Naming) (kept : List ℕ) (f : ℕ) → Standing (words scratch.old) base count reached.end child.base child.count made group rest reached.naming z → KeepIs (words scratch.old) keep kept → child.count ≤ f → TurnedBy (words scratch.new) base reached.end (child.base + child.count) made rest reached.naming (child_of f root t group reached.any (mentions kept group) z) result }
+    ensures fact_2 { (base count : ℕ) (made group rest : List Atom) (z : Rules.Naming) → Standing (words scratch.old) base count reached.end child.base child.count made group rest reached.naming z → OnlyNames base count (words scratch.old) (words scratch.new) }
 {
+    let q = reached.end;
     if edges::mentions_kept(scratch, child, keep) {
         words::move_words(scratch, 6 * child.base, 6 * q, 6 * (child.count as usize));
-        return Ok((s, q + child.count as usize, any));
+        return Ok(Reached {
+            naming: reached.naming,
+            end: q + child.count as usize,
+            any: reached.any,
+        });
     }
-    let (m, e) = name_group(scratch, s, child, root, t)?;
+    let (naming, e) = name_group(scratch, reached.naming, child, root, t)?;
     record::put_atom(scratch, q, Atom::Class(e, root));
-    Ok((m, q + 1, true))
+    Ok(Reached {
+        naming,
+        end: q + 1,
+        any: true,
+    })
 }
 
 // Each of the children, whose atoms stand behind the root's own: the numbers then and how many atoms are left, or nothing is named.
 #[cycle(name_branches_name_group_name_groups_split_group_turn)]
 fn name_groups(
     scratch: &mut [u8],
-    tops: &[u32],
-    counts: &[u32],
+    children: &Children,
     s: Naming,
     atoms: Atoms,
-    groups: usize,
     root: u32,
     keep: u32,
 ) -> Result<Option<(Naming, u32)>, Refusal>
-    requires { LaidThere (words scratch.old) tops.now counts.now atoms.base atoms.count groups × (groups ≤ length tops.now) × (groups ≤ length counts.now) × (atoms.count ≤ 256) × (body_at ≤ atoms.base) × (atoms.base + atoms.count ≤ copy_at) × NamedThere (words scratch.old) s × (s.first ≤ 1100000) × (keep ≤ 512) × (4 * work_words ≤ length scratch.old) }
-    ensures reduced_by { (g : Groups) (z : Rules.Naming) (kept : List ℕ) (f : ℕ) → Laid (words scratch.old) tops.now counts.now atoms.base atoms.count g groups → NamedHeld (words scratch.old) s z → KeepIs (words scratch.old) keep kept → atoms.count ≤ f → ReducedBy (words scratch.new) atoms.base atoms.count (g.root_atoms ++ all_of g.groups) kept s (groups_rule f root kept g z) result }
+    requires { LaidThere (words scratch.old) children.now.tops children.now.counts atoms.base atoms.count children.now.len × (children.now.len ≤ 256) × (atoms.count ≤ 256) × (body_at ≤ atoms.base) × (atoms.base + atoms.count ≤ copy_at) × NamedThere (words scratch.old) s × (s.first ≤ 1100000) × (keep ≤ 512) × (4 * work_words ≤ length scratch.old) }
+    ensures reduced_by { (g : Groups) (z : Rules.Naming) (kept : List ℕ) (f : ℕ) → Laid (words scratch.old) children.now.tops children.now.counts atoms.base atoms.count g children.now.len → NamedHeld (words scratch.old) s z → KeepIs (words scratch.old) keep kept → atoms.count ≤ f → ReducedBy (words scratch.new) atoms.base atoms.count (g.root_atoms ++ all_of g.groups) kept s (groups_rule f root kept g z) result }
     ensures only_names { OnlyNames atoms.base atoms.count (words scratch.old) (words scratch.new) }
 {
-    let mut m = s;
-    let mut any = false;
-    let mut p = atoms.base + (atoms.count as usize - group::behind(counts, groups, 0));
-    let mut q = p;
-    for g in 0..groups {
-        let count = counts[g];
+    let mut p = atoms.base + (atoms.count as usize - group::behind(children, 0));
+    let mut reached = Reached {
+        naming: s,
+        end: p,
+        any: false,
+    };
+    for g in 0..children.len {
+        let count = children.counts[g];
         let child = Atoms { base: p, count };
-        let (more, r, b) = turn(scratch, m, any, child, q, root, tops[g], keep)?;
-        m = more;
-        q = r;
-        any = b;
+        reached = turn(scratch, reached, child, root, children.tops[g], keep)?;
         p += count as usize;
     }
-    if any {
-        return Ok(Some((m, (q - atoms.base) as u32)));
+    if reached.any {
+        return Ok(Some((reached.naming, (reached.end - atoms.base) as u32)));
     }
     Ok(None)
 }
@@ -150,10 +162,8 @@ pub fn name_branches(
     let Some(n) = tree::tree(scratch, atoms, root) else {
         return Ok(None);
     };
-    let mut tops = [0; 256];
-    let mut counts = [0; 256];
-    let Some(groups) = group::arrange(scratch, &mut tops, &mut counts, atoms, n) else {
+    let Some(children) = group::arrange(scratch, atoms, n) else {
         return Ok(None);
     };
-    name_groups(scratch, &tops, &counts, s, atoms, groups, root, keep)
+    name_groups(scratch, &children, s, atoms, root, keep)
 }

@@ -8,28 +8,21 @@ use Rattle.words.specs.Words.{words}
 use Rattle.words.specs.Laws.{length_words}
 use Rattle.naming.specs.Splits.{split_rule, group_rule}
 use Rattle.naming.specs.AgreeLaws.{same_words_lem}
-use Rattle.naming.specs.SplitLaws.{keep_none, there_of, tame_of, part_of, split_narrow, split_none, inner_at, named_front, there_front, inner_are, inner_there, fronted_again, split_to, split_full, split_back, split_only, only_back, names_none, reduced_short}
-use Rattle.naming.specs.CallLaws.{call_name, call_full, split_there, call_only}
+use Rattle.naming.specs.SplitLaws.{keep_none, tame_of, part_of, split_narrow, split_none, inner_at, named_front, there_front, inner_are, inner_there, fronted_again, split_to, split_full, split_back, reduced_short}
+use Rattle.naming.specs.CallLaws.{call_name, call_full, split_there}
 use Rattle.branches.specs.Edges.{fronted}
-use Rattle.naming.specs.TurnLaws.{child_are, child_there, child_high, child_low, child_few, child_named, stay_only, stay_turned, turn_only, turn_full, named_only, call_turned, called_small}
+use Rattle.naming.specs.TurnLaws.{child_are, child_high, stay_only, stay_turned, call_turned, called_small}
 use Rattle.branches.specs.Sorting.{sum}
 use Rattle.naming.specs.GroupTurns.{walk_start, sum_fits, walk_low, walk_high, walk_standing, walk_child, child_most, walk_only, walk_next, walk_stop, left_some, left_none}
 use Rattle.rules.specs.Branches.{tree_of, grouped, name_by}
 use Rattle.branches.specs.Grouped.{nothing}
-use Rattle.naming.specs.NameSteps.{tree_atoms, tree_only, tree_none, connected, homeless_none, groups_for, laid_by, laid_few, step_answer, laid_held, laid_named, laid_keep, laid_only}
+use Rattle.naming.specs.NameSteps.{tree_atoms, tree_none, connected, homeless_none, groups_for, laid_by, laid_few, step_answer, laid_held, laid_named, laid_keep}
 use Rattle.branches.specs.Layout.{work_words}
 use Prim.Native.Nat.{ℕ}
 use Rattle.naming.proofs.name.+name_branches_name_group_name_groups_split_group_turn.Goals as goal
 
-pub name_branches-tree-requires : goal.name_branches-tree-requires
-name_branches-tree-requires t c =
-    let w0 = words c.args.scratch.now in
-    let base = c.args.atoms.base in
-    let count = c.args.atoms.count in
-    (there_of w0 base count c.requires.0, c.requires.1, omega (arith, c.requires.3), c.requires.7)
-
-pub name_branches-returns-in_default : goal.name_branches-returns-in_default
-name_branches-returns-in_default t c =
+pub name_branches-returns-in_default-clause-reduced_by : goal.name_branches-returns-in_default-clause-reduced_by
+name_branches-returns-in_default-clause-reduced_by t c =
     let the-tree = c.tree in
     let w0 = words c.args.scratch.now in
     let w1 = words the-tree.new.scratch in
@@ -38,10 +31,7 @@ name_branches-returns-in_default t c =
     let root = c.args.root in
     let s = c.args.s in
     let long1 = same_words_lem c.args.scratch.now the-tree.new.scratch the-tree.auto.scratch in
-    record {
-      reduced_by = λ l z kept f A H K k. tree_none w0 w1 base count root s long1 c.requires.2 c.requires.3 the-tree.ensures.only_tree l z kept f A H k (rw c.in_default.is at (the-tree.ensures.tree_is l A));
-      only_names = tree_only w0 w1 base count root s long1 c.requires.2 c.requires.3 the-tree.ensures.only_tree;
-    }
+    λ l z kept f A H K k. tree_none w0 w1 base count root s long1 c.requires.2 c.requires.3 the-tree.ensures.only_tree l z kept f A H k (rw c.in_default.is at (the-tree.ensures.tree_is l A))
 
 pub name_branches-arrange-requires : goal.name_branches-arrange-requires
 name_branches-arrange-requires t c =
@@ -55,7 +45,22 @@ name_branches-arrange-requires t c =
     let s = c.args.s in
     let long1 = same_words_lem c.args.scratch.now the-tree.new.scratch the-tree.auto.scratch in
     let joined = connected w1 root list c.in-Some.n (rw c.in-Some.is at (the-tree.ensures.tree_is list c.requires.0.are)) in
-    (record { list = list; are = tree_atoms w0 w1 base count root s long1 c.requires.2 c.requires.3 the-tree.ensures.only_tree list c.requires.0.are }, record { root = root; tree = tree_of list root; treed = joined.1 }, c.requires.1, c.requires.3, omega arith, omega arith, omega (arith, the-tree.auto.scratch, c.requires.7))
+    (record { list = list; are = tree_atoms w0 w1 base count root s long1 c.requires.2 c.requires.3 the-tree.ensures.only_tree list c.requires.0.are }, record { root = root; tree = tree_of list root; treed = joined.1 }, c.requires.1, c.requires.3, omega (arith, the-tree.auto.scratch, c.requires.7))
+
+pub name_branches-returns-in_default-arrange-clause-reduced_by : goal.name_branches-returns-in_default-arrange-clause-reduced_by
+name_branches-returns-in_default-arrange-clause-reduced_by t c =
+    let the-tree = c.tree in
+    let the-arrange = c.arrange in
+    let base = c.args.atoms.base in
+    let count = c.args.atoms.count in
+    let root = c.args.root in
+    let s = c.args.s in
+    let w0 = words c.args.scratch.now in
+    let w1 = words the-tree.new.scratch in
+    let w2 = words the-arrange.new.scratch in
+    let long1 = same_words_lem c.args.scratch.now the-tree.new.scratch the-tree.auto.scratch in
+    let long2 = same_words_lem the-tree.new.scratch the-arrange.new.scratch the-arrange.auto.scratch in
+    λ l z kept f A H K k. let joined = connected w1 root l c.in-Some.n (rw c.in-Some.is at (the-tree.ensures.tree_is l A)) in homeless_none w2 [] [] base count root s l kept f z joined.0 k (rw c.in_default-arrange.is at (the-arrange.ensures.arranged_by l root (tree_of l root) (tree_atoms w0 w1 base count root s long1 c.requires.2 c.requires.3 the-tree.ensures.only_tree l A) joined.1)) (laid_held w0 w1 w2 base count s long1 long2 c.requires.2 c.requires.3 the-tree.ensures.only_tree the-arrange.ensures.only_records z H)
 
 pub name_branches-name_groups-requires : goal.name_branches-name_groups-requires
 name_branches-name_groups-requires t c =
@@ -66,10 +71,10 @@ name_branches-name_groups-requires t c =
     let root = c.args.root in
     let made = groups_for list (grouped (tree_of list root).parents root nothing list) in
     let w2 = words the-arrange.new.scratch in
-    let tops = the-arrange.new.tops in
-    let counts = the-arrange.new.counts in
+    let tops = c.in-Some-arrange.children.tops in
+    let counts = c.in-Some-arrange.children.counts in
     let base = c.args.atoms.base in
-    let groups = c.in-Some-arrange.groups in
+    let groups = c.in-Some-arrange.children.len in
     let w0 = words c.args.scratch.now in
     let w1 = words the-tree.new.scratch in
     let s = c.args.s in
@@ -79,28 +84,10 @@ name_branches-name_groups-requires t c =
     let few = laid_few w2 tops counts base count groups made laid in
     let long2 = same_words_lem the-tree.new.scratch the-arrange.new.scratch the-arrange.auto.scratch in
     let mt : 5 * count + 4 ≡ t = c.decreases in
-    (omega (arith, mt), (record { groups = made; laid = laid }, omega (arith, few, c.requires.1, the-arrange.auto.tops), omega (arith, few, c.requires.1, the-arrange.auto.counts), c.requires.1, c.requires.2, c.requires.3, laid_named w0 w1 w2 base count s long1 long2 c.requires.2 c.requires.3 the-tree.ensures.only_tree the-arrange.ensures.only_records c.requires.4, c.requires.5, c.requires.6, omega (arith, the-arrange.auto.scratch, the-tree.auto.scratch, c.requires.7)))
+    (omega (arith, mt), (record { groups = made; laid = laid }, omega (arith, few, c.requires.1), c.requires.1, c.requires.2, c.requires.3, laid_named w0 w1 w2 base count s long1 long2 c.requires.2 c.requires.3 the-tree.ensures.only_tree the-arrange.ensures.only_records c.requires.4, c.requires.5, c.requires.6, omega (arith, the-arrange.auto.scratch, the-tree.auto.scratch, c.requires.7)))
 
-pub name_branches-returns-in_default-arrange : goal.name_branches-returns-in_default-arrange
-name_branches-returns-in_default-arrange t c =
-    let the-tree = c.tree in
-    let the-arrange = c.arrange in
-    let base = c.args.atoms.base in
-    let count = c.args.atoms.count in
-    let root = c.args.root in
-    let s = c.args.s in
-    let w0 = words c.args.scratch.now in
-    let w1 = words the-tree.new.scratch in
-    let w2 = words the-arrange.new.scratch in
-    let long1 = same_words_lem c.args.scratch.now the-tree.new.scratch the-tree.auto.scratch in
-    let long2 = same_words_lem the-tree.new.scratch the-arrange.new.scratch the-arrange.auto.scratch in
-    record {
-      reduced_by = λ l z kept f A H K k. let joined = connected w1 root l c.in-Some.n (rw c.in-Some.is at (the-tree.ensures.tree_is l A)) in homeless_none w2 the-arrange.new.tops the-arrange.new.counts base count root s l kept f z joined.0 k (rw c.in_default-arrange.is at (the-arrange.ensures.arranged_by l root (tree_of l root) (tree_atoms w0 w1 base count root s long1 c.requires.2 c.requires.3 the-tree.ensures.only_tree l A) joined.1)) (laid_held w0 w1 w2 base count s long1 long2 c.requires.2 c.requires.3 the-tree.ensures.only_tree the-arrange.ensures.only_records z H);
-      only_names = laid_only w0 w1 w2 base count s long1 long2 c.requires.2 c.requires.3 the-tree.ensures.only_tree the-arrange.ensures.only_records w2 (names_none base count w2);
-    }
-
-pub name_branches-returns : goal.name_branches-returns
-name_branches-returns t c =
+pub name_branches-returns-clause-reduced_by : goal.name_branches-returns-clause-reduced_by
+name_branches-returns-clause-reduced_by t c =
     let the-tree = c.tree in
     let the-arrange = c.arrange in
     let the-name-groups = c.name_groups in
@@ -111,23 +98,14 @@ name_branches-returns t c =
     let s = c.args.s in
     let w1 = words the-tree.new.scratch in
     let w2 = words the-arrange.new.scratch in
-    let tops = the-arrange.new.tops in
-    let counts = the-arrange.new.counts in
-    let groups = c.in-Some-arrange.groups in
+    let tops = c.in-Some-arrange.children.tops in
+    let counts = c.in-Some-arrange.children.counts in
+    let groups = c.in-Some-arrange.children.len in
     let w0 = words c.args.scratch.now in
     let long1 = same_words_lem c.args.scratch.now the-tree.new.scratch the-tree.auto.scratch in
     let long2 = same_words_lem the-tree.new.scratch the-arrange.new.scratch the-arrange.auto.scratch in
     let keep = c.args.keep in
-    record {
-      reduced_by = λ l z kept f A H K k. step_answer w3 base count root s l kept f z the-name-groups.result (connected w1 root l c.in-Some.n (rw c.in-Some.is at (the-tree.ensures.tree_is l A))).0 k (λ g h. the-name-groups.ensures.reduced_by (groups_for l (grouped (tree_of l root).parents root nothing l)) z kept g (laid_by w2 tops counts base count groups l (tame_of w0 base count l c.requires.0 A) root (tree_of l root).parents (rw c.in-Some-arrange.is at (the-arrange.ensures.arranged_by l root (tree_of l root) (tree_atoms w0 w1 base count root s long1 c.requires.2 c.requires.3 the-tree.ensures.only_tree l A) (connected w1 root l c.in-Some.n (rw c.in-Some.is at (the-tree.ensures.tree_is l A))).1))) (laid_held w0 w1 w2 base count s long1 long2 c.requires.2 c.requires.3 the-tree.ensures.only_tree the-arrange.ensures.only_records z H) (laid_keep w0 w1 w2 base count s long1 long2 c.requires.2 c.requires.3 the-tree.ensures.only_tree the-arrange.ensures.only_records keep kept K) h);
-      only_names = laid_only w0 w1 w2 base count s long1 long2 c.requires.2 c.requires.3 the-tree.ensures.only_tree the-arrange.ensures.only_records w3 the-name-groups.ensures.only_names;
-    }
-
-pub name_group-split_group-requires : goal.name_group-split_group-requires
-name_group-split_group-requires t c =
-    let count = c.args.atoms.count in
-    let mt : 5 * count + 1 ≡ t = c.decreases in
-    (omega (arith, mt), c.requires)
+    λ l z kept f A H K k. step_answer w3 base count root s l kept f z the-name-groups.result (connected w1 root l c.in-Some.n (rw c.in-Some.is at (the-tree.ensures.tree_is l A))).0 k (λ g h. the-name-groups.ensures.reduced_by (groups_for l (grouped (tree_of l root).parents root nothing l)) z kept g (laid_by w2 tops counts base count groups l (tame_of w0 base count l c.requires.0 A) root (tree_of l root).parents (rw c.in-Some-arrange.is at (the-arrange.ensures.arranged_by l root (tree_of l root) (tree_atoms w0 w1 base count root s long1 c.requires.2 c.requires.3 the-tree.ensures.only_tree l A) (connected w1 root l c.in-Some.n (rw c.in-Some.is at (the-tree.ensures.tree_is l A))).1))) (laid_held w0 w1 w2 base count s long1 long2 c.requires.2 c.requires.3 the-tree.ensures.only_tree the-arrange.ensures.only_records z H) (laid_keep w0 w1 w2 base count s long1 long2 c.requires.2 c.requires.3 the-tree.ensures.only_tree the-arrange.ensures.only_records keep kept K) h)
 
 pub name_group-name_of-requires : goal.name_group-name_of-requires
 name_group-name_of-requires t c =
@@ -143,8 +121,8 @@ name_group-name_of-requires t c =
     let D = (split_there w1 base count s _ _ (split_rule count list root top state) (c.in_ok-m.ensures.split_by list state count c.requires.0.are c.requires.4.held (omega arith))) in
     (D.tame, omega (arith, D.shorter, c.requires.1), omega (arith, c.requires.2), omega (arith, D.shorter, c.requires.3), D.named, omega (arith, D.first, D.few, c.requires.5), omega (arith, the-split-group.auto.scratch, c.requires.6))
 
-pub name_group-returns : goal.name_group-returns
-name_group-returns t c =
+pub name_group-returns-clause-called_by : goal.name_group-returns-clause-called_by
+name_group-returns-clause-called_by t c =
     let the-split-group = c.split_group in
     let the-name-of = c.name_of in
     let w1 = words the-split-group.new.scratch in
@@ -154,14 +132,10 @@ name_group-returns t c =
     let root = c.args.root in
     let s = c.args.s in
     let top = c.args.t in
-    let w0 = words c.args.scratch.now in
-    record {
-      called_by = λ l z f A H k. call_name w1 w2 base count root s _ _ _ c.requires.5 the-name-of.ensures.named_by f l top z (c.in_ok-m.ensures.split_by l z f A H k);
-      only_names = call_only base count w0 w1 w2 c.requires.2 c.requires.3 the-split-group.ensures.only_names the-name-of.ensures.only_memo;
-    }
+    λ l z f A H k. call_name w1 w2 base count root s _ _ _ c.requires.5 the-name-of.ensures.named_by f l top z (c.in_ok-m.ensures.split_by l z f A H k)
 
-pub name_group-returns-in_err-m : goal.name_group-returns-in_err-m
-name_group-returns-in_err-m t c =
+pub name_group-returns-in_err-m-clause-called_by : goal.name_group-returns-in_err-m-clause-called_by
+name_group-returns-in_err-m-clause-called_by t c =
     let the-split-group = c.split_group in
     let w1 = words the-split-group.new.scratch in
     let base = c.args.atoms.base in
@@ -169,55 +143,52 @@ name_group-returns-in_err-m t c =
     let root = c.args.root in
     let s = c.args.s in
     let top = c.args.t in
-    let back = err_from_is_err_and c.from_residual.result c.from_residual.ensures.1 in rw (back.1, back.2)
-    (record {
-      called_by = λ l z f A H k. call_full w1 w1 base count root s f l top z _ (c.in_err-m.ensures.split_by l z f A H k);
-      only_names = the-split-group.ensures.only_names;
-    })
+    let back = err_from_is_err_and c.from_residual.result c.from_residual.ensures.1 in
+    rw (back.1, back.2) (λ l z f A H k. call_full w1 w1 base count root s f l top z _ (c.in_err-m.ensures.split_by l z f A H k))
 
 pub name_groups-behind-requires : goal.name_groups-behind-requires
 name_groups-behind-requires t c =
     let w0 = words c.args.scratch.now in
-    let tops = c.args.tops.now in
-    let counts = c.args.counts.now in
+    let tops = c.args.children.now.tops in
+    let counts = c.args.children.now.counts in
     let base = c.args.atoms.base in
     let count = c.args.atoms.count in
-    let groups = c.args.groups in
+    let groups = c.args.children.now.len in
     let root = c.args.root in
     let keep = c.args.keep in
     let s = c.args.s in
-    (c.requires.2, omega (arith, sum_fits w0 tops counts base count groups root keep s c.requires.0.groups c.requires.0.laid c.requires.2, c.requires.3), omega arith)
+    let q : groups ≤ length counts = omega (arith, c.requires.1) in
+    (c.requires.1, omega (arith, sum_fits w0 tops counts base count groups root keep s c.requires.0.groups c.requires.0.laid q, c.requires.2), omega arith)
 
 pub name_groups-overflow_sub-p : goal.name_groups-overflow_sub-p
 name_groups-overflow_sub-p t c =
     let the-behind = c.behind in
-    let groups = c.args.groups in
-    let counts = c.args.counts.now in
+    let groups = c.args.children.now.len in
+    let counts = c.args.children.now.counts in
     let w0 = words c.args.scratch.now in
-    let tops = c.args.tops.now in
+    let tops = c.args.children.now.tops in
     let base = c.args.atoms.base in
     let count = c.args.atoms.count in
     let root = c.args.root in
     let keep = c.args.keep in
     let s = c.args.s in
-    let e : the-behind.result ≡ sum (take groups counts) = the-behind.ensures in omega (arith, e, sum_fits w0 tops counts base count groups root keep s c.requires.0.groups c.requires.0.laid c.requires.2)
-
-pub name_groups-overflow_add-p : goal.name_groups-overflow_add-p
-name_groups-overflow_add-p t c = omega (arith, c.requires.5)
+    let q : groups ≤ length counts = omega (arith, c.requires.1) in
+    let e : the-behind.result ≡ sum (take groups counts) = the-behind.ensures in omega (arith, e, sum_fits w0 tops counts base count groups root keep s c.requires.0.groups c.requires.0.laid q)
 
 pub name_groups-loop-g-init : goal.name_groups-loop-g-init
 name_groups-loop-g-init t c =
     let the-behind = c.behind in
     let w0 = words c.args.scratch.now in
-    let tops = c.args.tops.now in
-    let counts = c.args.counts.now in
+    let tops = c.args.children.now.tops in
+    let counts = c.args.children.now.counts in
     let base = c.args.atoms.base in
     let count = c.args.atoms.count in
-    let groups = c.args.groups in
+    let groups = c.args.children.now.len in
     let root = c.args.root in
     let keep = c.args.keep in
     let s = c.args.s in
-    (refl, walk_start w0 tops counts base count groups root keep s _ c.requires.2 (ap (λ (x : ℕ). base + (count - x)) the-behind.ensures))
+    let q : groups ≤ length counts = omega (arith, c.requires.1) in
+    (refl, walk_start w0 tops counts base count groups root keep s _ q (ap (λ (x : ℕ). base + (count - x)) the-behind.ensures))
 
 pub name_groups-turn-requires : goal.name_groups-turn-requires
 name_groups-turn-requires t c =
@@ -225,74 +196,73 @@ name_groups-turn-requires t c =
     let the-loop-test = c.loop-g-test in
     let count = c.args.atoms.count in
     let w0 = words c.args.scratch.now in
-    let tops = c.args.tops.now in
-    let counts = c.args.counts.now in
+    let tops = c.args.children.now.tops in
+    let counts = c.args.children.now.counts in
     let base = c.args.atoms.base in
-    let groups = c.args.groups in
+    let groups = c.args.children.now.len in
     let root = c.args.root in
     let keep = c.args.keep in
     let s = c.args.s in
-    let room : work_words ≤ length w0 = omega (arith, c.requires.9, length_words c.args.scratch.now) in
+    let room : work_words ≤ length w0 = omega (arith, c.requires.8, length_words c.args.scratch.now) in
     let w1 = words the-loop.scratch in
     let mt : 5 * count + 3 ≡ t = c.decreases in
-    (omega (arith, mt, child_most w0 tops counts base count groups root keep s c.requires.4 c.requires.5 c.requires.3 c.requires.7 c.requires.0 c.requires.6 c.requires.8 room w1 the-loop.m the-loop.any the-loop.p the-loop.q the-loop.g the-loop.invariant.1 the-loop-test.true (get_or counts the-loop.g 0) (get_or tops the-loop.g 0) refl refl), (walk_standing w0 tops counts base count groups root keep s c.requires.4 c.requires.5 c.requires.3 c.requires.7 c.requires.0 c.requires.6 c.requires.8 room w1 the-loop.m the-loop.any the-loop.p the-loop.q the-loop.g the-loop.invariant.1 the-loop-test.true (get_or counts the-loop.g 0) (get_or tops the-loop.g 0) refl refl, c.requires.8, omega (arith, the-loop.invariant.0, c.requires.9)))
+    (omega (arith, mt, child_most w0 tops counts base count groups root keep s c.requires.3 c.requires.4 c.requires.2 c.requires.6 c.requires.0 c.requires.5 c.requires.7 room w1 the-loop.reached.naming the-loop.reached.any the-loop.p the-loop.reached.end the-loop.g the-loop.invariant.1 the-loop-test.true (get_or counts the-loop.g 0) (get_or tops the-loop.g 0) refl refl), (walk_standing w0 tops counts base count groups root keep s c.requires.3 c.requires.4 c.requires.2 c.requires.6 c.requires.0 c.requires.5 c.requires.7 room w1 the-loop.reached.naming the-loop.reached.any the-loop.p the-loop.reached.end the-loop.g the-loop.invariant.1 the-loop-test.true (get_or counts the-loop.g 0) (get_or tops the-loop.g 0) refl refl, c.requires.7, omega (arith, the-loop.invariant.0, c.requires.8)))
 
-pub name_groups-returns-in_err-more : goal.name_groups-returns-in_err-more
-name_groups-returns-in_err-more t c =
+pub name_groups-returns-in_err-reached-clause-reduced_by : goal.name_groups-returns-in_err-reached-clause-reduced_by
+name_groups-returns-in_err-reached-clause-reduced_by t c =
     let the-loop = c.loop-g in
     let the-loop-test = c.loop-g-test in
     let the-turn = c.turn in
     let w0 = words c.args.scratch.now in
-    let tops = c.args.tops.now in
-    let counts = c.args.counts.now in
+    let tops = c.args.children.now.tops in
+    let counts = c.args.children.now.counts in
     let base = c.args.atoms.base in
     let count = c.args.atoms.count in
-    let groups = c.args.groups in
+    let groups = c.args.children.now.len in
     let root = c.args.root in
     let keep = c.args.keep in
     let s = c.args.s in
-    let room : work_words ≤ length w0 = omega (arith, c.requires.9, length_words c.args.scratch.now) in
+    let room : work_words ≤ length w0 = omega (arith, c.requires.8, length_words c.args.scratch.now) in
     let w1 = words the-loop.scratch in
     let w2 = words the-turn.new.scratch in
-    let back = err_from_is_err_and c.from_residual.result c.from_residual.ensures.1 in rw (back.1, back.2)
-    (record {
-      reduced_by = walk_stop w0 tops counts base count groups root keep s c.requires.4 c.requires.5 c.requires.3 c.requires.7 c.requires.0 c.requires.6 c.requires.8 room w1 the-loop.m the-loop.any the-loop.p the-loop.q the-loop.g the-loop.invariant.1 the-loop-test.true (get_or counts the-loop.g 0) (get_or tops the-loop.g 0) refl refl w2 (same_words_lem c.args.scratch.now the-loop.scratch the-loop.invariant.0) the-turn.result the-turn.ensures.fact the-turn.ensures.fact_2 _ c.in_err-more.was;
-      only_names = walk_only w0 tops counts base count groups root keep s c.requires.4 c.requires.5 c.requires.3 c.requires.7 c.requires.0 c.requires.6 c.requires.8 room w1 the-loop.m the-loop.any the-loop.p the-loop.q the-loop.g the-loop.invariant.1 the-loop-test.true (get_or counts the-loop.g 0) (get_or tops the-loop.g 0) refl refl w2 (same_words_lem c.args.scratch.now the-loop.scratch the-loop.invariant.0) the-turn.result the-turn.ensures.fact the-turn.ensures.fact_2;
-    })
+    let back = err_from_is_err_and c.from_residual.result c.from_residual.ensures.1 in
+    rw (back.1, back.2) (walk_stop w0 tops counts base count groups root keep s c.requires.3 c.requires.4 c.requires.2 c.requires.6 c.requires.0 c.requires.5 c.requires.7 room w1 the-loop.reached.naming the-loop.reached.any the-loop.p the-loop.reached.end the-loop.g the-loop.invariant.1 the-loop-test.true (get_or counts the-loop.g 0) (get_or tops the-loop.g 0) refl refl w2 (same_words_lem c.args.scratch.now the-loop.scratch the-loop.invariant.0) the-turn.result the-turn.ensures.fact the-turn.ensures.fact_2 _ c.in_err-reached.was)
 
-pub name_groups-overflow_cast-p-in-loop-g : goal.name_groups-overflow_cast-p-in-loop-g
-name_groups-overflow_cast-p-in-loop-g t c =
+pub name_groups-returns-in_err-reached-clause-only_names : goal.name_groups-returns-in_err-reached-clause-only_names
+name_groups-returns-in_err-reached-clause-only_names t c =
     let the-loop = c.loop-g in
     let the-loop-test = c.loop-g-test in
+    let the-turn = c.turn in
     let w0 = words c.args.scratch.now in
-    let tops = c.args.tops.now in
-    let counts = c.args.counts.now in
+    let tops = c.args.children.now.tops in
+    let counts = c.args.children.now.counts in
     let base = c.args.atoms.base in
     let count = c.args.atoms.count in
-    let groups = c.args.groups in
+    let groups = c.args.children.now.len in
     let root = c.args.root in
     let keep = c.args.keep in
     let s = c.args.s in
-    let room : work_words ≤ length w0 = omega (arith, c.requires.9, length_words c.args.scratch.now) in
+    let room : work_words ≤ length w0 = omega (arith, c.requires.8, length_words c.args.scratch.now) in
     let w1 = words the-loop.scratch in
-    omega (arith, child_most w0 tops counts base count groups root keep s c.requires.4 c.requires.5 c.requires.3 c.requires.7 c.requires.0 c.requires.6 c.requires.8 room w1 the-loop.m the-loop.any the-loop.p the-loop.q the-loop.g the-loop.invariant.1 the-loop-test.true (get_or counts the-loop.g 0) (get_or tops the-loop.g 0) refl refl, c.requires.3)
+    let w2 = words the-turn.new.scratch in
+    walk_only w0 tops counts base count groups root keep s c.requires.3 c.requires.4 c.requires.2 c.requires.6 c.requires.0 c.requires.5 c.requires.7 room w1 the-loop.reached.naming the-loop.reached.any the-loop.p the-loop.reached.end the-loop.g the-loop.invariant.1 the-loop-test.true (get_or counts the-loop.g 0) (get_or tops the-loop.g 0) refl refl w2 (same_words_lem c.args.scratch.now the-loop.scratch the-loop.invariant.0) the-turn.result the-turn.ensures.fact the-turn.ensures.fact_2
 
 pub name_groups-overflow_add-p-in-loop-g : goal.name_groups-overflow_add-p-in-loop-g
 name_groups-overflow_add-p-in-loop-g t c =
     let the-loop = c.loop-g in
     let the-loop-test = c.loop-g-test in
     let w0 = words c.args.scratch.now in
-    let tops = c.args.tops.now in
-    let counts = c.args.counts.now in
+    let tops = c.args.children.now.tops in
+    let counts = c.args.children.now.counts in
     let base = c.args.atoms.base in
     let count = c.args.atoms.count in
-    let groups = c.args.groups in
+    let groups = c.args.children.now.len in
     let root = c.args.root in
     let keep = c.args.keep in
     let s = c.args.s in
-    let room : work_words ≤ length w0 = omega (arith, c.requires.9, length_words c.args.scratch.now) in
+    let room : work_words ≤ length w0 = omega (arith, c.requires.8, length_words c.args.scratch.now) in
     let w1 = words the-loop.scratch in
-    omega (arith, walk_child w0 tops counts base count groups root keep s c.requires.4 c.requires.5 c.requires.3 c.requires.7 c.requires.0 c.requires.6 c.requires.8 room w1 the-loop.m the-loop.any the-loop.p the-loop.q the-loop.g the-loop.invariant.1 the-loop-test.true (get_or counts the-loop.g 0) (get_or tops the-loop.g 0) refl refl, c.requires.5)
+    omega (arith, walk_child w0 tops counts base count groups root keep s c.requires.3 c.requires.4 c.requires.2 c.requires.6 c.requires.0 c.requires.5 c.requires.7 room w1 the-loop.reached.naming the-loop.reached.any the-loop.p the-loop.reached.end the-loop.g the-loop.invariant.1 the-loop-test.true (get_or counts the-loop.g 0) (get_or tops the-loop.g 0) refl refl, c.requires.4)
 
 pub name_groups-loop-g-preserved : goal.name_groups-loop-g-preserved
 name_groups-loop-g-preserved t c =
@@ -300,93 +270,87 @@ name_groups-loop-g-preserved t c =
     let the-loop-test = c.loop-g-test in
     let the-turn = c.turn in
     let w0 = words c.args.scratch.now in
-    let tops = c.args.tops.now in
-    let counts = c.args.counts.now in
+    let tops = c.args.children.now.tops in
+    let counts = c.args.children.now.counts in
     let base = c.args.atoms.base in
     let count = c.args.atoms.count in
-    let groups = c.args.groups in
+    let groups = c.args.children.now.len in
     let root = c.args.root in
     let keep = c.args.keep in
     let s = c.args.s in
-    let room : work_words ≤ length w0 = omega (arith, c.requires.9, length_words c.args.scratch.now) in
+    let room : work_words ≤ length w0 = omega (arith, c.requires.8, length_words c.args.scratch.now) in
     let w1 = words the-loop.scratch in
     let w2 = words the-turn.new.scratch in
-    (the-turn.auto.scratch ∙ the-loop.invariant.0, walk_next w0 tops counts base count groups root keep s c.requires.4 c.requires.5 c.requires.3 c.requires.7 c.requires.0 c.requires.6 c.requires.8 room w1 the-loop.m the-loop.any the-loop.p the-loop.q the-loop.g the-loop.invariant.1 the-loop-test.true (get_or counts the-loop.g 0) (get_or tops the-loop.g 0) refl refl w2 (same_words_lem c.args.scratch.now the-loop.scratch the-loop.invariant.0) the-turn.result the-turn.ensures.fact the-turn.ensures.fact_2 _ _ _ c.in_ok-more.was)
+    (the-turn.auto.scratch ∙ the-loop.invariant.0, walk_next w0 tops counts base count groups root keep s c.requires.3 c.requires.4 c.requires.2 c.requires.6 c.requires.0 c.requires.5 c.requires.7 room w1 the-loop.reached.naming the-loop.reached.any the-loop.p the-loop.reached.end the-loop.g the-loop.invariant.1 the-loop-test.true (get_or counts the-loop.g 0) (get_or tops the-loop.g 0) refl refl w2 (same_words_lem c.args.scratch.now the-loop.scratch the-loop.invariant.0) the-turn.result the-turn.ensures.fact the-turn.ensures.fact_2 _ c.in_ok-reached.was)
 
 pub name_groups-overflow_sub-result : goal.name_groups-overflow_sub-result
 name_groups-overflow_sub-result t c =
     let the-loop = c.loop-g in
     let w0 = words c.args.scratch.now in
-    let tops = c.args.tops.now in
-    let counts = c.args.counts.now in
+    let tops = c.args.children.now.tops in
+    let counts = c.args.children.now.counts in
     let base = c.args.atoms.base in
     let count = c.args.atoms.count in
-    let groups = c.args.groups in
+    let groups = c.args.children.now.len in
     let root = c.args.root in
     let keep = c.args.keep in
     let s = c.args.s in
-    let room : work_words ≤ length w0 = omega (arith, c.requires.9, length_words c.args.scratch.now) in
+    let room : work_words ≤ length w0 = omega (arith, c.requires.8, length_words c.args.scratch.now) in
     let w1 = words the-loop.scratch in
-    omega (arith, walk_low w0 tops counts base count groups root keep s c.requires.4 c.requires.5 c.requires.3 c.requires.7 c.requires.0 c.requires.6 c.requires.8 room w1 the-loop.m the-loop.any the-loop.p the-loop.q the-loop.g the-loop.invariant.1)
+    omega (arith, walk_low w0 tops counts base count groups root keep s c.requires.3 c.requires.4 c.requires.2 c.requires.6 c.requires.0 c.requires.5 c.requires.7 room w1 the-loop.reached.naming the-loop.reached.any the-loop.p the-loop.reached.end the-loop.g the-loop.invariant.1)
 
 pub name_groups-overflow_cast-result : goal.name_groups-overflow_cast-result
 name_groups-overflow_cast-result t c =
     let the-loop = c.loop-g in
     let w0 = words c.args.scratch.now in
-    let tops = c.args.tops.now in
-    let counts = c.args.counts.now in
+    let tops = c.args.children.now.tops in
+    let counts = c.args.children.now.counts in
     let base = c.args.atoms.base in
     let count = c.args.atoms.count in
-    let groups = c.args.groups in
+    let groups = c.args.children.now.len in
     let root = c.args.root in
     let keep = c.args.keep in
     let s = c.args.s in
-    let room : work_words ≤ length w0 = omega (arith, c.requires.9, length_words c.args.scratch.now) in
+    let room : work_words ≤ length w0 = omega (arith, c.requires.8, length_words c.args.scratch.now) in
     let w1 = words the-loop.scratch in
-    omega (arith, walk_low w0 tops counts base count groups root keep s c.requires.4 c.requires.5 c.requires.3 c.requires.7 c.requires.0 c.requires.6 c.requires.8 room w1 the-loop.m the-loop.any the-loop.p the-loop.q the-loop.g the-loop.invariant.1, walk_high w0 tops counts base count groups root keep s c.requires.4 c.requires.5 c.requires.3 c.requires.7 c.requires.0 c.requires.6 c.requires.8 room w1 the-loop.m the-loop.any the-loop.p the-loop.q the-loop.g the-loop.invariant.1, the-loop.invariant.1.below, c.requires.3)
+    omega (arith, walk_low w0 tops counts base count groups root keep s c.requires.3 c.requires.4 c.requires.2 c.requires.6 c.requires.0 c.requires.5 c.requires.7 room w1 the-loop.reached.naming the-loop.reached.any the-loop.p the-loop.reached.end the-loop.g the-loop.invariant.1, walk_high w0 tops counts base count groups root keep s c.requires.3 c.requires.4 c.requires.2 c.requires.6 c.requires.0 c.requires.5 c.requires.7 room w1 the-loop.reached.naming the-loop.reached.any the-loop.p the-loop.reached.end the-loop.g the-loop.invariant.1, the-loop.invariant.1.below, c.requires.2)
 
-pub name_groups-returns-then-any : goal.name_groups-returns-then-any
-name_groups-returns-then-any t c =
+pub name_groups-returns-clause-reduced_by : goal.name_groups-returns-clause-reduced_by
+name_groups-returns-clause-reduced_by t c =
     let the-loop = c.loop-g in
     let the-loop-test = c.loop-g-test in
-    let the-if1 = c.if-any in
+    let the-if1 = c.if-reached in
     let w0 = words c.args.scratch.now in
-    let tops = c.args.tops.now in
-    let counts = c.args.counts.now in
+    let tops = c.args.children.now.tops in
+    let counts = c.args.children.now.counts in
     let base = c.args.atoms.base in
     let count = c.args.atoms.count in
-    let groups = c.args.groups in
+    let groups = c.args.children.now.len in
     let root = c.args.root in
     let keep = c.args.keep in
     let s = c.args.s in
     let w1 = words the-loop.scratch in
-    record {
-      reduced_by = λ g z kept f L H K k. left_some w0 tops counts base count groups root keep s w1 the-loop.m the-loop.any the-loop.p the-loop.q the-loop.g the-loop.invariant.1 g L the-loop-test.false z kept f (the-loop.invariant.1.left g z kept f L H K k) the-if1.true;
-      only_names = the-loop.invariant.1.only;
-    }
+    λ g z kept f L H K k. left_none w0 tops counts base count groups root keep s w1 the-loop.reached.naming the-loop.reached.any the-loop.p the-loop.reached.end the-loop.g the-loop.invariant.1 g L the-loop-test.false z kept f (the-loop.invariant.1.left g z kept f L H K k) the-if1.false
 
-pub name_groups-returns : goal.name_groups-returns
-name_groups-returns t c =
+pub name_groups-returns-then-reached-clause-reduced_by : goal.name_groups-returns-then-reached-clause-reduced_by
+name_groups-returns-then-reached-clause-reduced_by t c =
     let the-loop = c.loop-g in
     let the-loop-test = c.loop-g-test in
-    let the-if1 = c.if-any in
+    let the-if1 = c.if-reached in
     let w0 = words c.args.scratch.now in
-    let tops = c.args.tops.now in
-    let counts = c.args.counts.now in
+    let tops = c.args.children.now.tops in
+    let counts = c.args.children.now.counts in
     let base = c.args.atoms.base in
     let count = c.args.atoms.count in
-    let groups = c.args.groups in
+    let groups = c.args.children.now.len in
     let root = c.args.root in
     let keep = c.args.keep in
     let s = c.args.s in
     let w1 = words the-loop.scratch in
-    record {
-      reduced_by = λ g z kept f L H K k. left_none w0 tops counts base count groups root keep s w1 the-loop.m the-loop.any the-loop.p the-loop.q the-loop.g the-loop.invariant.1 g L the-loop-test.false z kept f (the-loop.invariant.1.left g z kept f L H K k) the-if1.false;
-      only_names = the-loop.invariant.1.only;
-    }
+    λ g z kept f L H K k. left_some w0 tops counts base count groups root keep s w1 the-loop.reached.naming the-loop.reached.any the-loop.p the-loop.reached.end the-loop.g the-loop.invariant.1 g L the-loop-test.false z kept f (the-loop.invariant.1.left g z kept f L H K k) the-if1.true
 
-pub split_group-returns-then-not-is_wide : goal.split_group-returns-then-not-is_wide
-split_group-returns-then-not-is_wide t c =
+pub split_group-returns-then-not-is_wide-clause-split_by : goal.split_group-returns-then-not-is_wide-clause-split_by
+split_group-returns-then-not-is_wide-clause-split_by t c =
     let the-is-wide = c.is_wide in
     let the-if1 = c.if-not-is_wide in
     let w0 = words c.args.scratch.now in
@@ -395,17 +359,10 @@ split_group-returns-then-not-is_wide t c =
     let s = c.args.s in
     let root = c.args.root in
     let top = c.args.t in
-    record {
-      split_by = λ l z f A H k. split_narrow w0 base count s l root top z f A (tame_of w0 base count l c.requires.0 A) H (sym (the-is-wide.ensures l (part_of c.args.scratch.now base count l c.requires.3 c.requires.6 A)) ∙ the-if1.true);
-      only_names = names_none base count w0;
-    }
+    λ l z f A H k. split_narrow w0 base count s l root top z f A (tame_of w0 base count l c.requires.0 A) H (sym (the-is-wide.ensures l (part_of c.args.scratch.now base count l c.requires.3 c.requires.6 A)) ∙ the-if1.true)
 
-pub split_group-only_edge-requires : goal.split_group-only_edge-requires
-split_group-only_edge-requires t c =
-    (c.requires.0, c.requires.3, c.requires.6)
-
-pub split_group-returns-in_default : goal.split_group-returns-in_default
-split_group-returns-in_default t c =
+pub split_group-returns-in_default-clause-split_by : goal.split_group-returns-in_default-clause-split_by
+split_group-returns-in_default-clause-split_by t c =
     let the-is-wide = c.is_wide in
     let the-if1 = c.if-not-is_wide in
     let the-only-edge = c.only_edge in
@@ -415,31 +372,7 @@ split_group-returns-in_default t c =
     let s = c.args.s in
     let root = c.args.root in
     let top = c.args.t in
-    record {
-      split_by = λ l z f A H k. split_none w0 base count s l root top z f A (tame_of w0 base count l c.requires.0 A) H (sym (the-is-wide.ensures l (part_of c.args.scratch.now base count l c.requires.3 c.requires.6 A)) ∙ the-if1.false) (rw c.in_default.is at (the-only-edge.ensures l A));
-      only_names = names_none base count w0;
-    }
-
-pub split_group-to_front-requires : goal.split_group-to_front-requires
-split_group-to_front-requires t c =
-    let the-only-edge = c.only_edge in
-    let w0 = words c.args.scratch.now in
-    let base = c.args.atoms.base in
-    let count = c.args.atoms.count in
-    let e = c.in-Some.e in
-    let h : e < count = omega (arith, (c.in-Some.ensures c.requires.0.list c.requires.0.are).within, c.requires.0.are.long) in
-    (there_of w0 base count c.requires.0, h, c.requires.3, c.requires.6)
-
-pub split_group-overflow_add-inner : goal.split_group-overflow_add-inner
-split_group-overflow_add-inner t c = omega (arith, c.requires.3)
-
-pub split_group-overflow_sub-inner : goal.split_group-overflow_sub-inner
-split_group-overflow_sub-inner t c =
-    let the-only-edge = c.only_edge in
-    let e = c.in-Some.e in
-    let count = c.args.atoms.count in
-    let h : e < count = omega (arith, (c.in-Some.ensures c.requires.0.list c.requires.0.are).within, c.requires.0.are.long) in
-    omega (arith, h)
+    λ l z f A H k. split_none w0 base count s l root top z f A (tame_of w0 base count l c.requires.0 A) H (sym (the-is-wide.ensures l (part_of c.args.scratch.now base count l c.requires.3 c.requires.6 A)) ∙ the-if1.false) (rw c.in_default.is at (the-only-edge.ensures l A))
 
 pub split_group-name_branches-requires : goal.split_group-name_branches-requires
 split_group-name_branches-requires t c =
@@ -499,11 +432,10 @@ split_group-from_front-requires t c =
     let h : e < count = omega (arith, (c.in-Some.ensures c.requires.0.list c.requires.0.are).within, c.requires.0.are.long) in
     (record { list = fronted list e; are = fronted_again w0 w1 w2 base count e root top s long1 long2 c.requires.2 h the-to-front.ensures.only_records list c.requires.0.are c.requires.0.tame (the-to-front.ensures.atoms_are list c.requires.0.are) the-name-branches.ensures.only_names count c.requires.4.state (rw c.in-None.is at (c.in_ok-m.ensures.reduced_by (inner_at list e) c.requires.4.state [] count (inner_are w0 w1 w2 base count e root top s long1 long2 c.requires.2 h the-to-front.ensures.only_records list c.requires.0.are c.requires.0.tame (the-to-front.ensures.atoms_are list c.requires.0.are)) (named_front w0 w1 w2 base count e root top s long1 long2 c.requires.2 h the-to-front.ensures.only_records c.requires.4.state c.requires.4.held) (keep_none w1) (omega (arith, h)))) }, h, c.requires.3, omega (arith, the-name-branches.auto.scratch, the-to-front.auto.scratch, c.requires.6))
 
-pub split_group-returns-in-Some-2 : goal.split_group-returns-in-Some-2
-split_group-returns-in-Some-2 t c =
+pub split_group-returns-in-Some-2-clause-split_by : goal.split_group-returns-in-Some-2-clause-split_by
+split_group-returns-in-Some-2-clause-split_by t c =
     let the-is-wide = c.is_wide in
     let the-if1 = c.if-not-is_wide in
-    let the-only-edge = c.only_edge in
     let the-to-front = c.to_front in
     let the-name-branches = c.name_branches in
     let w0 = words c.args.scratch.now in
@@ -518,16 +450,12 @@ split_group-returns-in-Some-2 t c =
     let long1 = same_words_lem c.args.scratch.now the-to-front.new.scratch the-to-front.auto.scratch in
     let long2 = same_words_lem the-to-front.new.scratch the-name-branches.new.scratch the-name-branches.auto.scratch in
     let h : e < count = omega (arith, (c.in-Some.ensures c.requires.0.list c.requires.0.are).within, c.requires.0.are.long) in
-    record {
-      split_by = λ l z f A H k. split_to w0 w1 w2 base count e root top s long1 long2 c.requires.2 h the-to-front.ensures.only_records l A (tame_of w0 base count l c.requires.0 A) (the-to-front.ensures.atoms_are l A) the-name-branches.ensures.only_names f z (sym (the-is-wide.ensures l (part_of c.args.scratch.now base count l c.requires.3 c.requires.6 A)) ∙ the-if1.false) (c.in-Some.ensures l A) _ _ (rw c.in-Some-2.is at (c.in_ok-m.ensures.reduced_by (inner_at l e) z [] f (inner_are w0 w1 w2 base count e root top s long1 long2 c.requires.2 h the-to-front.ensures.only_records l A (tame_of w0 base count l c.requires.0 A) (the-to-front.ensures.atoms_are l A)) (named_front w0 w1 w2 base count e root top s long1 long2 c.requires.2 h the-to-front.ensures.only_records z H) (keep_none w1) (omega (arith, h, k))));
-      only_names = split_only w0 w1 w2 base count e root top s long1 long2 c.requires.2 h the-to-front.ensures.only_records the-name-branches.ensures.only_names;
-    }
+    λ l z f A H k. split_to w0 w1 w2 base count e root top s long1 long2 c.requires.2 h the-to-front.ensures.only_records l A (tame_of w0 base count l c.requires.0 A) (the-to-front.ensures.atoms_are l A) the-name-branches.ensures.only_names f z (sym (the-is-wide.ensures l (part_of c.args.scratch.now base count l c.requires.3 c.requires.6 A)) ∙ the-if1.false) (c.in-Some.ensures l A) _ _ (rw c.in-Some-2.is at (c.in_ok-m.ensures.reduced_by (inner_at l e) z [] f (inner_are w0 w1 w2 base count e root top s long1 long2 c.requires.2 h the-to-front.ensures.only_records l A (tame_of w0 base count l c.requires.0 A) (the-to-front.ensures.atoms_are l A)) (named_front w0 w1 w2 base count e root top s long1 long2 c.requires.2 h the-to-front.ensures.only_records z H) (keep_none w1) (omega (arith, h, k))))
 
-pub split_group-returns-in-None : goal.split_group-returns-in-None
-split_group-returns-in-None t c =
+pub split_group-returns-in-None-clause-split_by : goal.split_group-returns-in-None-clause-split_by
+split_group-returns-in-None-clause-split_by t c =
     let the-is-wide = c.is_wide in
     let the-if1 = c.if-not-is_wide in
-    let the-only-edge = c.only_edge in
     let the-to-front = c.to_front in
     let the-name-branches = c.name_branches in
     let the-from-front = c.from_front in
@@ -545,16 +473,12 @@ split_group-returns-in-None t c =
     let h : e < count = omega (arith, (c.in-Some.ensures c.requires.0.list c.requires.0.are).within, c.requires.0.are.long) in
     let w3 = words the-from-front.new.scratch in
     let long3 = same_words_lem the-name-branches.new.scratch the-from-front.new.scratch the-from-front.auto.scratch in
-    record {
-      split_by = λ l z f A H k. let N = rw c.in-None.is at (c.in_ok-m.ensures.reduced_by (inner_at l e) z [] f (inner_are w0 w1 w2 base count e root top s long1 long2 c.requires.2 h the-to-front.ensures.only_records l A (tame_of w0 base count l c.requires.0 A) (the-to-front.ensures.atoms_are l A)) (named_front w0 w1 w2 base count e root top s long1 long2 c.requires.2 h the-to-front.ensures.only_records z H) (keep_none w1) (omega (arith, h, k))) in split_back w0 w1 w2 base count e root top s long1 long2 c.requires.2 h the-to-front.ensures.only_records l A (tame_of w0 base count l c.requires.0 A) (the-to-front.ensures.atoms_are l A) the-name-branches.ensures.only_names f z (sym (the-is-wide.ensures l (part_of c.args.scratch.now base count l c.requires.3 c.requires.6 A)) ∙ the-if1.false) (c.in-Some.ensures l A) w3 long3 the-from-front.ensures.only_records (the-from-front.ensures.atoms_are l (sym A.long) (fronted_again w0 w1 w2 base count e root top s long1 long2 c.requires.2 h the-to-front.ensures.only_records l A (tame_of w0 base count l c.requires.0 A) (the-to-front.ensures.atoms_are l A) the-name-branches.ensures.only_names f z N)) N;
-      only_names = only_back base count w0 w2 w3 (split_only w0 w1 w2 base count e root top s long1 long2 c.requires.2 h the-to-front.ensures.only_records the-name-branches.ensures.only_names) the-from-front.ensures.only_records;
-    }
+    λ l z f A H k. let N = rw c.in-None.is at (c.in_ok-m.ensures.reduced_by (inner_at l e) z [] f (inner_are w0 w1 w2 base count e root top s long1 long2 c.requires.2 h the-to-front.ensures.only_records l A (tame_of w0 base count l c.requires.0 A) (the-to-front.ensures.atoms_are l A)) (named_front w0 w1 w2 base count e root top s long1 long2 c.requires.2 h the-to-front.ensures.only_records z H) (keep_none w1) (omega (arith, h, k))) in split_back w0 w1 w2 base count e root top s long1 long2 c.requires.2 h the-to-front.ensures.only_records l A (tame_of w0 base count l c.requires.0 A) (the-to-front.ensures.atoms_are l A) the-name-branches.ensures.only_names f z (sym (the-is-wide.ensures l (part_of c.args.scratch.now base count l c.requires.3 c.requires.6 A)) ∙ the-if1.false) (c.in-Some.ensures l A) w3 long3 the-from-front.ensures.only_records (the-from-front.ensures.atoms_are l (sym A.long) (fronted_again w0 w1 w2 base count e root top s long1 long2 c.requires.2 h the-to-front.ensures.only_records l A (tame_of w0 base count l c.requires.0 A) (the-to-front.ensures.atoms_are l A) the-name-branches.ensures.only_names f z N)) N
 
-pub split_group-returns-in_err-m : goal.split_group-returns-in_err-m
-split_group-returns-in_err-m t c =
+pub split_group-returns-in_err-m-clause-split_by : goal.split_group-returns-in_err-m-clause-split_by
+split_group-returns-in_err-m-clause-split_by t c =
     let the-is-wide = c.is_wide in
     let the-if1 = c.if-not-is_wide in
-    let the-only-edge = c.only_edge in
     let the-to-front = c.to_front in
     let the-name-branches = c.name_branches in
     let w0 = words c.args.scratch.now in
@@ -569,176 +493,69 @@ split_group-returns-in_err-m t c =
     let long1 = same_words_lem c.args.scratch.now the-to-front.new.scratch the-to-front.auto.scratch in
     let long2 = same_words_lem the-to-front.new.scratch the-name-branches.new.scratch the-name-branches.auto.scratch in
     let h : e < count = omega (arith, (c.in-Some.ensures c.requires.0.list c.requires.0.are).within, c.requires.0.are.long) in
-    let back = err_from_is_err_and c.from_residual.result c.from_residual.ensures.1 in rw (back.1, back.2)
-    (record {
-      split_by = λ l z f A H k. split_full w0 w1 w2 base count e root top s long1 long2 c.requires.2 h the-to-front.ensures.only_records l A (tame_of w0 base count l c.requires.0 A) (the-to-front.ensures.atoms_are l A) the-name-branches.ensures.only_names f z (sym (the-is-wide.ensures l (part_of c.args.scratch.now base count l c.requires.3 c.requires.6 A)) ∙ the-if1.false) (c.in-Some.ensures l A) _ (c.in_err-m.ensures.reduced_by (inner_at l e) z [] f (inner_are w0 w1 w2 base count e root top s long1 long2 c.requires.2 h the-to-front.ensures.only_records l A (tame_of w0 base count l c.requires.0 A) (the-to-front.ensures.atoms_are l A)) (named_front w0 w1 w2 base count e root top s long1 long2 c.requires.2 h the-to-front.ensures.only_records z H) (keep_none w1) (omega (arith, h, k)));
-      only_names = split_only w0 w1 w2 base count e root top s long1 long2 c.requires.2 h the-to-front.ensures.only_records the-name-branches.ensures.only_names;
-    })
+    let back = err_from_is_err_and c.from_residual.result c.from_residual.ensures.1 in
+    rw (back.1, back.2) (λ l z f A H k. split_full w0 w1 w2 base count e root top s long1 long2 c.requires.2 h the-to-front.ensures.only_records l A (tame_of w0 base count l c.requires.0 A) (the-to-front.ensures.atoms_are l A) the-name-branches.ensures.only_names f z (sym (the-is-wide.ensures l (part_of c.args.scratch.now base count l c.requires.3 c.requires.6 A)) ∙ the-if1.false) (c.in-Some.ensures l A) _ (c.in_err-m.ensures.reduced_by (inner_at l e) z [] f (inner_are w0 w1 w2 base count e root top s long1 long2 c.requires.2 h the-to-front.ensures.only_records l A (tame_of w0 base count l c.requires.0 A) (the-to-front.ensures.atoms_are l A)) (named_front w0 w1 w2 base count e root top s long1 long2 c.requires.2 h the-to-front.ensures.only_records z H) (keep_none w1) (omega (arith, h, k))))
 
-pub turn-mentions_kept-requires : goal.turn-mentions_kept-requires
-turn-mentions_kept-requires t c =
-    let w0 = words c.args.scratch.now in
-    let there = c.requires.0 in
-    let q = c.args.q in
-    let p = c.args.child.base in
-    let size = c.args.child.count in
-    let s = c.args.s in
-    let stands = c.requires.0.standing in
-    (child_there w0 there.base there.count q p size there.result there.group there.rest s there.state stands, omega (arith, c.requires.1), c.requires.2)
-
-pub turn-overflow_mul-child : goal.turn-overflow_mul-child
-turn-overflow_mul-child t c =
-    let w0 = words c.args.scratch.now in
-    let there = c.requires.0 in
-    let q = c.args.q in
-    let p = c.args.child.base in
-    let size = c.args.child.count in
-    let s = c.args.s in
-    let stands = c.requires.0.standing in
-    omega (arith, child_high w0 there.base there.count q p size there.result there.group there.rest s there.state stands)
-
-pub turn-overflow_mul-q : goal.turn-overflow_mul-q
-turn-overflow_mul-q t c =
-    let w0 = words c.args.scratch.now in
-    let there = c.requires.0 in
-    let q = c.args.q in
-    let p = c.args.child.base in
-    let size = c.args.child.count in
-    let s = c.args.s in
-    let stands = c.requires.0.standing in
-    omega (arith, child_high w0 there.base there.count q p size there.result there.group there.rest s there.state stands, stands.below)
-
-pub turn-overflow_mul-child-then-mentions_kept : goal.turn-overflow_mul-child-then-mentions_kept
-turn-overflow_mul-child-then-mentions_kept t c =
-    let w0 = words c.args.scratch.now in
-    let there = c.requires.0 in
-    let q = c.args.q in
-    let p = c.args.child.base in
-    let size = c.args.child.count in
-    let s = c.args.s in
-    let stands = c.requires.0.standing in
-    omega (arith, child_few w0 there.base there.count q p size there.result there.group there.rest s there.state stands)
-
-pub turn-move_words-requires : goal.turn-move_words-requires
-turn-move_words-requires t c =
-    let w0 = words c.args.scratch.now in
-    let there = c.requires.0 in
-    let q = c.args.q in
-    let p = c.args.child.base in
-    let size = c.args.child.count in
-    let s = c.args.s in
-    let stands = c.requires.0.standing in
-    (omega (arith, child_high w0 there.base there.count q p size there.result there.group there.rest s there.state stands, c.requires.2), omega (arith, child_high w0 there.base there.count q p size there.result there.group there.rest s there.state stands, stands.below, c.requires.2))
-
-pub turn-overflow_add-result : goal.turn-overflow_add-result
-turn-overflow_add-result t c =
-    let w0 = words c.args.scratch.now in
-    let there = c.requires.0 in
-    let q = c.args.q in
-    let p = c.args.child.base in
-    let size = c.args.child.count in
-    let s = c.args.s in
-    let stands = c.requires.0.standing in
-    omega (arith, child_high w0 there.base there.count q p size there.result there.group there.rest s there.state stands, stands.below)
-
-pub turn-returns-then-mentions_kept : goal.turn-returns-then-mentions_kept
-turn-returns-then-mentions_kept t c =
+pub turn-returns-then-mentions_kept-clause-fact : goal.turn-returns-then-mentions_kept-clause-fact
+turn-returns-then-mentions_kept-clause-fact t c =
     let the-mentions-kept = c.mentions_kept in
     let the-if1 = c.if-mentions_kept in
     let the-move-words = c.move_words in
     let w0 = words c.args.scratch.now in
     let w1 = words the-move-words.new.s in
-    let q = c.args.q in
+    let q = c.args.reached.end in
     let p = c.args.child.base in
     let size = c.args.child.count in
-    let s = c.args.s in
+    let s = c.args.reached.naming in
     let room : work_words ≤ length w0 = omega (arith, c.requires.2, length_words c.args.scratch.now) in
     let root = c.args.root in
     let top = c.args.t in
-    let any = c.args.any in
-    record {
-      fact = λ base count result group rest z kept f D K k. stay_turned w0 w1 base count q p size result group rest s z D room the-move-words.ensures f root top any kept (sym (the-mentions-kept.ensures group kept (child_are w0 base count q p size result group rest s z D) K) ∙ the-if1.true);
-      fact_2 = λ base count result group rest z D. stay_only w0 w1 base count q p size result group rest s z D room the-move-words.ensures;
-    }
+    let any = c.args.reached.any in
+    λ base count result group rest z kept f D K k. stay_turned w0 w1 base count q p size result group rest s z D room the-move-words.ensures f root top any kept (sym (the-mentions-kept.ensures group kept (child_are w0 base count q p size result group rest s z D) K) ∙ the-if1.true)
 
-pub turn-name_group-requires : goal.turn-name_group-requires
-turn-name_group-requires t c =
-    let size = c.args.child.count in
+pub turn-returns-then-mentions_kept-clause-fact_2 : goal.turn-returns-then-mentions_kept-clause-fact_2
+turn-returns-then-mentions_kept-clause-fact_2 t c =
+    let the-move-words = c.move_words in
     let w0 = words c.args.scratch.now in
-    let there = c.requires.0 in
-    let q = c.args.q in
+    let w1 = words the-move-words.new.s in
+    let q = c.args.reached.end in
     let p = c.args.child.base in
-    let s = c.args.s in
-    let stands = c.requires.0.standing in
-    let mt : 5 * size + 2 ≡ t = c.decreases in
-    (omega (arith, mt), (child_there w0 there.base there.count q p size there.result there.group there.rest s there.state stands, child_few w0 there.base there.count q p size there.result there.group there.rest s there.state stands, child_low w0 there.base there.count q p size there.result there.group there.rest s there.state stands, child_high w0 there.base there.count q p size there.result there.group there.rest s there.state stands, child_named w0 there.base there.count q p size there.result there.group there.rest s there.state stands, stands.first, c.requires.2))
+    let size = c.args.child.count in
+    let s = c.args.reached.naming in
+    let room : work_words ≤ length w0 = omega (arith, c.requires.2, length_words c.args.scratch.now) in
+    λ base count result group rest z D. stay_only w0 w1 base count q p size result group rest s z D room the-move-words.ensures
 
 pub turn-put_atom-requires : goal.turn-put_atom-requires
 turn-put_atom-requires t c =
     let the-name-group = c.name_group in
     let w0 = words c.args.scratch.now in
     let there = c.requires.0 in
-    let q = c.args.q in
+    let q = c.args.reached.end in
     let p = c.args.child.base in
     let size = c.args.child.count in
-    let s = c.args.s in
+    let s = c.args.reached.naming in
     let stands = c.requires.0.standing in
     let w1 = words the-name-group.new.scratch in
     let root = c.args.root in
     let top = c.args.t in
-    (omega (arith, child_high w0 there.base there.count q p size there.result there.group there.rest s there.state stands, stands.below, stands.filled, the-name-group.auto.scratch, c.requires.2), omega (arith, called_small w1 root s (group_rule size there.group root top there.state) _ _ (c.in_ok-m.ensures.called_by there.group there.state size (child_are w0 there.base there.count q p size there.result there.group there.rest s there.state stands) stands.held (omega arith))))
+    (omega (arith, child_high w0 there.base there.count q p size there.result there.group there.rest s there.state stands, stands.below, stands.filled, the-name-group.auto.scratch, c.requires.2), omega (arith, called_small w1 root s (group_rule size there.group root top there.state) _ _ (c.in_ok-naming.ensures.called_by there.group there.state size (child_are w0 there.base there.count q p size there.result there.group there.rest s there.state stands) stands.held (omega arith))))
 
-pub turn-overflow_add-result-2 : goal.turn-overflow_add-result-2
-turn-overflow_add-result-2 t c =
-    let w0 = words c.args.scratch.now in
-    let there = c.requires.0 in
-    let q = c.args.q in
-    let p = c.args.child.base in
-    let size = c.args.child.count in
-    let s = c.args.s in
-    let stands = c.requires.0.standing in
-    omega (arith, child_high w0 there.base there.count q p size there.result there.group there.rest s there.state stands, stands.below)
-
-pub turn-returns : goal.turn-returns
-turn-returns t c =
+pub turn-returns-clause-fact : goal.turn-returns-clause-fact
+turn-returns-clause-fact t c =
     let the-mentions-kept = c.mentions_kept in
     let the-if1 = c.if-mentions_kept in
     let the-name-group = c.name_group in
     let the-put-atom = c.put_atom in
     let w0 = words c.args.scratch.now in
     let w1 = words the-name-group.new.scratch in
-    let q = c.args.q in
+    let q = c.args.reached.end in
     let p = c.args.child.base in
     let size = c.args.child.count in
-    let s = c.args.s in
+    let s = c.args.reached.naming in
     let long1 = same_words_lem c.args.scratch.now the-name-group.new.scratch the-name-group.auto.scratch in
     let w2 = words the-put-atom.new.t in
     let room : work_words ≤ length w0 = omega (arith, c.requires.2, length_words c.args.scratch.now) in
     let root = c.args.root in
     let top = c.args.t in
-    let any = c.args.any in
-    record {
-      fact = λ base count result group rest z kept f D K k. call_turned w0 w1 base count q p size result group rest s z D long1 the-name-group.ensures.only_names w2 room _ _ root the-put-atom.ensures f top any kept (sym (the-mentions-kept.ensures group kept (child_are w0 base count q p size result group rest s z D) K) ∙ the-if1.false) (c.in_ok-m.ensures.called_by group z f (child_are w0 base count q p size result group rest s z D) D.held k);
-      fact_2 = λ base count result group rest z D. named_only w0 w1 base count q p size result group rest s z D long1 the-name-group.ensures.only_names w2 room s _ root the-put-atom.ensures;
-    }
-
-pub turn-returns-in_err-m : goal.turn-returns-in_err-m
-turn-returns-in_err-m t c =
-    let the-mentions-kept = c.mentions_kept in
-    let the-if1 = c.if-mentions_kept in
-    let the-name-group = c.name_group in
-    let w0 = words c.args.scratch.now in
-    let w1 = words the-name-group.new.scratch in
-    let q = c.args.q in
-    let p = c.args.child.base in
-    let size = c.args.child.count in
-    let s = c.args.s in
-    let long1 = same_words_lem c.args.scratch.now the-name-group.new.scratch the-name-group.auto.scratch in
-    let root = c.args.root in
-    let top = c.args.t in
-    let any = c.args.any in
-    let back = err_from_is_err_and c.from_residual.result c.from_residual.ensures.1 in rw (back.1, back.2)
-    (record {
-      fact = λ base count result group rest z kept f D K k. turn_full w0 w1 base count q p size result group rest s z D long1 the-name-group.ensures.only_names f root top any kept _ (sym (the-mentions-kept.ensures group kept (child_are w0 base count q p size result group rest s z D) K) ∙ the-if1.false) (c.in_err-m.ensures.called_by group z f (child_are w0 base count q p size result group rest s z D) D.held k);
-      fact_2 = λ base count result group rest z D. turn_only w0 w1 base count q p size result group rest s z D long1 the-name-group.ensures.only_names;
-    })
+    let any = c.args.reached.any in
+    λ base count result group rest z kept f D K k. call_turned w0 w1 base count q p size result group rest s z D long1 the-name-group.ensures.only_names w2 room _ _ root the-put-atom.ensures f top any kept (sym (the-mentions-kept.ensures group kept (child_are w0 base count q p size result group rest s z D) K) ∙ the-if1.false) (c.in_ok-naming.ensures.called_by group z f (child_are w0 base count q p size result group rest s z D) D.held k)

@@ -19,4 +19,4 @@ abbrev pub decreases-turn : goal.decreases-turn
 decreases-turn l = 5 * l.child.count + 2
 
 abbrev pub invariant-name_groups-loop-g : goal.invariant-name_groups-loop-g
-invariant-name_groups-loop-g l = (length l.scratch ≡ length l.initial.scratch) × Walk (words l.initial.scratch) l.tops l.counts l.fn.atoms.base l.fn.atoms.count l.groups l.root l.keep l.initial.m (words l.scratch) l.m l.any l.p l.q l.g
+invariant-name_groups-loop-g l = (length l.scratch ≡ length l.initial.scratch) × Walk (words l.initial.scratch) l.children.tops l.children.counts l.fn.atoms.base l.fn.atoms.count l.children.len l.root l.keep l.initial.reached.naming (words l.scratch) l.reached.naming l.reached.any l.p l.reached.end l.g
