@@ -10,10 +10,10 @@ use Rattle.rules.specs.Base.{Res, ok, refused, then}
 use Rattle.rules.specs.Reflexive.{same_atoms}
 use Rattle.rules.specs.Branches.{Branch, branch_name, memo_of, name_or_new, name_of, renumber}
 use Rattle.rules.specs.Branches as Rules
-use Rattle.branches.specs.Layout.{most_named, body_at, copy_at}
+use Rattle.branches.specs.Layout.{most_named}
 use Rattle.branches.specs.Wide.{AtomsAre}
-use Rattle.branches.specs.Memo.{packed, TameThere, named_words, no_branch, NamedHeld, NamedThere, NamedBy, OnlyMemo}
-use Rattle.naming.specs.Names.{To, OnlyNames}
+use Rattle.branches.specs.Memo.{packed, TameThere, named_words, no_branch, NamedHeld, NamedThere, NamedBy}
+use Rattle.naming.specs.Names.{To}
 use Rattle.naming.specs.Splits.{split_rule, group_rule, SplitBy, CalledBy}
 use Rattle.naming.specs.GoesLaws.{Goes, name_goes}
 use Rattle.branches.specs.declared.memo.Naming.{Naming}
@@ -123,10 +123,3 @@ split_there w base count s m n (ok b y) T = record {
   few = named_few w m y T.held;
 }
 split_there w base count s m n (refused k) T = absurd T
-
-pub call_only : (base count : ℕ) (w w1 w2 : List ℕ) → body_at ≤ base → base + count ≤ copy_at → OnlyNames base count w w1 → OnlyMemo w1 w2 → OnlyNames base count w w2
-call_only base count w w1 w2 k h O M = record {
-  before = λ j a b. M.work j a (omega arith) ∙ O.before j a b;
-  between = λ j a b. M.work j (omega arith) (omega arith) ∙ O.between j a b;
-  keep = λ j a b. M.keep j a b ∙ O.keep j a b;
-}

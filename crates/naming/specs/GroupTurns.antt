@@ -194,9 +194,6 @@ module _ (w₀ tops counts : List ℕ) (base count r root keep : ℕ) (s : Namin
             first = omega (arith, D.first, fi);
           }
 
-          pub child_within : c ≤ count
-          child_within = omega (arith, standing.all, standing.below, standing.here)
-
           rule_on : groups_rule f root kept g z ≡ then (child_of f root t child.1 any (mentions kept child.1) D.state) (λ o y. rest f root kept after (D.result ++ o.0) o.1 y)
           rule_on =
               D.rule ∙ ap (λ (x : List (ℕ × List Atom)). rest f root kept x D.result any D.state) cut ∙ rest_cons f root kept child after D.result any D.state

@@ -19,7 +19,7 @@ use Rattle.branches.specs.Memo.{Tame, NamedHeld, NamedThere}
 use Rattle.branches.specs.Edges.{KeepIs}
 use Rattle.branches.specs.Trees.{Treed, TreeBy, TreeIs, OnlyTree}
 use Rattle.branches.specs.Grouped.{all_of, nothing, ArrangedBy, OnlyRecords}
-use Rattle.naming.specs.Names.{Reduced, ReducedBy, OnlyNames}
+use Rattle.naming.specs.Names.{Reduced, ReducedBy}
 use Rattle.naming.specs.Splits.{groups_rule, Laid}
 use Rattle.naming.specs.GroupLaws.{WellBy, grouped_well, grouped_alone, filled_few}
 use Rattle.naming.specs.AgreeLaws.{atoms_stay, named_stay, keep_stay}
@@ -32,13 +32,6 @@ module _ (w w1 : List ℕ) (base count root : ℕ) (s : Naming) (long1 : length 
 
   pub tree_held : (z : Rules.Naming) → NamedHeld w s z → NamedHeld w1 s z
   tree_held z H = named_stay w w1 long1 s z (λ j a. O1.before j (omega arith)) H
-
-  pub tree_only : OnlyNames base count w w1
-  tree_only = record {
-    before = λ j a b. O1.before j (omega arith);
-    between = λ j a b. O1.before j (omega arith);
-    keep = λ j a b. O1.behind j (omega arith);
-  }
 
   none_go : (again : List Atom → ℕ → List ℕ → W (Option (List Atom))) (l : List Atom) (z : Rules.Naming) (kept : List ℕ) → AtomsAre w base count l → NamedHeld w s z
       → (t : Tree) (b : Bool) → TreeBy w1 root t b None → ReducedBy w1 base count l kept s (name_tree again l root kept t b z) (Ok None)
@@ -187,10 +180,3 @@ module _ (w w1 w2 : List ℕ) (base count : ℕ) (s : Naming) (long1 : length w1
 
   pub laid_keep : (n : ℕ) (kept : List ℕ) → KeepIs w n kept → KeepIs w2 n kept
   laid_keep n kept K = keep_stay w1 w2 long2 n kept (λ j a b. O2.behind j (omega arith)) (keep_stay w w1 long1 n kept (λ j a b. O1.behind j (omega arith)) K)
-
-  pub laid_only : (w3 : List ℕ) → OnlyNames base count w2 w3 → OnlyNames base count w w3
-  laid_only w3 O = record {
-    before = λ j a b. O.before j a b ∙ O2.before j b ∙ O1.before j (omega arith);
-    between = λ j a b. O.between j a b ∙ O2.between j a b ∙ O1.before j (omega arith);
-    keep = λ j a b. O.keep j a b ∙ O2.behind j (omega arith) ∙ O1.behind j (omega arith);
-  }

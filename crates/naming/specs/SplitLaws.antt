@@ -1,6 +1,6 @@
 -- A child split one level down: its edge in front, and what is below it named. Assumes nothing.
 use Rattle.std.specs.Prelude.{true, false, Some, None, Ok, Err, ◌≡◌, refl, List, [], ◌∷◌, ◌++◌, ℕ, zero, suc, ◌+◌, ◌*◌, ◌-◌, ◌≤◌, ◌<◌, length, get_or, take, drop, ltb}
-use Rattle.std.proofs.Common.{subst, ◌∙◌, arith}
+use Rattle.std.proofs.Common.{subst, arith}
 use Rattle.std.proofs.Math.Option.{Option, none, some}
 use Rattle.words.specs.Words.{words}
 use Rattle.ir.specs.Records.{six}
@@ -15,7 +15,7 @@ use Rattle.tables.specs.Tabled.{Run}
 use Rattle.tables.specs.TabledLaws.{At, at_front, at_back}
 use Rattle.tables.specs.AtomLaws.{part_run}
 use Rattle.branches.specs.Layout.{body_at, copy_at, work_words}
-use Rattle.branches.specs.Wide.{AtomsAre, AtomsThere}
+use Rattle.branches.specs.Wide.{AtomsAre}
 use Rattle.branches.specs.Memo.{Tame, TameThere, NamedHeld, NamedThere}
 use Rattle.branches.specs.Edges.{KeepIs, OneEdge, any_atom, fronted, splits}
 use Rattle.branches.specs.Grouped.{OnlyRecords}
@@ -28,9 +28,6 @@ use Rattle.naming.specs.AgreeLaws.{at_stay, named_stay, named_there_stay}
 
 pub keep_none : (w : List ℕ) → KeepIs w 0 []
 keep_none w = record { long = refl; few = omega arith; are = refl }
-
-pub there_of : (w : List ℕ) (base count : ℕ) → TameThere w base count → AtomsThere w base count
-there_of w base count T = record { list = T.list; are = T.are }
 
 pub tame_of : (w : List ℕ) (base count : ℕ) (l : List Atom) → TameThere w base count → AtomsAre w base count l → Each Tame l
 tame_of w base count l T A = subst (Each Tame) (atoms_same w base count T.list l T.are A) T.tame
@@ -159,20 +156,6 @@ module _ (w w1 w2 : List ℕ) (base count e root t : ℕ) (s : Naming) (long1 : 
 
             pub split_back : ReducedBy w2 (base + 1) (count - 1) (inner_at l e) [] s (name_by f (inner_at l e) t [] z) (Ok None) → SplitBy w3 base count s (split_rule f l root t z) (Ok (s, count))
             split_back N = rw (split_rule_lem l root t e f z g E) (back_go (name_by f (inner_at l e) t [] z) N)
-
-  pub split_only : OnlyNames (base + 1) (count - 1) w1 w2 → OnlyNames base count w w2
-  split_only O2 = record {
-    before = λ j a b. O2.before j a (omega arith) ∙ O1.before j b;
-    between = λ j a b. O2.between j (omega arith) b ∙ O1.between j a b;
-    keep = λ j a b. O2.keep j a b ∙ O1.behind j (omega arith);
-  }
-
-pub only_back : (base count : ℕ) (w w2 w3 : List ℕ) → OnlyNames base count w w2 → OnlyRecords base count w2 w3 → OnlyNames base count w w3
-only_back base count w w2 w3 O P = record {
-  before = λ j a b. P.before j b ∙ O.before j a b;
-  between = λ j a b. P.between j a b ∙ O.between j a b;
-  keep = λ j a b. P.behind j (omega arith) ∙ O.keep j a b;
-}
 
 pub names_none : (base count : ℕ) (w : List ℕ) → OnlyNames base count w w
 names_none base count w = record { before = λ j a b. refl; between = λ j a b. refl; keep = λ j a b. refl }

@@ -17,7 +17,7 @@ use Rattle.rules.specs.Branches as Rules
 use Rattle.tables.specs.TabledLaws.{At}
 use Rattle.branches.specs.Layout.{body_at, copy_at, work_words}
 use Rattle.branches.specs.Wide.{AtomsAre}
-use Rattle.branches.specs.Memo.{Tame, TameThere, NamedHeld, NamedThere}
+use Rattle.branches.specs.Memo.{Tame, NamedHeld}
 use Rattle.naming.specs.Names.{OnlyNames}
 use Rattle.naming.specs.Splits.{group_rule, Called, CalledBy, child_of, Standing, Onward, TurnedBy}
 use Rattle.branches.specs.InsertLaws.{at_join, at_here, at_below, at_above}
@@ -29,20 +29,8 @@ module _ (w : List ℕ) (base count q p c : ℕ) (result group rest : List Atom)
   pub child_are : AtomsAre w p c group
   child_are = record { long = D.many; there = D.child }
 
-  pub child_there : TameThere w p c
-  child_there = record { list = group; are = child_are; tame = D.tame_child }
-
   pub child_high : p + c ≤ copy_at
   child_high = omega (arith, D.all, D.high)
-
-  pub child_low : body_at ≤ p
-  child_low = omega (arith, D.low, D.below, D.here)
-
-  pub child_few : c ≤ 256
-  child_few = omega (arith, D.all, D.below, D.here, D.few)
-
-  pub child_named : NamedThere w s
-  child_named = record { state = z; held = D.held }
 
 -- ---- atoms put behind the result
 module _ (w w' : List ℕ) (base count q p : ℕ) (result added rest : List Atom) (e : w' ≡ sets w (6 * q) (flat added)) (here : q ≡ base + length result)
@@ -115,13 +103,6 @@ flat_one a = refl
 
 module _ (w w1 : List ℕ) (base count q p c : ℕ) (result group rest : List Atom) (s : Naming) (z : Rules.Naming) (D : Standing w base count q p c result group rest s z)
     (long1 : length w1 ≡ length w) (O : OnlyNames p c w w1) where
-  pub turn_only : OnlyNames base count w w1
-  turn_only = record {
-    before = λ j a b. O.before j a (omega (arith, D.here, D.below));
-    between = λ j a b. O.between j (omega (arith, D.all)) b;
-    keep = O.keep;
-  }
-
   pub turn_full : (f root t : ℕ) (any : Bool) (kept : List ℕ) (x : Refusal) → mentions kept group ≡ false → CalledBy w1 root s (group_rule f group root t z) (Err x)
       → TurnedBy w1 base q (p + c) result rest s (child_of f root t group any (mentions kept group) z) (Err x)
   turn_full f root t any kept x h C = rw h (go (group_rule f group root t z) C)
@@ -139,16 +120,6 @@ module _ (w w1 : List ℕ) (base count q p c : ℕ) (result group rest : List At
 
     long_call : work_words ≤ length w1
     long_call = omega (arith, long, long1)
-
-    pub named_only : OnlyNames base count w w'
-    named_only =
-        let A = put_only w1 w' base count q (p + c) result (Class e root ∷ []) rest call_put D.here fit_call D.all D.low D.high long_call in
-        let B = turn_only in
-        record {
-          before = λ j a b. A.before j a b ∙ B.before j a b;
-          between = λ j a b. A.between j a b ∙ B.between j a b;
-          keep = λ j a b. A.keep j a b ∙ B.keep j a b;
-        }
 
     done_call : At w1 (6 * base) (flat result)
     done_call = flat_stay w w1 long1 base result (λ j a b. O.before j (omega (arith, D.low)) (omega (arith, D.here, D.below))) D.done
