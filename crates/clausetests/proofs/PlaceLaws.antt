@@ -22,14 +22,14 @@ use Rattle.states.specs.LiteralLaws.{Distinct}
 use Rattle.sets.specs.Kept.{set_at}
 use Rattle.sets.specs.Places.{vars_at}
 use Rattle.clausetests.specs.declared.vars.Vars.{Vars}
-use Rattle.clausetests.specs.Vars.{VarsAs, few, many}
+use Rattle.clausetests.specs.Vars.{four, VarsAs, few, many}
 use Rattle.clausetests.specs.Given.{AtomThere, OneIs, PairWith}
 use Rattle.clausetests.specs.Fitting.{pair_at, Tables, turned, only_in, both_in, one_with, two_with, Changed, Meant, MeantThere}
 use Rattle.clausetests.proofs.FittingLaws.{pair_within, tables_one, tables_two}
 
 -- ---- variables and their places
 pub vars_long : (vs : List ℕ) (v : Vars) → VarsAs vs v → v.n ≤ 4 → length vs ≡ v.n
-vars_long vs v (few h n e) l = ap length (sym e) ∙ length-take-le v.n v.ids (omega arith)
+vars_long vs v (few h e) l = ap length (sym e) ∙ length-take-le v.n (four v.ids) h
 vars_long vs v (many h e) l = absurd (omega arith)
 
 pub nth_in : (vs : List ℕ) (j : ℕ) → j < length vs → contains vs (get_or vs j 0) ≡ true

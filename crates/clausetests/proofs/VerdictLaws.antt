@@ -47,7 +47,7 @@ module _ (w w' xs : List ℕ) (four : length xs ≡ 4) (e : w' ≡ sets w shown_
 
 -- ---- one clause
 vars_few : (c : Clause) (v : Vars) → VarsAs (clause_vars c) v → wide_clause c ≡ false → v.n ≤ 4
-vars_few c v (few h n e) w = h
+vars_few c v (few h e) w = h
 vars_few c v (many h e) w = absurd (let l = ltb-false most_vars (length (clause_vars c)) w in omega arith)
 
 module _ (I : Interpretation) (roles size : ℕ) (c : Clause) (i : ℕ) (text clauses atoms w s : List ℕ) (S : ClauseIs I roles size c i text clauses atoms w s) (v : Vars) (A : VarsAs (clause_vars c) v) where

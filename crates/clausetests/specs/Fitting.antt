@@ -16,6 +16,8 @@ use Rattle.sets.specs.Kept.{set_at}
 use Rattle.sets.specs.Places.{vars_at, pairs_at}
 use Rattle.sets.specs.Laid.{KeptTo}
 use Rattle.tables.specs.Tabled.{Run}
+use Rattle.clausetests.specs.declared.fitting.Side.{Side}
+use Rattle.clausetests.specs.declared.fitting.Side.TheVariants.{Body, Head}
 use Rattle.clausetests.specs.declared.vars.Vars.{Vars}
 use Rattle.clausetests.specs.Vars.{VarsAs}
 use Rattle.clausetests.specs.Given.{Given, NamesRoles}
@@ -46,6 +48,10 @@ pub record Tables (n k : ℕ) (one : ℕ → ℕ → Bool) (two : ℕ → ℕ �
   pub twos : Twos n k two v
 
 -- ---- what the atoms of a body say, or of a head (`head`), where an atom must fail
+abbrev pub is_head : Side → Bool
+is_head Body = false
+is_head Head = true
+
 abbrev pub turned : Bool → Bool → Bool
 turned true b = not b
 turned false b = b

@@ -1,5 +1,5 @@
 // The set of an atom of one variable, and what an atom of two leaves to one of them.
-ghost use Rattle.std.specs.Prelude.{◌≡◌, Bool, List, ℕ, ◌+◌, ◌<◌, ◌≤◌, leb};
+ghost use Rattle.std.specs.Prelude.{◌≡◌, Bool, List, ℕ, ◌+◌, ◌<◌, ◌≤◌, leb, eqb};
 ghost use Rattle.words.specs.Words.{words};
 ghost use Rattle.ir.specs.Pick.{pick};
 ghost use Rattle.ir.specs.Roles.{flipped};
@@ -83,11 +83,11 @@ pub fn atom_set(text: &[u8], store: &[u8], scratch: &[u8], a: Atom, size: u32) -
     }
 }
 
-// The role, or its inverse where it is turned.
-fn turned(r: Role, turn: bool) -> Role
-    ensures { result ≡ pick turn (flipped r) r }
+// The role, or its inverse where u, the atom's first variable, is the free one.
+fn turned(r: Role, u: u32, free: u32) -> Role
+    ensures { result ≡ pick (eqb u «free») (flipped r) r }
 {
-    if turn {
+    if u == free {
         return r.flip();
     }
     r
@@ -99,7 +99,7 @@ pub fn atom_row(scratch: &[u8], a: Atom, free: u32, x: u32, size: u32) -> u64
     ensures { (I : Interpretation) (roles : ℕ) (text w : List ℕ) → Given I roles size text w (words scratch.now) → NamesRoles roles a → result ≡ mask_of I.size (λ y. atom_holds I (chosen (λ _. x) «free» y) a) }
 {
     match a {
-        Atom::Role(r, u, _) => kept::row(scratch, turned(r, u == free).code(), x),
+        Atom::Role(r, u, _) => kept::row(scratch, turned(r, u, free).code(), x),
         Atom::Equal(_, _) => sets::with(0, x as u64),
         Atom::Class(_, _) => 0,
         Atom::Exists(_, _, _) => 0,

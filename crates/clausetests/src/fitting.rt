@@ -12,7 +12,7 @@ ghost use Rattle.sets.specs.Places.{vars_at, shown_at};
 ghost use Rattle.tables.specs.Tabled.{Run};
 ghost use Rattle.tables.specs.AtomLaws.{no_atom};
 ghost use Rattle.clausetests.specs.Given.{Given, NamesRoles, PairWith, AtomThere};
-ghost use Rattle.clausetests.specs.Fitting.{pairs, pair_at, Tables, turned, one_with, two_with, ones_with, twos_with, clause_one, clause_two, Changed, Meant, MeantThere, RunMeant, ClauseMeant};
+ghost use Rattle.clausetests.specs.Fitting.{pairs, pair_at, Tables, is_head, turned, one_with, two_with, ones_with, twos_with, clause_one, clause_two, Changed, Meant, MeantThere, RunMeant, ClauseMeant};
 
 use crate::vars::Vars;
 use crate::{atom, vars};
@@ -20,6 +20,13 @@ use ir::atom::Atom;
 use ir::record;
 use sets::kept;
 use sets::places::{PAIRS, VARS};
+
+// Where a run stands in its clause: an atom of a head narrows by what it fails of.
+#[derive(Clone, Copy)]
+pub enum Side {
+    Body,
+    Head,
+}
 
 // The pairs of k places.
 fn pairs(k: u32) -> usize
@@ -72,46 +79,46 @@ fn start(scratch: &mut [u8], k: u32, size: u32)
     fill(scratch, PAIRS, 64 * pairs(k), m);
 }
 
-// What the set a has and the atom's set m allows; an atom of a head allows what it fails of.
-fn allowed(a: u64, m: u64, head: bool) -> u64
-    ensures { (n : ℕ) (f g : ℕ → Bool) → a ≡ mask_of n f → m ≡ mask_of n g → result ≡ mask_of n (λ x. f x && turned head (g x)) }
+// What the set a has and the atom's set m allows.
+fn allowed(a: u64, m: u64, side: Side) -> u64
+    ensures { (n : ℕ) (f g : ℕ → Bool) → a ≡ mask_of n f → m ≡ mask_of n g → result ≡ mask_of n (λ x. f x && turned (is_head side) (g x)) }
 {
-    if head {
-        return sets::without(a, m);
+    match side {
+        Side::Body => sets::both(a, m),
+        Side::Head => sets::without(a, m),
     }
-    sets::both(a, m)
 }
 
 // Set i, narrowed by an atom's set.
-fn narrow(scratch: &mut [u8], i: usize, m: u64, head: bool)
+fn narrow(scratch: &mut [u8], i: usize, m: u64, side: Side)
     requires { 8 * i + 8 ≤ length scratch.old }
-    ensures by_index { (n : ℕ) (f g : ℕ → Bool) → set_at (words scratch.old) i ≡ mask_of n f → m ≡ mask_of n g → set_at (words scratch.new) i ≡ mask_of n (λ x. f x && turned head (g x)) }
+    ensures by_index { (n : ℕ) (f g : ℕ → Bool) → set_at (words scratch.old) i ≡ mask_of n f → m ≡ mask_of n g → set_at (words scratch.new) i ≡ mask_of n (λ x. f x && turned (is_head side) (g x)) }
     ensures changed { Changed (2 * i) (2 * i + 2) (words scratch.old) (words scratch.new) }
 {
     let a = kept::get_set(scratch, i);
-    kept::put_set(scratch, i, allowed(a, m, head));
+    kept::put_set(scratch, i, allowed(a, m, side));
 }
 
 // The sets from `at` on, one for each element, narrowed by an atom of two variables; `free` is the second of them.
-fn narrow_rows(scratch: &mut [u8], a: Atom, at: usize, free: u32, head: bool, size: u32)
+fn narrow_rows(scratch: &mut [u8], a: Atom, at: usize, free: u32, side: Side, size: u32)
     requires { (at + 64 ≤ 44032) × PairWith «free» a × ((text store : List ℕ) × AtomThere size a text store scratch.old) }
-    ensures e_after { (I : Interpretation) (roles : ℕ) (text w : List ℕ) (f : ℕ → ℕ → Bool) → Given I roles size text w (words scratch.old) → NamesRoles roles a → ((e : ℕ) → e < size → set_at (words scratch.old) (at + e) ≡ mask_of size (f e)) → (e : ℕ) → e < size → set_at (words scratch.new) (at + e) ≡ mask_of size (λ y. f e y && turned head (atom_holds I (chosen (λ _. e) «free» y) a)) }
+    ensures e_after { (I : Interpretation) (roles : ℕ) (text w : List ℕ) (f : ℕ → ℕ → Bool) → Given I roles size text w (words scratch.old) → NamesRoles roles a → ((e : ℕ) → e < size → set_at (words scratch.old) (at + e) ≡ mask_of size (f e)) → (e : ℕ) → e < size → set_at (words scratch.new) (at + e) ≡ mask_of size (λ y. f e y && turned (is_head side) (atom_holds I (chosen (λ _. e) «free» y) a)) }
     ensures changed { Changed (2 * at) (2 * (at + 64)) (words scratch.old) (words scratch.new) }
 {
     for e in 0..size {
         let m = atom::atom_row(scratch, a, free, e, size);
-        narrow(scratch, at + e as usize, m, head);
+        narrow(scratch, at + e as usize, m, side);
     }
 }
 
 // The set of place j, narrowed by an atom that has no other variable.
-fn narrow_one(text: &[u8], store: &[u8], scratch: &mut [u8], a: Atom, j: u32, head: bool, size: u32)
+fn narrow_one(text: &[u8], store: &[u8], scratch: &mut [u8], a: Atom, j: u32, side: Side, size: u32)
     requires { (j < 4) × AtomThere size a text.now store.now scratch.old }
-    ensures j_after { (I : Interpretation) (roles : ℕ) (f : ℕ → Bool) → Given I roles size text.now (words store.now) (words scratch.old) → NamesRoles roles a → set_at (words scratch.old) (vars_at + j) ≡ mask_of size f → set_at (words scratch.new) (vars_at + j) ≡ mask_of size (λ x. f x && turned head (atom_holds I (λ _. x) a)) }
+    ensures j_after { (I : Interpretation) (roles : ℕ) (f : ℕ → Bool) → Given I roles size text.now (words store.now) (words scratch.old) → NamesRoles roles a → set_at (words scratch.old) (vars_at + j) ≡ mask_of size f → set_at (words scratch.new) (vars_at + j) ≡ mask_of size (λ x. f x && turned (is_head side) (atom_holds I (λ _. x) a)) }
     ensures changed { Changed (2 * (vars_at + j)) (2 * (vars_at + j) + 2) (words scratch.old) (words scratch.new) }
 {
     let m = atom::atom_set(text, store, scratch, a, size);
-    narrow(scratch, VARS + j as usize, m, head);
+    narrow(scratch, VARS + j as usize, m, side);
 }
 
 // The tables, narrowed by an atom of the variables x and y.
@@ -123,24 +130,24 @@ fn narrow_pair(
     v: Vars,
     x: u32,
     y: u32,
-    head: bool,
+    side: Side,
     size: u32,
 )
     requires { (atom_vars a ≡ x ∷ y ∷ []) × MeantThere size (a ∷ []) v text.now store.now scratch.old }
-    ensures tables { (I : Interpretation) (roles : ℕ) (vs : List ℕ) (one : ℕ → ℕ → Bool) (two : ℕ → ℕ → ℕ → ℕ → Bool) → Meant I roles vs size (a ∷ []) v text.now (words store.now) (words scratch.old) → Tables size v.n one two (words scratch.old) → Tables size v.n (one_with I vs head a one) (two_with I vs head a two) (words scratch.new) }
+    ensures tables { (I : Interpretation) (roles : ℕ) (vs : List ℕ) (one : ℕ → ℕ → Bool) (two : ℕ → ℕ → ℕ → ℕ → Bool) → Meant I roles vs size (a ∷ []) v text.now (words store.now) (words scratch.old) → Tables size v.n one two (words scratch.old) → Tables size v.n (one_with I vs (is_head side) a one) (two_with I vs (is_head side) a two) (words scratch.new) }
     ensures changed { Changed (2 * vars_at) shown_at (words scratch.old) (words scratch.new) }
 {
     let i = vars::place(v, x);
     let j = vars::place(v, y);
     if i == j {
-        narrow_one(text, store, scratch, a, i, head, size);
+        narrow_one(text, store, scratch, a, i, side, size);
         return;
     }
     if i < j {
-        narrow_rows(scratch, a, pair_at(i, j), y, head, size);
+        narrow_rows(scratch, a, pair_at(i, j), y, side, size);
         return;
     }
-    narrow_rows(scratch, a, pair_at(j, i), x, head, size);
+    narrow_rows(scratch, a, pair_at(j, i), x, side, size);
 }
 
 // By an atom.
@@ -150,19 +157,19 @@ fn narrow_atom(
     scratch: &mut [u8],
     a: Atom,
     v: Vars,
-    head: bool,
+    side: Side,
     size: u32,
 )
     requires { MeantThere size (a ∷ []) v text.now store.now scratch.old }
-    ensures tables { (I : Interpretation) (roles : ℕ) (vs : List ℕ) (one : ℕ → ℕ → Bool) (two : ℕ → ℕ → ℕ → ℕ → Bool) → Meant I roles vs size (a ∷ []) v text.now (words store.now) (words scratch.old) → Tables size v.n one two (words scratch.old) → Tables size v.n (one_with I vs head a one) (two_with I vs head a two) (words scratch.new) }
+    ensures tables { (I : Interpretation) (roles : ℕ) (vs : List ℕ) (one : ℕ → ℕ → Bool) (two : ℕ → ℕ → ℕ → ℕ → Bool) → Meant I roles vs size (a ∷ []) v text.now (words store.now) (words scratch.old) → Tables size v.n one two (words scratch.old) → Tables size v.n (one_with I vs (is_head side) a one) (two_with I vs (is_head side) a two) (words scratch.new) }
     ensures changed { Changed (2 * vars_at) shown_at (words scratch.old) (words scratch.new) }
 {
     match ir::atom::atom_vars(a) {
         ir::atom::Vars::One(x) => {
             let j = vars::place(v, x);
-            narrow_one(text, store, scratch, a, j, head, size);
+            narrow_one(text, store, scratch, a, j, side, size);
         }
-        ir::atom::Vars::Two(x, y) => narrow_pair(text, store, scratch, a, v, x, y, head, size),
+        ir::atom::Vars::Two(x, y) => narrow_pair(text, store, scratch, a, v, x, y, side, size),
     }
 }
 
@@ -174,17 +181,17 @@ fn narrow_at(
     run: &[u8],
     i: usize,
     v: Vars,
-    head: bool,
+    side: Side,
     size: u32,
 )
     requires { (24 * i + 24 ≤ length run.now) × RunMeant size run.now v text.now store.now scratch.old }
-    ensures tables { (I : Interpretation) (roles : ℕ) (vs : List ℕ) (l : List Atom) (one : ℕ → ℕ → Bool) (two : ℕ → ℕ → ℕ → ℕ → Bool) → Run run.now l → Meant I roles vs size l v text.now (words store.now) (words scratch.old) → Tables size v.n one two (words scratch.old) → Tables size v.n (one_with I vs head (get_or l i no_atom) one) (two_with I vs head (get_or l i no_atom) two) (words scratch.new) }
+    ensures tables { (I : Interpretation) (roles : ℕ) (vs : List ℕ) (l : List Atom) (one : ℕ → ℕ → Bool) (two : ℕ → ℕ → ℕ → ℕ → Bool) → Run run.now l → Meant I roles vs size l v text.now (words store.now) (words scratch.old) → Tables size v.n one two (words scratch.old) → Tables size v.n (one_with I vs (is_head side) (get_or l i no_atom) one) (two_with I vs (is_head side) (get_or l i no_atom) two) (words scratch.new) }
     ensures changed { Changed (2 * vars_at) shown_at (words scratch.old) (words scratch.new) }
 {
     let Some(a) = record::get_atom(run, i) else {
         return;
     };
-    narrow_atom(text, store, scratch, a, v, head, size);
+    narrow_atom(text, store, scratch, a, v, side, size);
 }
 
 // By a run.
@@ -194,16 +201,16 @@ fn narrow_run(
     scratch: &mut [u8],
     run: &[u8],
     v: Vars,
-    head: bool,
+    side: Side,
     size: u32,
 )
     requires { RunMeant size run.now v text.now store.now scratch.old }
-    ensures tables { (I : Interpretation) (roles : ℕ) (vs : List ℕ) (l : List Atom) (one : ℕ → ℕ → Bool) (two : ℕ → ℕ → ℕ → ℕ → Bool) → Run run.now l → Meant I roles vs size l v text.now (words store.now) (words scratch.old) → Tables size v.n one two (words scratch.old) → Tables size v.n (ones_with I vs head l one) (twos_with I vs head l two) (words scratch.new) }
+    ensures tables { (I : Interpretation) (roles : ℕ) (vs : List ℕ) (l : List Atom) (one : ℕ → ℕ → Bool) (two : ℕ → ℕ → ℕ → ℕ → Bool) → Run run.now l → Meant I roles vs size l v text.now (words store.now) (words scratch.old) → Tables size v.n one two (words scratch.old) → Tables size v.n (ones_with I vs (is_head side) l one) (twos_with I vs (is_head side) l two) (words scratch.new) }
     ensures changed { Changed (2 * vars_at) shown_at (words scratch.old) (words scratch.new) }
 {
     let n = run.len() / 24;
     for i in 0..n {
-        narrow_at(text, store, scratch, run, i, v, head, size);
+        narrow_at(text, store, scratch, run, i, v, side, size);
     }
 }
 
@@ -222,6 +229,6 @@ pub fn clause_tables(
     ensures changed { Changed (2 * vars_at) shown_at (words scratch.old) (words scratch.new) }
 {
     start(scratch, v.n, size);
-    narrow_run(text, store, scratch, body, v, false, size);
-    narrow_run(text, store, scratch, head, v, true, size);
+    narrow_run(text, store, scratch, body, v, Side::Body, size);
+    narrow_run(text, store, scratch, head, v, Side::Head, size);
 }

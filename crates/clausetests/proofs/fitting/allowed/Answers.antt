@@ -1,8 +1,10 @@
+use mathlib.Core.Path.{ap}
+use Rattle.clausetests.specs.Fitting.{is_head}
 use Rattle.clausetests.proofs.FittingLaws.{as_head, as_body}
 use Rattle.clausetests.proofs.fitting.allowed.Goals as goal
 
-pub returns-then-head : goal.returns-then-head
-returns-then-head c = λ n f g ea em. as_head n f g _ _ c.if-head.true (c.without.ensures n f g ea em)
+pub returns-in-Head : goal.returns-in-Head
+returns-in-Head c = λ n f g ea em. as_head n f g (is_head c.args.side) _ (ap is_head c.in-Head.is) (c.without.ensures n f g ea em)
 
-pub returns : goal.returns
-returns c = λ n f g ea em. as_body n f g _ _ c.if-head.false (c.both.ensures n f g ea em)
+pub returns-in-Body : goal.returns-in-Body
+returns-in-Body c = λ n f g ea em. as_body n f g (is_head c.args.side) _ (ap is_head c.in-Body.is) (c.both.ensures n f g ea em)

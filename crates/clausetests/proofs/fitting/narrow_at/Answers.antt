@@ -1,6 +1,7 @@
 use lib.ListN.{get_or}
 use Rattle.words.specs.Words.{words}
 use Rattle.tables.specs.AtomLaws.{no_atom}
+use Rattle.clausetests.specs.Fitting.{is_head}
 use Rattle.clausetests.proofs.RunLaws.{read_some, read_nth, run_within, there_nth, meant_nth, tables_nth}
 use Rattle.clausetests.proofs.fitting.narrow_at.Goals as goal
 
@@ -23,7 +24,7 @@ returns c =
       tables = (λ I roles vs l one two R M T.
           let e = read_nth A.run.now A.i l R c.requires.0 c.get_atom.result c.get_atom.ensures _ c.in-Some.is in
           let h = run_within A.run.now A.i l R c.requires.0 in
-          tables_nth I vs A.head A.size A.v.n _ (get_or l A.i no_atom) one two _ e
+          tables_nth I vs (is_head A.side) A.size A.v.n _ (get_or l A.i no_atom) one two _ e
           (c.narrow_atom.ensures.tables I roles vs one two
           (rw e (meant_nth I roles vs A.size l A.v A.text.now (words A.store.now) (words A.scratch.now) M A.i h)) T));
       changed = c.narrow_atom.ensures.changed;

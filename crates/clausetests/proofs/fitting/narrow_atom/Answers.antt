@@ -4,6 +4,7 @@ use native.Mathlib.Omega.{arith}
 use Rattle.words.specs.Words.{words}
 use Rattle.ir.specs.Atoms.{vars_of}
 use Rattle.sets.specs.Places.{vars_at, shown_at}
+use Rattle.clausetests.specs.Fitting.{is_head}
 use Rattle.clausetests.proofs.FittingLaws.{changed_wide}
 use Rattle.clausetests.proofs.PlaceLaws.{single_in, meant_atom, narrowed_single}
 use Rattle.clausetests.proofs.fitting.narrow_atom.Goals as goal
@@ -35,7 +36,7 @@ returns-in-One c =
     let j = c.place-j.result in record {
       tables = (λ I roles vs one two M T.
           let q = c.place-j.ensures vs M.are (single_in vs A.a _ M.among.0 e) in
-          narrowed_single I roles vs A.size A.a A.v A.text.now (words A.store.now) (words A.scratch.now) _ A.head one two M T j q.0 c.narrow_one.ensures.changed
+          narrowed_single I roles vs A.size A.a A.v A.text.now (words A.store.now) (words A.scratch.now) _ (is_head A.side) one two M T j q.0 c.narrow_one.ensures.changed
           (c.narrow_one.ensures.j_after I roles (one j) M.given M.names.0 (T.ones j q.0)) _ e q.1);
       changed = changed_wide (2 * (vars_at + j)) (2 * (vars_at + j) + 2) (2 * vars_at) shown_at _ _ (omega arith) (omega (arith, (c.place-j.ensures T₀.vars T₀.so.are (single_in T₀.vars A.a _ T₀.so.among.0 e)).0, T₀.so.few)) c.narrow_one.ensures.changed;
     }

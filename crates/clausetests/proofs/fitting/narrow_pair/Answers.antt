@@ -6,6 +6,7 @@ use lib.ListN.{get_or}
 use Rattle.words.specs.Words.{words}
 use Rattle.sets.specs.Kept.{set_at}
 use Rattle.sets.specs.Places.{vars_at, shown_at}
+use Rattle.clausetests.specs.Fitting.{is_head}
 use Rattle.clausetests.proofs.FittingLaws.{changed_wide}
 use Rattle.clausetests.proofs.PlaceLaws.{pair_in, vars_apart, pair_low, pair_with_lem, meant_atom, narrowed_same, narrowed_pair, narrowed_turned}
 use Rattle.clausetests.proofs.fitting.narrow_pair.Goals as goal
@@ -40,7 +41,7 @@ returns-then-i-j c =
           let d = pair_in vs A.a A.x A.y M.among.0 c.requires.0 in
           let p = c.place-i.ensures vs M.are d.0 in
           let q = c.place-j.ensures vs M.are d.1 in
-          narrowed_same I roles vs A.size A.a A.v A.text.now (words A.store.now) (words A.scratch.now) _ A.head one two M T i p.0 c.narrow_one.ensures.changed
+          narrowed_same I roles vs A.size A.a A.v A.text.now (words A.store.now) (words A.scratch.now) _ (is_head A.side) one two M T i p.0 c.narrow_one.ensures.changed
           (c.narrow_one.ensures.j_after I roles (one i) M.given M.names.0 (T.ones i p.0)) A.x A.y c.requires.0 p.1 (ap (λ (k : ℕ). get_or vs k 0) c.if-i-j.true ∙ q.1));
       changed = changed_wide (2 * (vars_at + i)) (2 * (vars_at + i) + 2) (2 * vars_at) shown_at _ _ (omega arith) (omega (arith, (c.place-i.ensures T₀.vars M₀.are cx.0).0, M₀.few)) c.narrow_one.ensures.changed;
     }
@@ -81,7 +82,7 @@ returns-then-i-j-2 c =
           let d = pair_in vs A.a A.x A.y M.among.0 c.requires.0 in
           let p = c.place-i.ensures vs M.are d.0 in
           let q = c.place-j.ensures vs M.are d.1 in
-          narrowed_pair I roles vs A.size A.a A.v A.text.now (words A.store.now) v _ A.head one two M T i j c.pair_at.result A.y c.if-i-j-2.true q.0 c.pair_at.ensures q.1 c.narrow_rows.ensures.changed
+          narrowed_pair I roles vs A.size A.a A.v A.text.now (words A.store.now) v _ (is_head A.side) one two M T i j c.pair_at.result A.y c.if-i-j-2.true q.0 c.pair_at.ensures q.1 c.narrow_rows.ensures.changed
           (c.narrow_rows.ensures.e_after I roles A.text.now (words A.store.now) (two i j) M.given M.names.0 (λ e h. ap (λ (k : ℕ). set_at v (k + e)) c.pair_at.ensures ∙ T.twos i j e c.if-i-j-2.true q.0 h))
           A.x A.y c.requires.0 p.1 q.1);
       changed = let l = pair_low i j c.pair_at.result c.if-i-j-2.true (omega (arith, (c.place-j.ensures T₀.vars M₀.are cx.1).0, M₀.few)) c.pair_at.ensures in
@@ -125,7 +126,7 @@ returns c =
           let d = pair_in vs A.a A.x A.y M.among.0 c.requires.0 in
           let p = c.place-i.ensures vs M.are d.0 in
           let q = c.place-j.ensures vs M.are d.1 in
-          narrowed_turned I roles vs A.size A.a A.v A.text.now (words A.store.now) v _ A.head one two M T j i c.pair_at-2.result A.x lt p.0 c.pair_at-2.ensures p.1 c.narrow_rows-2.ensures.changed
+          narrowed_turned I roles vs A.size A.a A.v A.text.now (words A.store.now) v _ (is_head A.side) one two M T j i c.pair_at-2.result A.x lt p.0 c.pair_at-2.ensures p.1 c.narrow_rows-2.ensures.changed
           (c.narrow_rows-2.ensures.e_after I roles A.text.now (words A.store.now) (two j i) M.given M.names.0 (λ e h. ap (λ (k : ℕ). set_at v (k + e)) c.pair_at-2.ensures ∙ T.twos j i e lt p.0 h))
           A.x A.y c.requires.0 p.1 q.1);
       changed = let l = pair_low j i c.pair_at-2.result lt (omega (arith, (c.place-i.ensures T₀.vars M₀.are cx.0).0, M₀.few)) c.pair_at-2.ensures in
