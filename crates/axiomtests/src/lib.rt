@@ -30,6 +30,14 @@ use pairs::First;
 use sets::places::SHOWN;
 use sets::verdict;
 
+// An axiom where it stands: its kind, and the `count` words from `at` on.
+#[derive(Clone, Copy)]
+pub struct Line {
+    pub kind: u32,
+    pub at: usize,
+    pub count: u32,
+}
+
 // What breaks an axiom is told by how many elements are shown; they stand in scratch from word SHOWN on.
 
 // The least element of a set, if it has one.
@@ -56,12 +64,12 @@ fn show_two(scratch: &mut [u8], x: u64, m: u64)
 }
 
 // ClassAssertion, which shows nothing: base + i is the class of individual i.
-fn assertion(store: &[u8], scratch: &[u8], t: Trial, at: usize, count: u32) -> Option<u32>
-    requires { LineThere store.now scratch.now t 36 at count }
-    ensures { Broken (words store.now) (words scratch.now) t 36 at count (least_in (words scratch.now) result) }
+fn assertion(store: &[u8], scratch: &[u8], t: Trial, line: Line) -> Option<u32>
+    requires { LineThere store.now scratch.now t 36 line.at line.count }
+    ensures { Broken (words store.now) (words scratch.now) t 36 line.at line.count (least_in (words scratch.now) result) }
 {
-    let c = words::get_word(scratch, at + 1);
-    let class = t.base as usize + words::get_word(scratch, at + 2) as usize;
+    let c = words::get_word(scratch, line.at + 1);
+    let class = t.base as usize + words::get_word(scratch, line.at + 2) as usize;
     let named = sets::both(
         extents::set_of(scratch, c),
         sets::kept::get_set(store, class),
@@ -73,25 +81,25 @@ fn assertion(store: &[u8], scratch: &[u8], t: Trial, at: usize, count: u32) -> O
 }
 
 // SubChain, and TransitiveRole as a chain of two parts.
-fn chain(scratch: &mut [u8], t: Trial, kind: u32, at: usize, count: u32) -> Option<u32>
-    requires { LineIn scratch.old t kind at count × (27 ≤ kind) × (kind < 29) }
+fn chain(scratch: &mut [u8], t: Trial, line: Line) -> Option<u32>
+    requires { LineIn scratch.old t line.kind line.at line.count × (27 ≤ line.kind) × (line.kind < 29) }
     ensures aside { Aside (words scratch.old) (words scratch.new) }
-    ensures by_index { (w : List ℕ) → Broken w (words scratch.old) t kind at count (least_in (words scratch.new) result) }
+    ensures by_index { (w : List ℕ) → Broken w (words scratch.old) t line.kind line.at line.count (least_in (words scratch.new) result) }
 {
-    let sup = words::get_word(scratch, at + 1);
+    let sup = words::get_word(scratch, line.at + 1);
     let size = t.size as u64;
-    if kind == 27 {
+    if line.kind == 27 {
         let c = Chain {
             sup,
-            at: at + 2,
+            at: line.at + 2,
             step: 1,
-            parts: count - 2,
+            parts: line.count - 2,
         };
         return chains::least_path(scratch, size, c);
     }
     let c = Chain {
         sup,
-        at: at + 1,
+        at: line.at + 1,
         step: 0,
         parts: 2,
     };
@@ -102,24 +110,22 @@ fn element(
     store: &[u8],
     scratch: &mut [u8],
     t: Trial,
-    kind: u32,
-    at: usize,
-    count: u32,
+    line: Line,
 ) -> Option<u32>
-    requires { LineThere store.now scratch.old t kind at count × (of_element kind ≡ true) }
+    requires { LineThere store.now scratch.old t line.kind line.at line.count × (of_element line.kind ≡ true) }
     ensures aside { Aside (words scratch.old) (words scratch.new) }
-    ensures broken { Broken (words store.now) (words scratch.old) t kind at count (least_in (words scratch.new) result) }
+    ensures broken { Broken (words store.now) (words scratch.old) t line.kind line.at line.count (least_in (words scratch.new) result) }
 {
-    let m = elements::element_mask(store, scratch, t, kind, at, count);
+    let m = elements::element_mask(store, scratch, t, line);
     show_one(scratch, m)
 }
 
-fn pair(scratch: &mut [u8], t: Trial, kind: u32, at: usize, count: u32) -> Option<u32>
-    requires { LineIn scratch.old t kind at count × (of_pair kind ≡ true) }
+fn pair(scratch: &mut [u8], t: Trial, line: Line) -> Option<u32>
+    requires { LineIn scratch.old t line.kind line.at line.count × (of_pair line.kind ≡ true) }
     ensures aside { Aside (words scratch.old) (words scratch.new) }
-    ensures by_index { (w : List ℕ) → Broken w (words scratch.old) t kind at count (least_in (words scratch.new) result) }
+    ensures by_index { (w : List ℕ) → Broken w (words scratch.old) t line.kind line.at line.count (least_in (words scratch.new) result) }
 {
-    let First { element, set } = pairs::first_pair(scratch, t, kind, at, count)?;
+    let First { element, set } = pairs::first_pair(scratch, t, line)?;
     show_two(scratch, element, set);
     Some(2)
 }
@@ -129,19 +135,17 @@ fn row_broken(
     store: &[u8],
     scratch: &mut [u8],
     t: Trial,
-    kind: u32,
-    at: usize,
-    count: u32,
+    line: Line,
 ) -> Option<u32>
-    requires { LineThere store.now scratch.old t kind at count }
+    requires { LineThere store.now scratch.old t line.kind line.at line.count }
     ensures aside { Aside (words scratch.old) (words scratch.new) }
-    ensures broken { Broken (words store.now) (words scratch.old) t kind at count (least_in (words scratch.new) result) }
+    ensures broken { Broken (words store.now) (words scratch.old) t line.kind line.at line.count (least_in (words scratch.new) result) }
 {
-    match kind {
-        21..=24 | 29 | 35 => element(store, scratch, t, kind, at, count),
-        25 | 26 | 30..=34 => pair(scratch, t, kind, at, count),
-        27 | 28 => chain(scratch, t, kind, at, count),
-        _ => assertion(store, scratch, t, at, count),
+    match line.kind {
+        21..=24 | 29 | 35 => element(store, scratch, t, line),
+        25 | 26 | 30..=34 => pair(scratch, t, line),
+        27 | 28 => chain(scratch, t, line),
+        _ => assertion(store, scratch, t, line),
     }
 }
 
@@ -151,10 +155,12 @@ fn axiom_broken(store: &[u8], scratch: &mut [u8], t: Trial, i: u32) -> Option<u3
     ensures aside { Aside (words scratch.old) (words scratch.new) }
     ensures result_after { (d : Known) (I : Interpretation) → Ready d I (words store.now) (words scratch.old) → ConceptSets d I (length d.concepts) (words scratch.old) → Fits d I t → least_in (words scratch.new) result ≡ axiom_broken I d.concepts (axiom_at (words scratch.old) i) }
 {
-    let kind = axiom::number(scratch, i, 0);
-    let at = NUMBERS + axiom::start(scratch, i) as usize;
-    let count = axiom::count(scratch, i);
-    row_broken(store, scratch, t, kind, at, count)
+    let line = Line {
+        kind: axiom::number(scratch, i, 0),
+        at: NUMBERS + axiom::start(scratch, i) as usize,
+        count: axiom::count(scratch, i),
+    };
+    row_broken(store, scratch, t, line)
 }
 
 pub fn axioms_verdict(store: &[u8], scratch: &mut [u8], t: Trial) -> Result<(), verdict::Broken>

@@ -5,7 +5,7 @@ ghost use Rattle.words.specs.Words.{words};
 ghost use Rattle.axiomtests.specs.Lines.{LineIn, Behind, FirstWith, of_pair};
 
 use crate::members::Sets;
-use crate::{members, roles};
+use crate::{members, roles, Line};
 use extents::Trial;
 
 // The first element, and the set of the second ones, which is not empty.
@@ -16,12 +16,12 @@ pub struct First {
 }
 
 // ObjectPropertyDomain.
-fn domain(scratch: &[u8], t: Trial, at: usize, count: u32, x: u64) -> u64
-    requires { LineIn scratch.now t 25 at count × (x < t.size) }
-    ensures { Behind (words scratch.now) t 25 at count x result }
+fn domain(scratch: &[u8], t: Trial, line: Line, x: u64) -> u64
+    requires { LineIn scratch.now t 25 line.at line.count × (x < t.size) }
+    ensures { Behind (words scratch.now) t 25 line.at line.count x result }
 {
-    let code = words::get_word(scratch, at + 1);
-    let c = words::get_word(scratch, at + 2);
+    let code = words::get_word(scratch, line.at + 1);
+    let c = words::get_word(scratch, line.at + 2);
     if sets::has(extents::set_of(scratch, c), x) {
         return 0;
     }
@@ -29,21 +29,21 @@ fn domain(scratch: &[u8], t: Trial, at: usize, count: u32, x: u64) -> u64
 }
 
 // ObjectPropertyRange.
-fn range(scratch: &[u8], t: Trial, at: usize, count: u32, x: u64) -> u64
-    requires { LineIn scratch.now t 26 at count × (x < t.size) }
-    ensures { Behind (words scratch.now) t 26 at count x result }
+fn range(scratch: &[u8], t: Trial, line: Line, x: u64) -> u64
+    requires { LineIn scratch.now t 26 line.at line.count × (x < t.size) }
+    ensures { Behind (words scratch.now) t 26 line.at line.count x result }
 {
-    let code = words::get_word(scratch, at + 1);
-    let c = words::get_word(scratch, at + 2);
+    let code = words::get_word(scratch, line.at + 1);
+    let c = words::get_word(scratch, line.at + 2);
     sets::without(roles::row(scratch, code, x), extents::set_of(scratch, c))
 }
 
 // AsymmetricRole.
-fn asymmetric(scratch: &[u8], t: Trial, at: usize, count: u32, x: u64) -> u64
-    requires { LineIn scratch.now t 30 at count × (x < t.size) }
-    ensures { Behind (words scratch.now) t 30 at count x result }
+fn asymmetric(scratch: &[u8], t: Trial, line: Line, x: u64) -> u64
+    requires { LineIn scratch.now t 30 line.at line.count × (x < t.size) }
+    ensures { Behind (words scratch.now) t 30 line.at line.count x result }
 {
-    let code = words::get_word(scratch, at + 1);
+    let code = words::get_word(scratch, line.at + 1);
     sets::both(
         roles::row(scratch, code, x),
         roles::row(scratch, roles::turned(code), x),
@@ -51,21 +51,21 @@ fn asymmetric(scratch: &[u8], t: Trial, at: usize, count: u32, x: u64) -> u64
 }
 
 // DisjointObjectProperties.
-fn disjoint_roles(scratch: &[u8], t: Trial, at: usize, count: u32, x: u64) -> u64
-    requires { LineIn scratch.now t 31 at count × (x < t.size) }
-    ensures { Behind (words scratch.now) t 31 at count x result }
+fn disjoint_roles(scratch: &[u8], t: Trial, line: Line, x: u64) -> u64
+    requires { LineIn scratch.now t 31 line.at line.count × (x < t.size) }
+    ensures { Behind (words scratch.now) t 31 line.at line.count x result }
 {
-    let l = Sets::of_roles(at + 1, count - 1, x);
+    let l = Sets::of_roles(line.at + 1, line.count - 1, x);
     members::clashes(scratch, l, false)
 }
 
 // InverseObjectProperties.
-fn inverse(scratch: &[u8], t: Trial, at: usize, count: u32, x: u64) -> u64
-    requires { LineIn scratch.now t 32 at count × (x < t.size) }
-    ensures { Behind (words scratch.now) t 32 at count x result }
+fn inverse(scratch: &[u8], t: Trial, line: Line, x: u64) -> u64
+    requires { LineIn scratch.now t 32 line.at line.count × (x < t.size) }
+    ensures { Behind (words scratch.now) t 32 line.at line.count x result }
 {
-    let a = words::get_word(scratch, at + 1);
-    let b = words::get_word(scratch, at + 2);
+    let a = words::get_word(scratch, line.at + 1);
+    let b = words::get_word(scratch, line.at + 2);
     sets::differ(
         roles::row(scratch, a, x),
         roles::row(scratch, roles::turned(b), x),
@@ -73,46 +73,46 @@ fn inverse(scratch: &[u8], t: Trial, at: usize, count: u32, x: u64) -> u64
 }
 
 // SubObjectPropertyOf.
-fn sub_role(scratch: &[u8], t: Trial, at: usize, count: u32, x: u64) -> u64
-    requires { LineIn scratch.now t 33 at count × (x < t.size) }
-    ensures { Behind (words scratch.now) t 33 at count x result }
+fn sub_role(scratch: &[u8], t: Trial, line: Line, x: u64) -> u64
+    requires { LineIn scratch.now t 33 line.at line.count × (x < t.size) }
+    ensures { Behind (words scratch.now) t 33 line.at line.count x result }
 {
-    let sub = words::get_word(scratch, at + 1);
-    let sup = words::get_word(scratch, at + 2);
+    let sub = words::get_word(scratch, line.at + 1);
+    let sup = words::get_word(scratch, line.at + 2);
     sets::without(roles::row(scratch, sub, x), roles::row(scratch, sup, x))
 }
 
 // EquivalentObjectProperties.
-fn equivalent_roles(scratch: &[u8], t: Trial, at: usize, count: u32, x: u64) -> u64
-    requires { LineIn scratch.now t 34 at count × (x < t.size) }
-    ensures { Behind (words scratch.now) t 34 at count x result }
+fn equivalent_roles(scratch: &[u8], t: Trial, line: Line, x: u64) -> u64
+    requires { LineIn scratch.now t 34 line.at line.count × (x < t.size) }
+    ensures { Behind (words scratch.now) t 34 line.at line.count x result }
 {
-    let l = Sets::of_roles(at + 1, count - 1, x);
+    let l = Sets::of_roles(line.at + 1, line.count - 1, x);
     members::unlike(scratch, l, t.size as u64)
 }
 
-fn pair_mask(scratch: &[u8], t: Trial, kind: u32, at: usize, count: u32, x: u64) -> u64
-    requires { LineIn scratch.now t kind at count × (of_pair kind ≡ true) × (x < t.size) }
-    ensures { Behind (words scratch.now) t kind at count x result }
+fn pair_mask(scratch: &[u8], t: Trial, line: Line, x: u64) -> u64
+    requires { LineIn scratch.now t line.kind line.at line.count × (of_pair line.kind ≡ true) × (x < t.size) }
+    ensures { Behind (words scratch.now) t line.kind line.at line.count x result }
 {
-    match kind {
-        25 => domain(scratch, t, at, count, x),
-        26 => range(scratch, t, at, count, x),
-        30 => asymmetric(scratch, t, at, count, x),
-        31 => disjoint_roles(scratch, t, at, count, x),
-        32 => inverse(scratch, t, at, count, x),
-        33 => sub_role(scratch, t, at, count, x),
-        _ => equivalent_roles(scratch, t, at, count, x),
+    match line.kind {
+        25 => domain(scratch, t, line, x),
+        26 => range(scratch, t, line, x),
+        30 => asymmetric(scratch, t, line, x),
+        31 => disjoint_roles(scratch, t, line, x),
+        32 => inverse(scratch, t, line, x),
+        33 => sub_role(scratch, t, line, x),
+        _ => equivalent_roles(scratch, t, line, x),
     }
 }
 
 // The first element with a set that is not empty, if there is one.
-pub fn first_pair(scratch: &[u8], t: Trial, kind: u32, at: usize, count: u32) -> Option<First>
-    requires { LineIn scratch.now t kind at count × (of_pair kind ≡ true) }
-    ensures { FirstWith (words scratch.now) t kind at count result }
+pub fn first_pair(scratch: &[u8], t: Trial, line: Line) -> Option<First>
+    requires { LineIn scratch.now t line.kind line.at line.count × (of_pair line.kind ≡ true) }
+    ensures { FirstWith (words scratch.now) t line.kind line.at line.count result }
 {
     for x in 0..t.size as u64 {
-        let m = pair_mask(scratch, t, kind, at, count, x);
+        let m = pair_mask(scratch, t, line, x);
         if m != 0 {
             return Some(First { element: x, set: m });
         }

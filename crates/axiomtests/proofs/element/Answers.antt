@@ -15,6 +15,6 @@ returns c =
     let v = words c.args.scratch.now in record {
       aside = c.show_one.ensures.aside;
       broken = λ d I L.
-          let a = row_axiom v c.args.kind c.args.at c.args.count in
-          c.show_one.ensures.by_index I.size (axiom_holds_at I d.concepts a) L.ready.laid.few (c.element_mask-m.ensures d I L) ∙ ap (λ (k : ℕ). least_of (rises 0 I.size) k (axiom_holds_at I d.concepts a)) (element_vars (run v c.args.at c.args.count) c.args.kind L.section c.requires.1);
+          let a = row_axiom v c.args.line.kind c.args.line.at c.args.line.count in
+          c.show_one.ensures.by_index I.size (axiom_holds_at I d.concepts a) L.ready.laid.few (c.element_mask-m.ensures d I L) ∙ ap (λ (k : ℕ). least_of (rises 0 I.size) k (axiom_holds_at I d.concepts a)) (element_vars (run v c.args.line.at c.args.line.count) c.args.line.kind L.section c.requires.1);
     }

@@ -9,10 +9,10 @@ use Rattle.axiomtests.proofs.elements.disjoint.Goals as goal
 pub clashes-requires : goal.clashes-requires
 clashes-requires c =
     let P = c.requires in
-    let one = leb-true 1 c.args.count P.line.fields in
-    rw c.of_concepts-l.ensures (concepts_there c.args.scratch.now P.line P.space (c.args.at + 1) (c.args.count - 1) (omega (arith, P.line.below)) (disjoint_in P.line))
+    let one = leb-true 1 c.args.line.count P.line.fields in
+    rw c.of_concepts-l.ensures (concepts_there c.args.scratch.now P.line P.space (c.args.line.at + 1) (c.args.line.count - 1) (omega (arith, P.line.below)) (disjoint_in P.line))
 
 pub returns : goal.returns
 returns c =
     let K = rw c.of_concepts-l.ensures at c.clashes.ensures in
-    λ w d I L. disjoint_set L _ (K I.size (means I d.concepts) (concepts_of L (c.args.at + 1) (c.args.count - 1) (disjoint_in L)))
+    λ w d I L. disjoint_set L _ (K I.size (means I d.concepts) (concepts_of L (c.args.line.at + 1) (c.args.line.count - 1) (disjoint_in L)))

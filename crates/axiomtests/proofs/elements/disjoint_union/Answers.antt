@@ -27,8 +27,8 @@ clashes-requires c = rw c.of_concepts-l.ensures (members_there _ _ _ _ _ c.requi
 
 pub returns : goal.returns
 returns c =
-    let from = c.args.at + 2 in
-    let n = c.args.count - 2 in
+    let from = c.args.line.at + 2 in
+    let n = c.args.line.count - 2 in
     let long = length_words c.args.store.now in
     let S = rw c.of_concepts-l.ensures at c.some.ensures in
     let K = rw c.of_concepts-l.ensures at c.clashes.ensures in

@@ -30,14 +30,14 @@ returns-then-m-ne0 c =
       among = h;
       some = omega (arith, c.if-m-ne0.true);
       set = c.pair_mask-m.ensures;
-      least = λ d I w L. pair_here I.size (axiom_holds_at I d.concepts (row_axiom (words c.args.scratch.now) c.args.kind c.args.at c.args.count)) X.x _ (omega (arith, L.fits.size)) (λ y l. X.invariant y l d I w L) (c.pair_mask-m.ensures d I w L) c.if-m-ne0.true;
+      least = λ d I w L. pair_here I.size (axiom_holds_at I d.concepts (row_axiom (words c.args.scratch.now) c.args.line.kind c.args.line.at c.args.line.count)) X.x _ (omega (arith, L.fits.size)) (λ y l. X.invariant y l d I w L) (c.pair_mask-m.ensures d I w L) c.if-m-ne0.true;
     }
 
 pub loop-x-preserved : goal.loop-x-preserved
 loop-x-preserved c =
     let X = c.loop-x in
-    none_more (words c.args.scratch.now) c.args.t c.args.kind c.args.at c.args.count X.x _ X.invariant c.pair_mask-m.ensures c.if-m-ne0.false
+    none_more (words c.args.scratch.now) c.args.t c.args.line.kind c.args.line.at c.args.line.count X.x _ X.invariant c.pair_mask-m.ensures c.if-m-ne0.false
 
 pub returns : goal.returns
 returns c =
-    λ d I w L. pair_nowhere I.size (axiom_holds_at I d.concepts (row_axiom (words c.args.scratch.now) c.args.kind c.args.at c.args.count)) (λ y l. c.loop-x.invariant y (omega (arith, L.fits.size)) d I w L)
+    λ d I w L. pair_nowhere I.size (axiom_holds_at I d.concepts (row_axiom (words c.args.scratch.now) c.args.line.kind c.args.line.at c.args.line.count)) (λ y l. c.loop-x.invariant y (omega (arith, L.fits.size)) d I w L)
