@@ -123,6 +123,9 @@ module _ (T : Test) (f : ℕ → ℕ → Bool) (n : ℕ) (v : List ℕ) (l : Set
   pub found_all : found_from T f n v l 0 ≡ mask_of n (T f (numbers_of v l))
   found_all = ap (λ (k : List ℕ). mask_of n (T f k)) (from_all v l)
 
+  pub found_at : (found j k : ℕ) → found ≡ found_from T f n v l j → j ≡ k → found ≡ found_from T f n v l k
+  found_at found j k e q = e ∙ ap (found_from T f n v l) q
+
   found_next : (j : ℕ) → j < l.count → mask_of n (T f (number_of v l j ∷ numbers_from v l (j + 1))) ≡ found_from T f n v l j
   found_next j h = ap (λ (k : List ℕ). mask_of n (T f k)) (sym (from_next v l j h))
 

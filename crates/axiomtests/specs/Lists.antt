@@ -43,3 +43,7 @@ clash_at always f a b x = (always || not (eqb a b)) && (f a x && f b x)
 
 abbrev pub clashes_at : Bool → (ℕ → ℕ → Bool) → List ℕ → ℕ → Bool
 clashes_at always f l x = not (all (λ q. not (clash_at always f q.0 q.1 x)) (later_pairs l))
+
+-- which two numbers clash, by what a test of them answers
+abbrev pub Clashing : (ℕ → ℕ → Bool → Type 0) → Bool → Type 0
+Clashing test always = (a b : ℕ) (r : Bool) → test a b r → r ≡ always || not (eqb a b)

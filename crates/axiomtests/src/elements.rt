@@ -4,7 +4,7 @@ ghost use Rattle.words.specs.Words.{words};
 ghost use Rattle.axiomtests.specs.Lines.{LineIn, LineThere, Elements, of_element};
 
 use crate::members::Sets;
-use crate::{members, roles, Line};
+use crate::{Line, members, roles};
 use extents::Trial;
 
 // SubClassOf.
@@ -32,7 +32,7 @@ fn disjoint(scratch: &[u8], t: Trial, line: Line) -> u64
     ensures { (w : List ℕ) → Elements w (words scratch.now) t 23 line.at line.count result }
 {
     let l = Sets::of_concepts(line.at + 1, line.count - 1);
-    members::clashes(scratch, l, true)
+    members::clashes(scratch, l, |_, _| true)
 }
 
 // DisjointUnion.
@@ -43,7 +43,7 @@ fn disjoint_union(store: &[u8], scratch: &[u8], t: Trial, line: Line) -> u64
     let l = Sets::of_concepts(line.at + 2, line.count - 2);
     let class = words::get_word(scratch, line.at + 1) as usize;
     let uncovered = sets::differ(sets::kept::get_set(store, class), members::some(scratch, l));
-    sets::either(uncovered, members::clashes(scratch, l, true))
+    sets::either(uncovered, members::clashes(scratch, l, |_, _| true))
 }
 
 // IrreflexiveRole.

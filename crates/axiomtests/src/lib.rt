@@ -106,12 +106,7 @@ fn chain(scratch: &mut [u8], t: Trial, line: Line) -> Option<u32>
     chains::least_path(scratch, size, c)
 }
 
-fn element(
-    store: &[u8],
-    scratch: &mut [u8],
-    t: Trial,
-    line: Line,
-) -> Option<u32>
+fn element(store: &[u8], scratch: &mut [u8], t: Trial, line: Line) -> Option<u32>
     requires { LineThere store.now scratch.old t line.kind line.at line.count × (of_element line.kind ≡ true) }
     ensures aside { Aside (words scratch.old) (words scratch.new) }
     ensures broken { Broken (words store.now) (words scratch.old) t line.kind line.at line.count (least_in (words scratch.new) result) }
@@ -131,12 +126,7 @@ fn pair(scratch: &mut [u8], t: Trial, line: Line) -> Option<u32>
 }
 
 // By the kind, the deck's own number: an enum would be made by a match over the same sixteen numbers.
-fn row_broken(
-    store: &[u8],
-    scratch: &mut [u8],
-    t: Trial,
-    line: Line,
-) -> Option<u32>
+fn row_broken(store: &[u8], scratch: &mut [u8], t: Trial, line: Line) -> Option<u32>
     requires { LineThere store.now scratch.old t line.kind line.at line.count }
     ensures aside { Aside (words scratch.old) (words scratch.new) }
     ensures broken { Broken (words store.now) (words scratch.old) t line.kind line.at line.count (least_in (words scratch.new) result) }

@@ -5,7 +5,7 @@ ghost use Rattle.rules.specs.Base.{all, any};
 ghost use Rattle.states.specs.State.{most_elements};
 ghost use Rattle.states.specs.Masks.{mask_of};
 ghost use Rattle.sets.specs.Places.{concepts_at, rows_at};
-ghost use Rattle.axiomtests.specs.Lists.{number_of, numbers_from, numbers_of, member_set, unlike_at, clash_at, clashes_at, Members, SetsIn};
+ghost use Rattle.axiomtests.specs.Lists.{number_of, numbers_from, numbers_of, member_set, unlike_at, clash_at, clashes_at, Clashing, Members, SetsIn};
 
 use sets::places::{CONCEPTS, ROWS};
 
@@ -91,20 +91,21 @@ pub fn unlike(scratch: &[u8], l: Sets, size: u64) -> u64
     sets::without(some(scratch, l), every(scratch, l, size))
 }
 
-// Whether two numbers clash: where they are unequal, or always.
-fn clashing(a: u32, b: u32, always: bool) -> bool
-    ensures { result ≡ always || not (eqb a b) }
-{
-    always || a != b
-}
-
-// What the set m of number a and that of number k have, if they clash.
-fn clash(scratch: &[u8], l: Sets, always: bool, a: u32, m: u64, k: u32) -> u64
-    requires { SetsIn scratch.now l × (k < l.count) }
-    ensures { (n : ℕ) (f : ℕ → ℕ → Bool) → Members n f (words scratch.now) l → m ≡ mask_of n (f a) → result ≡ mask_of n (clash_at always f a (number_of (words scratch.now) l k)) }
+// What the set m of number a and that of number k have, if the numbers clash.
+fn clash<F: Fn(u32, u32) -> bool>(
+    scratch: &[u8],
+    l: Sets,
+    clashing: &F,
+    a: u32,
+    m: u64,
+    k: u32,
+) -> u64
+    requires there { SetsIn scratch.now l × (k < l.count) }
+    requires callable { (a b : ℕ) → F.pre clashing.now a b }
+    ensures { (always : Bool) → Clashing (F.post clashing.now) always → (n : ℕ) (f : ℕ → ℕ → Bool) → Members n f (words scratch.now) l → m ≡ mask_of n (f a) → result ≡ mask_of n (clash_at always f a (number_of (words scratch.now) l k)) }
 {
     let b = words::get_word(scratch, l.at + k as usize);
-    if clashing(a, b, always) {
+    if clashing(a, b) {
         return sets::both(m, member(scratch, l, k));
     }
     0
@@ -112,27 +113,29 @@ fn clash(scratch: &[u8], l: Sets, always: bool, a: u32, m: u64, k: u32) -> u64
 
 // What number j and a later one have, if they clash. (By `folded` over a closure the step does not close: `search` would have to guess
 // what `clash` gave.)
-fn clash_behind(scratch: &[u8], l: Sets, always: bool, j: u32) -> u64
-    requires { SetsIn scratch.now l × (j < l.count) }
-    ensures { (n : ℕ) (f : ℕ → ℕ → Bool) → Members n f (words scratch.now) l → result ≡ mask_of n (λ x. any (λ b. clash_at always f (number_of (words scratch.now) l j) b x) (numbers_from (words scratch.now) l (j + 1))) }
+fn clash_behind<F: Fn(u32, u32) -> bool>(scratch: &[u8], l: Sets, clashing: &F, j: u32) -> u64
+    requires there { SetsIn scratch.now l × (j < l.count) }
+    requires callable { (a b : ℕ) → F.pre clashing.now a b }
+    ensures { (always : Bool) → Clashing (F.post clashing.now) always → (n : ℕ) (f : ℕ → ℕ → Bool) → Members n f (words scratch.now) l → result ≡ mask_of n (λ x. any (λ b. clash_at always f (number_of (words scratch.now) l j) b x) (numbers_from (words scratch.now) l (j + 1))) }
 {
     let a = words::get_word(scratch, l.at + j as usize);
     let m = member(scratch, l, j);
     let mut found = 0;
     for k in (j + 1..l.count).rev() {
-        found = sets::either(clash(scratch, l, always, a, m, k), found);
+        found = sets::either(clash(scratch, l, clashing, a, m, k), found);
     }
     found
 }
 
-// What two of them have: by their places, or only if their numbers are unequal.
-pub fn clashes(scratch: &[u8], l: Sets, always: bool) -> u64
-    requires { SetsIn scratch.now l }
-    ensures { (n : ℕ) (f : ℕ → ℕ → Bool) → Members n f (words scratch.now) l → result ≡ mask_of n (λ x. clashes_at always f (numbers_of (words scratch.now) l) x) }
+// What two of them have whose numbers clash.
+pub fn clashes<F: Fn(u32, u32) -> bool>(scratch: &[u8], l: Sets, clashing: F) -> u64
+    requires there { SetsIn scratch.now l }
+    requires callable { (a b : ℕ) → F.pre clashing a b }
+    ensures { (always : Bool) → Clashing (F.post clashing) always → (n : ℕ) (f : ℕ → ℕ → Bool) → Members n f (words scratch.now) l → result ≡ mask_of n (λ x. clashes_at always f (numbers_of (words scratch.now) l) x) }
 {
     let mut found = 0;
     for j in (0..l.count).rev() {
-        found = sets::either(clash_behind(scratch, l, always, j), found);
+        found = sets::either(clash_behind(scratch, l, &clashing, j), found);
     }
     found
 }

@@ -5,7 +5,7 @@ ghost use Rattle.words.specs.Words.{words};
 ghost use Rattle.axiomtests.specs.Lines.{LineIn, Behind, FirstWith, of_pair};
 
 use crate::members::Sets;
-use crate::{members, roles, Line};
+use crate::{Line, members, roles};
 use extents::Trial;
 
 // The first element, and the set of the second ones, which is not empty.
@@ -56,7 +56,7 @@ fn disjoint_roles(scratch: &[u8], t: Trial, line: Line, x: u64) -> u64
     ensures { Behind (words scratch.now) t 31 line.at line.count x result }
 {
     let l = Sets::of_roles(line.at + 1, line.count - 1, x);
-    members::clashes(scratch, l, false)
+    members::clashes(scratch, l, |a, b| a != b)
 }
 
 // InverseObjectProperties.

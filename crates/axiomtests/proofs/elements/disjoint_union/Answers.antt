@@ -1,3 +1,4 @@
+use Rattle.std.proofs.Common.{true, rules}
 use mathlib.Core.List.{List}
 use Prim.Native.Nat.{ℕ, ◌+◌, ◌-◌}
 use native.Mathlib.Omega.{arith}
@@ -22,8 +23,8 @@ get_set-requires c = let L = c.requires.line in omega (arith, c.get_word-class.e
 pub some-requires : goal.some-requires
 some-requires c = rw c.of_concepts-l.ensures (members_there _ _ _ _ _ c.requires)
 
-pub clashes-requires : goal.clashes-requires
-clashes-requires c = rw c.of_concepts-l.ensures (members_there _ _ _ _ _ c.requires)
+pub clashes-requires-clause-there : goal.clashes-requires-clause-there
+clashes-requires-clause-there c = rw c.of_concepts-l.ensures (members_there _ _ _ _ _ c.requires)
 
 pub returns : goal.returns
 returns c =
@@ -34,4 +35,4 @@ returns c =
     let K = rw c.of_concepts-l.ensures at c.clashes.ensures in
     λ d I L.
     let M = concepts_of L from n (union_in L).1 in
-    union_set L _ _ _ _ _ _ c.get_word-class.ensures c.get_set.ensures (omega (arith, (union_in L).0, L.ready.inside.classes, c.requires.room)) (S I.size (means I d.concepts) M) c.differ-uncovered.ensures (K I.size (means I d.concepts) M) c.either.ensures
+    union_set L _ _ _ _ _ _ c.get_word-class.ensures c.get_set.ensures (omega (arith, (union_in L).0, L.ready.inside.classes, c.requires.room)) (S I.size (means I d.concepts) M) c.differ-uncovered.ensures (K true (λ a b r p. search rules) I.size (means I d.concepts) M) c.either.ensures

@@ -8,14 +8,14 @@ use Rattle.axiomtests.proofs.ListLaws.{clash_both, clash_none}
 use Rattle.axiomtests.proofs.members.clash.Goals as goal
 
 pub returns-then-clashing : goal.returns-then-clashing
-returns-then-clashing c =
+returns-then-clashing g c =
     let a = c.args.a in
     let b = number_of (words c.args.scratch.now) c.args.l c.args.k in
-    λ n f M e. c.both.ensures n (f a) (f b) e (c.member.ensures ∙ M c.args.k c.requires.1)
-    ∙ clash_both n f c.args.always a b (ap (λ (i : ℕ). c.args.always || not (eqb a i)) (sym c.get_word-b.ensures) ∙ sym c.clashing.ensures ∙ c.if-clashing.true)
+    λ always H n f M e. c.both.ensures n (f a) (f b) e (c.member.ensures ∙ M c.args.k c.requires.there.1)
+    ∙ clash_both n f always a b (ap (λ (i : ℕ). always || not (eqb a i)) (sym c.get_word-b.ensures) ∙ sym (H _ _ _ c.clashing.ensures) ∙ c.if-clashing.true)
 
 pub returns : goal.returns
-returns c =
+returns g c =
     let a = c.args.a in
     let b = number_of (words c.args.scratch.now) c.args.l c.args.k in
-    λ n f M e. clash_none n f c.args.always a b (ap (λ (i : ℕ). c.args.always || not (eqb a i)) (sym c.get_word-b.ensures) ∙ sym c.clashing.ensures ∙ c.if-clashing.false)
+    λ always H n f M e. clash_none n f always a b (ap (λ (i : ℕ). always || not (eqb a i)) (sym c.get_word-b.ensures) ∙ sym (H _ _ _ c.clashing.ensures) ∙ c.if-clashing.false)
