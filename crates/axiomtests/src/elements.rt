@@ -4,7 +4,7 @@ ghost use Rattle.words.specs.Words.{words};
 ghost use Rattle.axiomtests.specs.Lines.{LineIn, LineThere, Elements, of_element};
 
 use crate::members::Sets;
-use crate::{Line, members, roles};
+use crate::{Line, members};
 use extents::Trial;
 
 // SubClassOf.

@@ -1,5 +1,5 @@
 // The tables of a clause: for each variable a set, for each pair of variables a set for each element of the first.
-ghost use Rattle.std.specs.Prelude.{◌≡◌, Bool, true, false, ◌&&◌, List, [], ◌∷◌, ◌++◌, ℕ, ◌<◌, ◌≤◌, ◌+◌, ◌*◌, length, get_or};
+ghost use Rattle.std.specs.Prelude.{◌≡◌, Bool, true, ◌&&◌, List, [], ◌∷◌, ◌++◌, ℕ, ◌<◌, ◌≤◌, ◌+◌, ◌*◌, length, get_or};
 ghost use Rattle.words.specs.Words.{words};
 ghost use Rattle.ir.specs.Atoms.{atom_vars};
 ghost use Rattle.ir.specs.declared.atom.Atom.{Atom};

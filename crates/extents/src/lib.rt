@@ -19,6 +19,7 @@ ghost use Rattle.sets.specs.Laid.{KeptTo, KeptIn};
 ghost use Rattle.extents.specs.Ready.{Ready, Fits, ConceptSets, ReadyThere};
 ghost use Rattle.extents.specs.Sets.{IsSet, ConceptThere};
 
+use crate::restriction::{all, at_least, at_most, some};
 use pool::joint::Joint;
 use pool::record;
 use sets::kept;
@@ -100,12 +101,19 @@ fn filled_set(scratch: &[u8], c: u32, t: Trial) -> u64
     requires { ConceptThere scratch.now t c × (9 ≤ field (words scratch.now) c 0) }
     ensures { (w : List ℕ) → IsSet w (words scratch.now) t c result }
 {
-    let kind = record::kind(scratch, c);
     let role = record::role(scratch, c);
-    let number = record::number(scratch, c);
+    let limit = record::number(scratch, c);
     let child = record::child(scratch, c);
     let set = set_of(scratch, child);
-    restriction::restriction_set(scratch, kind, number, role, set, t.size)
+    match record::kind(scratch, c) {
+        9 => sets::filtered(t.size, |x| some(kept::row(scratch, role, x), set)),
+        10 => sets::filtered(t.size, |x| all(kept::row(scratch, role, x), set)),
+        11 => sets::filtered(
+            t.size,
+            |x| at_least(limit, kept::row(scratch, role, x), set),
+        ),
+        _ => sets::filtered(t.size, |x| at_most(limit, kept::row(scratch, role, x), set)),
+    }
 }
 
 // By the sets of the concepts before it. A kind is the deck's own number, which the record has as a word: an enum would cost a match
