@@ -3,7 +3,7 @@ ghost use Rattle.std.specs.Prelude.{◌≡◌, Bool, true, ℕ, ◌+◌, ◌*◌
 ghost use Rattle.words.specs.Words.{words};
 ghost use Rattle.rules.specs.Base.{all};
 ghost use Rattle.rules.specs.Run.{scratch_bytes};
-ghost use Rattle.states.specs.State.{State, entered};
+ghost use Rattle.states.specs.State.{State};
 ghost use Rattle.sets.specs.Places.{rows_at};
 ghost use Rattle.sets.specs.Laid.{KeptTo};
 ghost use Rattle.layouts.specs.Read.{known_of};
@@ -53,7 +53,7 @@ fn link_pair(scratch: &mut [u8], role: u32, a: u32, b: u32)
     link(scratch, code + 1, b, a);
 }
 
-// The pairs of a line 52.
+// The pairs of a line 52. (The count alone: `Numbers` lends scratch, which is written between two pairs.)
 fn enter_pairs(scratch: &mut [u8], n: usize, role: u32, size: u32)
     requires { LineThere scratch.old n × (2 ≤ n) × (role < 1024) × (size ≤ 64) × (all (λ e. ltb e size) (drop 2 (line_in (words scratch.old) n)) ≡ true) }
     ensures by_index { (roles : ℕ) (f : ℕ → ℕ → ℕ → Bool) → RowsAs size roles (words scratch.old) f → RowsAs size roles (words scratch.new) (with_pairs f role (drop 2 (line_in (words scratch.old) n))) }
@@ -67,7 +67,8 @@ fn enter_pairs(scratch: &mut [u8], n: usize, role: u32, size: u32)
     }
 }
 
-// Its line, good and of this kind and id, entered.
+// Its line, good and of this kind and id, entered. (Limits are the deck's, the size the state's, and a place the line's: a struct
+// of the three would be taken apart by each who gets it. The count as above.)
 pub fn enter(store: &mut [u8], scratch: &mut [u8], n: usize, m: Limits, at: At, size: u32) -> At
     requires { Enterable m at size store.old scratch.old n }
     ensures line { IsLine result (line_in (words scratch.old) n) }

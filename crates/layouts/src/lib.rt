@@ -30,7 +30,7 @@ pub struct Limits {
     pub fresh: u32,
 }
 
-// The first bad line of a state, from 1; 0 where an individual has no line.
+// The first bad line of a state, from 1; 0 where an individual has no line, as the reply's row has it.
 #[derive(Clone, Copy, PartialEq, Eq, Debug)]
 pub struct BadLine {
     pub line: u32,
@@ -67,6 +67,7 @@ fn read_lines(
     };
     let mut p = from;
     let mut line: usize = 2;
+    // a line says how long it is, so no range gives the lines
     while p < text.len() {
         let Some(next) = line::next_line(text, scratch, p, m, at, size) else {
             return Err(BadLine { line: line as u32 });

@@ -1,6 +1,6 @@
 use native.Mathlib.Omega.{arith}
 use mathlib.Core.Path.{refl, sym, subst, ◌∙◌}
-use Prim.Native.Nat.{suc, ◌-◌}
+use Prim.Native.Nat.{suc}
 use lib.ListN.{length, drop}
 use Rattle.words.specs.Words.{words}
 use Rattle.states.specs.State.{state_by}

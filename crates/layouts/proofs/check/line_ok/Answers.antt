@@ -1,6 +1,6 @@
 use borrow.Author.Tests.{le-leb}
 use mathlib.Core.Bool.{true≢false}
-use mathlib.Core.Path.{◌≡◌, refl, sym, ◌∙◌}
+use mathlib.Core.Path.{sym, ◌∙◌}
 use Rattle.layouts.proofs.NumberLaws.{count_is}
 use Rattle.layouts.proofs.check.line_ok.Goals as goal
 use Rattle.layouts.proofs.check.line_ok.Goals.{then-follows, else-follows}

@@ -1,4 +1,4 @@
-use borrow.Enum.Refused.{opened}
+use Rattle.std.proofs.Common.{rules}
 use native.Mathlib.Omega.{arith}
 use mathlib.Core.Path.{sym, ◌∙◌}
 use Prim.Native.Nat.{◌-◌, ◌/◌}
@@ -14,7 +14,7 @@ use Rattle.layouts.proofs.line.first_line.Goals as goal
 pub returns-in_default : goal.returns-in_default
 returns-in_default c =
     record {
-      first_as = first_other c.args.text.now c.read_row.result (length c.args.scratch.now / 4 - line_at) (opened c.in_default.in_default-own.keys2) c.read_row.ensures.result_value c.read_row.ensures.placed (omega (arith, c.requires));
+      first_as = first_other c.args.text.now c.read_row.result (length c.args.scratch.now / 4 - line_at) (search rules) c.read_row.ensures.result_value c.read_row.ensures.placed (omega (arith, c.requires));
       kept_to = kept_before (words c.args.scratch.now) (words c.read_row.new.t) (row_at c.args.text.now 0 (fields_in c.read_row.result)) line_at c.read_row.ensures.t_after;
     }
 

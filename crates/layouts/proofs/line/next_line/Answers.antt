@@ -1,4 +1,4 @@
-use borrow.Enum.Refused.{opened}
+use Rattle.std.proofs.Common.{rules}
 use native.Mathlib.Omega.{arith}
 use mathlib.Core.Path.{sym, ◌∙◌}
 use Prim.Native.Nat.{◌-◌, ◌/◌}
@@ -13,7 +13,7 @@ use Rattle.layouts.proofs.line.next_line.Goals as goal
 pub returns-in_default : goal.returns-in_default
 returns-in_default c =
     record {
-      next_as = next_other c.args.m c.args.at.kind c.args.at.id c.args.size c.args.text.now c.args.p c.read_row.result (length c.args.scratch.now / 4 - line_at) c.requires.2 (opened c.in_default.in_default-own.keys2) c.read_row.ensures.result_value c.read_row.ensures.placed (omega (arith, c.requires.0));
+      next_as = next_other c.args.m c.args.at.kind c.args.at.id c.args.size c.args.text.now c.args.p c.read_row.result (length c.args.scratch.now / 4 - line_at) c.requires.2 (search rules) c.read_row.ensures.result_value c.read_row.ensures.placed (omega (arith, c.requires.0));
       kept_to = kept_before (words c.args.scratch.now) (words c.read_row.new.t) (row_at c.args.text.now c.args.p (fields_in c.read_row.result)) line_at c.read_row.ensures.t_after;
     }
 

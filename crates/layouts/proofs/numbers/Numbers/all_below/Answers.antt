@@ -1,6 +1,6 @@
 use native.Mathlib.Omega.{arith}
 use borrow.Author.Tests.{lt-ltb, le-ltb}
-use mathlib.Core.Path.{refl, ◌∙◌}
+use mathlib.Core.Path.{◌∙◌}
 use lib.Dec.{ltb}
 use Rattle.layouts.specs.Numbers.{numbers}
 use Rattle.layouts.proofs.NumberLaws.{count_is, all_yes, all_no, all_end}

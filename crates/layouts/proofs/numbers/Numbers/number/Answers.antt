@@ -1,4 +1,3 @@
-use native.Mathlib.Omega.{arith}
 use mathlib.Core.Path.{◌∙◌}
 use Rattle.words.specs.Words.{words}
 use Rattle.layouts.proofs.NumberLaws.{line_number}
