@@ -10,7 +10,7 @@ ghost use Rattle.sets.specs.Laid.{Rows};
 ghost use Rattle.clausetests.specs.Given.{Given, NamesRoles, PairWith, AtomThere};
 ghost use Rattle.clausetests.specs.SetLaws.{RowsThere, count_in};
 
-use crate::class;
+use crate::{State, class};
 use ir::atom::{Atom, Qualifier};
 use ir::role::Role;
 use sets::kept;
@@ -40,46 +40,34 @@ fn at_least(scratch: &[u8], code: u32, among: u64, n: u32, size: u32) -> u64
 }
 
 // The elements that a number restriction counts.
-fn filler(text: &[u8], store: &[u8], q: Qualifier, size: u32) -> u64
-    requires { size ≤ 64 }
-    ensures { (I : Interpretation) (roles : ℕ) (v : List ℕ) → Given I roles size text.now (words store.now) v → result ≡ mask_of I.size (qualifies I q) }
+fn filler(state: &State, q: Qualifier) -> u64
+    requires { state.now.size ≤ 64 }
+    ensures { (I : Interpretation) (roles : ℕ) (v : List ℕ) → Given I roles state.now.size state.now.text.now (words state.now.store.now) v → result ≡ mask_of I.size (qualifies I q) }
 {
     match q {
-        None => sets::whole(size as u64),
-        Some(c) => class::class_set(text, store, c, size),
+        None => sets::whole(state.size as u64),
+        Some(c) => class::class_set(state, c),
     }
 }
 
 // The elements of which the atom holds, where they are all its variables.
-pub fn atom_set(text: &[u8], store: &[u8], scratch: &[u8], a: Atom, size: u32) -> u64
-    requires { AtomThere size a text.now store.now scratch.now }
-    ensures { (I : Interpretation) (roles : ℕ) → Given I roles size text.now (words store.now) (words scratch.now) → NamesRoles roles a → result ≡ mask_of I.size (λ x. atom_holds I (λ _. x) a) }
+pub fn atom_set(state: &State, scratch: &[u8], a: Atom) -> u64
+    requires { AtomThere state.now.size a state.now.text.now state.now.store.now scratch.now }
+    ensures { (I : Interpretation) (roles : ℕ) → Given I roles state.now.size state.now.text.now (words state.now.store.now) (words scratch.now) → NamesRoles roles a → result ≡ mask_of I.size (λ x. atom_holds I (λ _. x) a) }
 {
     match a {
-        Atom::Class(c, _) => class::class_set(text, store, c, size),
-        Atom::Role(r, _, _) => kept::loops(scratch, r.code(), size),
+        Atom::Class(c, _) => class::class_set(state, c),
+        Atom::Role(r, _, _) => kept::loops(scratch, r.code(), state.size),
         Atom::Exists(r, c, _) => at_least(
             scratch,
             r.code(),
-            class::class_set(text, store, c, size),
+            class::class_set(state, c),
             1,
-            size,
+            state.size,
         ),
-        Atom::AtMost(r, q, n, _) => at_most(
-            scratch,
-            r.code(),
-            filler(text, store, q, size),
-            n,
-            size,
-        ),
-        Atom::AtLeast(r, q, n, _) => at_least(
-            scratch,
-            r.code(),
-            filler(text, store, q, size),
-            n,
-            size,
-        ),
-        Atom::Equal(_, _) => sets::whole(size as u64),
+        Atom::AtMost(r, q, n, _) => at_most(scratch, r.code(), filler(state, q), n, state.size),
+        Atom::AtLeast(r, q, n, _) => at_least(scratch, r.code(), filler(state, q), n, state.size),
+        Atom::Equal(_, _) => sets::whole(state.size as u64),
     }
 }
 

@@ -8,6 +8,7 @@ ghost use Rattle.text.specs.Rows.{row_at};
 ghost use Rattle.clausetests.specs.Given.{Given};
 ghost use Rattle.clausetests.specs.ScanCode.{set_of};
 
+use crate::State;
 use sets::kept;
 
 // With x, which is no element where it is not below size.
@@ -21,7 +22,7 @@ fn with_below(m: u64, x: usize, size: u32) -> u64
     m
 }
 
-// The numbers behind the first two of a line.
+// The numbers behind the first two of a line. (Its place and its count, as the readers of `text` take them.)
 fn line_set(text: &[u8], p: usize, n: usize, size: u32) -> u64
     requires { (p + 11 * n ≤ length text.now) × (size ≤ 64) }
     ensures { result ≡ set_of size (drop 2 (row_at text.now p n)) }
@@ -77,13 +78,13 @@ fn scan(text: &[u8], c: u32, size: u32) -> u64
 }
 
 // Class c's set.
-pub fn class_set(text: &[u8], store: &[u8], c: u32, size: u32) -> u64
-    requires { size ≤ 64 }
-    ensures { (I : Interpretation) (roles : ℕ) (v : List ℕ) → Given I roles size text.now (words store.now) v → result ≡ mask_of I.size (I.class c) }
+pub fn class_set(state: &State, c: u32) -> u64
+    requires { state.now.size ≤ 64 }
+    ensures { (I : Interpretation) (roles : ℕ) (v : List ℕ) → Given I roles state.now.size state.now.text.now (words state.now.store.now) v → result ≡ mask_of I.size (I.class c) }
 {
     let i = c as usize;
-    if 8 * i + 8 <= store.len() {
-        return kept::get_set(store, i);
+    if 8 * i + 8 <= state.store.len() {
+        return kept::get_set(state.store, i);
     }
-    scan(text, c, size)
+    scan(state.text, c, state.size)
 }

@@ -15,7 +15,7 @@ ghost use Rattle.clausetests.specs.Given.{Given, NamesRoles, PairWith, AtomThere
 ghost use Rattle.clausetests.specs.Fitting.{pairs, pair_at, Tables, is_head, turned, one_with, two_with, ones_with, twos_with, clause_one, clause_two, Changed, Meant, MeantThere, RunMeant, ClauseMeant};
 
 use crate::vars::Vars;
-use crate::{atom, vars};
+use crate::{State, atom, vars};
 use ir::atom::Atom;
 use ir::record;
 use sets::kept;
@@ -57,7 +57,7 @@ pub fn row(scratch: &[u8], i: u32, j: u32, e: u32) -> u64
     kept::get_set(scratch, pair_at(i, j) + e as usize)
 }
 
-// n sets from `from` on become m.
+// n sets from `from` on become m. (A range would be made of the two at each of its two calls.)
 fn fill(scratch: &mut [u8], from: usize, n: usize, m: u64)
     requires { 8 * (from + n) ≤ length scratch.old }
     ensures by_index { (i : ℕ) → i < n → set_at (words scratch.new) (from + i) ≡ m }
@@ -112,123 +112,80 @@ fn narrow_rows(scratch: &mut [u8], a: Atom, at: usize, free: u32, side: Side, si
 }
 
 // The set of place j, narrowed by an atom that has no other variable.
-fn narrow_one(text: &[u8], store: &[u8], scratch: &mut [u8], a: Atom, j: u32, side: Side, size: u32)
-    requires { (j < 4) × AtomThere size a text.now store.now scratch.old }
-    ensures j_after { (I : Interpretation) (roles : ℕ) (f : ℕ → Bool) → Given I roles size text.now (words store.now) (words scratch.old) → NamesRoles roles a → set_at (words scratch.old) (vars_at + j) ≡ mask_of size f → set_at (words scratch.new) (vars_at + j) ≡ mask_of size (λ x. f x && turned (is_head side) (atom_holds I (λ _. x) a)) }
+fn narrow_one(state: &State, scratch: &mut [u8], a: Atom, j: u32, side: Side)
+    requires { (j < 4) × AtomThere state.now.size a state.now.text.now state.now.store.now scratch.old }
+    ensures j_after { (I : Interpretation) (roles : ℕ) (f : ℕ → Bool) → Given I roles state.now.size state.now.text.now (words state.now.store.now) (words scratch.old) → NamesRoles roles a → set_at (words scratch.old) (vars_at + j) ≡ mask_of state.now.size f → set_at (words scratch.new) (vars_at + j) ≡ mask_of state.now.size (λ x. f x && turned (is_head side) (atom_holds I (λ _. x) a)) }
     ensures changed { Changed (2 * (vars_at + j)) (2 * (vars_at + j) + 2) (words scratch.old) (words scratch.new) }
 {
-    let m = atom::atom_set(text, store, scratch, a, size);
+    let m = atom::atom_set(state, scratch, a);
     narrow(scratch, VARS + j as usize, m, side);
 }
 
 // The tables, narrowed by an atom of the variables x and y.
-fn narrow_pair(
-    text: &[u8],
-    store: &[u8],
-    scratch: &mut [u8],
-    a: Atom,
-    v: Vars,
-    x: u32,
-    y: u32,
-    side: Side,
-    size: u32,
-)
-    requires { (atom_vars a ≡ x ∷ y ∷ []) × MeantThere size (a ∷ []) v text.now store.now scratch.old }
-    ensures tables { (I : Interpretation) (roles : ℕ) (vs : List ℕ) (one : ℕ → ℕ → Bool) (two : ℕ → ℕ → ℕ → ℕ → Bool) → Meant I roles vs size (a ∷ []) v text.now (words store.now) (words scratch.old) → Tables size v.n one two (words scratch.old) → Tables size v.n (one_with I vs (is_head side) a one) (two_with I vs (is_head side) a two) (words scratch.new) }
+fn narrow_pair(state: &State, scratch: &mut [u8], a: Atom, v: Vars, x: u32, y: u32, side: Side)
+    requires { (atom_vars a ≡ x ∷ y ∷ []) × MeantThere state.now.size (a ∷ []) v state.now.text.now state.now.store.now scratch.old }
+    ensures tables { (I : Interpretation) (roles : ℕ) (vs : List ℕ) (one : ℕ → ℕ → Bool) (two : ℕ → ℕ → ℕ → ℕ → Bool) → Meant I roles vs state.now.size (a ∷ []) v state.now.text.now (words state.now.store.now) (words scratch.old) → Tables state.now.size v.n one two (words scratch.old) → Tables state.now.size v.n (one_with I vs (is_head side) a one) (two_with I vs (is_head side) a two) (words scratch.new) }
     ensures changed { Changed (2 * vars_at) shown_at (words scratch.old) (words scratch.new) }
 {
     let i = vars::place(v, x);
     let j = vars::place(v, y);
     if i == j {
-        narrow_one(text, store, scratch, a, i, side, size);
+        narrow_one(state, scratch, a, i, side);
         return;
     }
     if i < j {
-        narrow_rows(scratch, a, pair_at(i, j), y, side, size);
+        narrow_rows(scratch, a, pair_at(i, j), y, side, state.size);
         return;
     }
-    narrow_rows(scratch, a, pair_at(j, i), x, side, size);
+    narrow_rows(scratch, a, pair_at(j, i), x, side, state.size);
 }
 
 // By an atom.
-fn narrow_atom(
-    text: &[u8],
-    store: &[u8],
-    scratch: &mut [u8],
-    a: Atom,
-    v: Vars,
-    side: Side,
-    size: u32,
-)
-    requires { MeantThere size (a ∷ []) v text.now store.now scratch.old }
-    ensures tables { (I : Interpretation) (roles : ℕ) (vs : List ℕ) (one : ℕ → ℕ → Bool) (two : ℕ → ℕ → ℕ → ℕ → Bool) → Meant I roles vs size (a ∷ []) v text.now (words store.now) (words scratch.old) → Tables size v.n one two (words scratch.old) → Tables size v.n (one_with I vs (is_head side) a one) (two_with I vs (is_head side) a two) (words scratch.new) }
+fn narrow_atom(state: &State, scratch: &mut [u8], a: Atom, v: Vars, side: Side)
+    requires { MeantThere state.now.size (a ∷ []) v state.now.text.now state.now.store.now scratch.old }
+    ensures tables { (I : Interpretation) (roles : ℕ) (vs : List ℕ) (one : ℕ → ℕ → Bool) (two : ℕ → ℕ → ℕ → ℕ → Bool) → Meant I roles vs state.now.size (a ∷ []) v state.now.text.now (words state.now.store.now) (words scratch.old) → Tables state.now.size v.n one two (words scratch.old) → Tables state.now.size v.n (one_with I vs (is_head side) a one) (two_with I vs (is_head side) a two) (words scratch.new) }
     ensures changed { Changed (2 * vars_at) shown_at (words scratch.old) (words scratch.new) }
 {
     match ir::atom::atom_vars(a) {
         ir::atom::Vars::One(x) => {
             let j = vars::place(v, x);
-            narrow_one(text, store, scratch, a, j, side, size);
+            narrow_one(state, scratch, a, j, side);
         }
-        ir::atom::Vars::Two(x, y) => narrow_pair(text, store, scratch, a, v, x, y, side, size),
+        ir::atom::Vars::Two(x, y) => narrow_pair(state, scratch, a, v, x, y, side),
     }
 }
 
 // By atom i of a run.
-fn narrow_at(
-    text: &[u8],
-    store: &[u8],
-    scratch: &mut [u8],
-    run: &[u8],
-    i: usize,
-    v: Vars,
-    side: Side,
-    size: u32,
-)
-    requires { (24 * i + 24 ≤ length run.now) × RunMeant size run.now v text.now store.now scratch.old }
-    ensures tables { (I : Interpretation) (roles : ℕ) (vs : List ℕ) (l : List Atom) (one : ℕ → ℕ → Bool) (two : ℕ → ℕ → ℕ → ℕ → Bool) → Run run.now l → Meant I roles vs size l v text.now (words store.now) (words scratch.old) → Tables size v.n one two (words scratch.old) → Tables size v.n (one_with I vs (is_head side) (get_or l i no_atom) one) (two_with I vs (is_head side) (get_or l i no_atom) two) (words scratch.new) }
+fn narrow_at(state: &State, scratch: &mut [u8], run: &[u8], i: usize, v: Vars, side: Side)
+    requires { (24 * i + 24 ≤ length run.now) × RunMeant state.now.size run.now v state.now.text.now state.now.store.now scratch.old }
+    ensures tables { (I : Interpretation) (roles : ℕ) (vs : List ℕ) (l : List Atom) (one : ℕ → ℕ → Bool) (two : ℕ → ℕ → ℕ → ℕ → Bool) → Run run.now l → Meant I roles vs state.now.size l v state.now.text.now (words state.now.store.now) (words scratch.old) → Tables state.now.size v.n one two (words scratch.old) → Tables state.now.size v.n (one_with I vs (is_head side) (get_or l i no_atom) one) (two_with I vs (is_head side) (get_or l i no_atom) two) (words scratch.new) }
     ensures changed { Changed (2 * vars_at) shown_at (words scratch.old) (words scratch.new) }
 {
     let Some(a) = record::get_atom(run, i) else {
         return;
     };
-    narrow_atom(text, store, scratch, a, v, side, size);
+    narrow_atom(state, scratch, a, v, side);
 }
 
 // By a run.
-fn narrow_run(
-    text: &[u8],
-    store: &[u8],
-    scratch: &mut [u8],
-    run: &[u8],
-    v: Vars,
-    side: Side,
-    size: u32,
-)
-    requires { RunMeant size run.now v text.now store.now scratch.old }
-    ensures tables { (I : Interpretation) (roles : ℕ) (vs : List ℕ) (l : List Atom) (one : ℕ → ℕ → Bool) (two : ℕ → ℕ → ℕ → ℕ → Bool) → Run run.now l → Meant I roles vs size l v text.now (words store.now) (words scratch.old) → Tables size v.n one two (words scratch.old) → Tables size v.n (ones_with I vs (is_head side) l one) (twos_with I vs (is_head side) l two) (words scratch.new) }
+fn narrow_run(state: &State, scratch: &mut [u8], run: &[u8], v: Vars, side: Side)
+    requires { RunMeant state.now.size run.now v state.now.text.now state.now.store.now scratch.old }
+    ensures tables { (I : Interpretation) (roles : ℕ) (vs : List ℕ) (l : List Atom) (one : ℕ → ℕ → Bool) (two : ℕ → ℕ → ℕ → ℕ → Bool) → Run run.now l → Meant I roles vs state.now.size l v state.now.text.now (words state.now.store.now) (words scratch.old) → Tables state.now.size v.n one two (words scratch.old) → Tables state.now.size v.n (ones_with I vs (is_head side) l one) (twos_with I vs (is_head side) l two) (words scratch.new) }
     ensures changed { Changed (2 * vars_at) shown_at (words scratch.old) (words scratch.new) }
 {
     let n = run.len() / 24;
     for i in 0..n {
-        narrow_at(text, store, scratch, run, i, v, side, size);
+        narrow_at(state, scratch, run, i, v, side);
     }
 }
 
 // The tables of the clause of this body and this head.
-pub fn clause_tables(
-    text: &[u8],
-    store: &[u8],
-    scratch: &mut [u8],
-    body: &[u8],
-    head: &[u8],
-    v: Vars,
-    size: u32,
-)
-    requires { ClauseMeant size body.now head.now v text.now store.now scratch.old }
-    ensures tables { (I : Interpretation) (roles : ℕ) (c : Clause) → Run body.now c.body → Run head.now c.head → Meant I roles (clause_vars c) size (c.body ++ c.head) v text.now (words store.now) (words scratch.old) → Tables size v.n (clause_one I c) (clause_two I c) (words scratch.new) }
+pub fn clause_tables(state: &State, scratch: &mut [u8], body: &[u8], head: &[u8], v: Vars)
+    requires { ClauseMeant state.now.size body.now head.now v state.now.text.now state.now.store.now scratch.old }
+    ensures tables { (I : Interpretation) (roles : ℕ) (c : Clause) → Run body.now c.body → Run head.now c.head → Meant I roles (clause_vars c) state.now.size (c.body ++ c.head) v state.now.text.now (words state.now.store.now) (words scratch.old) → Tables state.now.size v.n (clause_one I c) (clause_two I c) (words scratch.new) }
     ensures changed { Changed (2 * vars_at) shown_at (words scratch.old) (words scratch.new) }
 {
-    start(scratch, v.n, size);
-    narrow_run(text, store, scratch, body, v, Side::Body, size);
-    narrow_run(text, store, scratch, head, v, Side::Head, size);
+    start(scratch, v.n, state.size);
+    narrow_run(state, scratch, body, v, Side::Body);
+    narrow_run(state, scratch, head, v, Side::Head);
 }

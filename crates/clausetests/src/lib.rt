@@ -7,3 +7,11 @@ pub mod fitting;
 pub mod search;
 pub mod vars;
 pub mod verdict;
+
+// The state: its text, the store with its classes' sets, how many elements it has.
+#[derive(Clone, Copy)]
+pub struct State<'a> {
+    pub text: &'a [u8],
+    pub store: &'a [u8],
+    pub size: u32,
+}

@@ -15,7 +15,7 @@ ghost use Rattle.clausetests.specs.Given.{Given};
 ghost use Rattle.clausetests.specs.Fitting.{Changed};
 ghost use Rattle.clausetests.specs.Clauses.{ClauseNames, ClausesThere, ClauseIs, ClauseHere};
 
-use crate::{fitting, search, vars};
+use crate::{State, fitting, search, vars};
 use sets::places::SHOWN;
 use sets::verdict::Broken;
 use tables::read;
@@ -31,25 +31,23 @@ fn put_shown(scratch: &mut [u8], found: [u32; 4])
     }
 }
 
-// Clause i.
+// Clause i. (Clauses and atoms each by itself: they are only read here, and `Tables` lends them to be written.)
 fn clause_verdict(
-    text: &[u8],
+    state: &State,
     clauses: &[u8],
     atoms: &[u8],
-    store: &[u8],
     scratch: &mut [u8],
     i: u32,
-    size: u32,
 ) -> Result<(), Broken>
-    requires { ClauseHere size i text.now clauses.now atoms.now store.now scratch.old }
-    ensures result_after { (I : Interpretation) (roles : ℕ) (c : Clause) → ClauseIs I roles size c i text.now (words clauses.now) (words atoms.now) (words store.now) (words scratch.old) → verdict_in (words scratch.new) result ≡ or_broken i (clause_broken I c) holds }
+    requires { ClauseHere state.now.size i state.now.text.now clauses.now atoms.now state.now.store.now scratch.old }
+    ensures result_after { (I : Interpretation) (roles : ℕ) (c : Clause) → ClauseIs I roles state.now.size c i state.now.text.now (words clauses.now) (words atoms.now) (words state.now.store.now) (words scratch.old) → verdict_in (words scratch.new) result ≡ or_broken i (clause_broken I c) holds }
     ensures changed { Changed (2 * vars_at) (shown_at + 4) (words scratch.old) (words scratch.new) }
 {
     let v = vars::clause_vars(read::atoms_of(clauses, atoms, i));
     let body = read::body_of(clauses, atoms, i);
     let head = read::head_of(clauses, atoms, i);
-    fitting::clause_tables(text, store, scratch, body, head, v, size);
-    if let Some(found) = search::search(scratch, v.n, size) {
+    fitting::clause_tables(state, scratch, body, head, v);
+    if let Some(found) = search::search(scratch, v.n, state.size) {
         put_shown(scratch, found);
         return Err(Broken { at: i, shown: v.n });
     }
@@ -69,8 +67,9 @@ pub fn clauses_verdict(
     requires { ClausesThere size count text.now clauses.now atoms.now store.now scratch.old }
     ensures { (I : Interpretation) (roles : ℕ) (l : List Clause) → Given I roles size text.now (words store.now) (words scratch.old) → Tabled (words clauses.now) (words atoms.now) count l → Each (ClauseNames roles) l → any wide_clause l ≡ false → verdict_in (words scratch.new) result ≡ clauses_verdict I l }
 {
+    let state = State { text, store, size };
     for i in 0..count {
-        clause_verdict(text, clauses, atoms, store, scratch, i, size)?;
+        clause_verdict(&state, clauses, atoms, scratch, i)?;
     }
     Ok(())
 }

@@ -15,7 +15,7 @@ pub narrow_atom-requires : goal.narrow_atom-requires
 narrow_atom-requires c =
     let A = c.args in
     let R = c.requires.1 in
-    there_nth A.size A.v A.text.now A.store.now A.scratch.now R.list A.i _ (run_within A.run.now A.i R.list R.are c.requires.0)
+    there_nth A.state.now.size A.v A.state.now.text.now A.state.now.store.now A.scratch.now R.list A.i _ (run_within A.run.now A.i R.list R.are c.requires.0)
     (read_nth A.run.now A.i R.list R.are c.requires.0 c.get_atom.result c.get_atom.ensures _ c.in-Some.is) R.there
 
 pub returns : goal.returns
@@ -24,8 +24,8 @@ returns c =
       tables = (λ I roles vs l one two R M T.
           let e = read_nth A.run.now A.i l R c.requires.0 c.get_atom.result c.get_atom.ensures _ c.in-Some.is in
           let h = run_within A.run.now A.i l R c.requires.0 in
-          tables_nth I vs (is_head A.side) A.size A.v.n _ (get_or l A.i no_atom) one two _ e
+          tables_nth I vs (is_head A.side) A.state.now.size A.v.n _ (get_or l A.i no_atom) one two _ e
           (c.narrow_atom.ensures.tables I roles vs one two
-          (rw e (meant_nth I roles vs A.size l A.v A.text.now (words A.store.now) (words A.scratch.now) M A.i h)) T));
+          (rw e (meant_nth I roles vs A.state.now.size l A.v A.state.now.text.now (words A.state.now.store.now) (words A.scratch.now) M A.i h)) T));
       changed = c.narrow_atom.ensures.changed;
     }

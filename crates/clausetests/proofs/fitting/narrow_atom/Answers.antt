@@ -21,7 +21,7 @@ narrow_one-requires c =
     let A = c.args in
     let e = sym c.atom_vars.ensures ∙ ap vars_of c.in-One.is in
     let T = c.requires in
-    (omega (arith, (c.place-j.ensures T.vars T.so.are (single_in T.vars A.a _ T.so.among.0 e)).0, T.so.few), meant_atom A.size A.a A.v A.text.now A.store.now A.scratch.now T)
+    (omega (arith, (c.place-j.ensures T.vars T.so.are (single_in T.vars A.a _ T.so.among.0 e)).0, T.so.few), meant_atom A.state.now.size A.a A.v A.state.now.text.now A.state.now.store.now A.scratch.now T)
 
 pub narrow_pair-requires : goal.narrow_pair-requires
 narrow_pair-requires c =
@@ -36,7 +36,7 @@ returns-in-One c =
     let j = c.place-j.result in record {
       tables = (λ I roles vs one two M T.
           let q = c.place-j.ensures vs M.are (single_in vs A.a _ M.among.0 e) in
-          narrowed_single I roles vs A.size A.a A.v A.text.now (words A.store.now) (words A.scratch.now) _ (is_head A.side) one two M T j q.0 c.narrow_one.ensures.changed
+          narrowed_single I roles vs A.state.now.size A.a A.v A.state.now.text.now (words A.state.now.store.now) (words A.scratch.now) _ (is_head A.side) one two M T j q.0 c.narrow_one.ensures.changed
           (c.narrow_one.ensures.j_after I roles (one j) M.given M.names.0 (T.ones j q.0)) _ e q.1);
       changed = changed_wide (2 * (vars_at + j)) (2 * (vars_at + j) + 2) (2 * vars_at) shown_at _ _ (omega arith) (omega (arith, (c.place-j.ensures T₀.vars T₀.so.are (single_in T₀.vars A.a _ T₀.so.among.0 e)).0, T₀.so.few)) c.narrow_one.ensures.changed;
     }

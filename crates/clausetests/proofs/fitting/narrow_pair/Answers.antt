@@ -27,7 +27,7 @@ narrow_one-requires c =
     let T₀ = c.requires.1 in
     let M₀ = T₀.so in
     let cx = pair_in T₀.vars A.a A.x A.y M₀.among.0 c.requires.0 in
-    (omega (arith, (c.place-i.ensures T₀.vars M₀.are cx.0).0, M₀.few), meant_atom A.size A.a A.v A.text.now A.store.now A.scratch.now T₀)
+    (omega (arith, (c.place-i.ensures T₀.vars M₀.are cx.0).0, M₀.few), meant_atom A.state.now.size A.a A.v A.state.now.text.now A.state.now.store.now A.scratch.now T₀)
 
 pub returns-then-i-j : goal.returns-then-i-j
 returns-then-i-j c =
@@ -41,7 +41,7 @@ returns-then-i-j c =
           let d = pair_in vs A.a A.x A.y M.among.0 c.requires.0 in
           let p = c.place-i.ensures vs M.are d.0 in
           let q = c.place-j.ensures vs M.are d.1 in
-          narrowed_same I roles vs A.size A.a A.v A.text.now (words A.store.now) (words A.scratch.now) _ (is_head A.side) one two M T i p.0 c.narrow_one.ensures.changed
+          narrowed_same I roles vs A.state.now.size A.a A.v A.state.now.text.now (words A.state.now.store.now) (words A.scratch.now) _ (is_head A.side) one two M T i p.0 c.narrow_one.ensures.changed
           (c.narrow_one.ensures.j_after I roles (one i) M.given M.names.0 (T.ones i p.0)) A.x A.y c.requires.0 p.1 (ap (λ (k : ℕ). get_or vs k 0) c.if-i-j.true ∙ q.1));
       changed = changed_wide (2 * (vars_at + i)) (2 * (vars_at + i) + 2) (2 * vars_at) shown_at _ _ (omega arith) (omega (arith, (c.place-i.ensures T₀.vars M₀.are cx.0).0, M₀.few)) c.narrow_one.ensures.changed;
     }
@@ -66,7 +66,7 @@ narrow_rows-requires c =
     let Q = c.place-j.ensures T₀.vars M₀.are cx.1 in (
       (pair_low i j _ c.if-i-j-2.true (omega (arith, Q.0, M₀.few)) c.pair_at.ensures).1,
       pair_with_lem A.a A.x A.y A.y c.requires.0 (vars_apart T₀.vars A.v i j A.x A.y M₀.distinct M₀.are M₀.few P.0 Q.0 c.if-i-j.false P.1 Q.1) (inr refl),
-      (A.text.now, A.store.now, meant_atom A.size A.a A.v A.text.now A.store.now A.scratch.now T₀),
+      (A.state.now.text.now, A.state.now.store.now, meant_atom A.state.now.size A.a A.v A.state.now.text.now A.state.now.store.now A.scratch.now T₀),
     )
 
 pub returns-then-i-j-2 : goal.returns-then-i-j-2
@@ -82,8 +82,8 @@ returns-then-i-j-2 c =
           let d = pair_in vs A.a A.x A.y M.among.0 c.requires.0 in
           let p = c.place-i.ensures vs M.are d.0 in
           let q = c.place-j.ensures vs M.are d.1 in
-          narrowed_pair I roles vs A.size A.a A.v A.text.now (words A.store.now) v _ (is_head A.side) one two M T i j c.pair_at.result A.y c.if-i-j-2.true q.0 c.pair_at.ensures q.1 c.narrow_rows.ensures.changed
-          (c.narrow_rows.ensures.e_after I roles A.text.now (words A.store.now) (two i j) M.given M.names.0 (λ e h. ap (λ (k : ℕ). set_at v (k + e)) c.pair_at.ensures ∙ T.twos i j e c.if-i-j-2.true q.0 h))
+          narrowed_pair I roles vs A.state.now.size A.a A.v A.state.now.text.now (words A.state.now.store.now) v _ (is_head A.side) one two M T i j c.pair_at.result A.y c.if-i-j-2.true q.0 c.pair_at.ensures q.1 c.narrow_rows.ensures.changed
+          (c.narrow_rows.ensures.e_after I roles A.state.now.text.now (words A.state.now.store.now) (two i j) M.given M.names.0 (λ e h. ap (λ (k : ℕ). set_at v (k + e)) c.pair_at.ensures ∙ T.twos i j e c.if-i-j-2.true q.0 h))
           A.x A.y c.requires.0 p.1 q.1);
       changed = let l = pair_low i j c.pair_at.result c.if-i-j-2.true (omega (arith, (c.place-j.ensures T₀.vars M₀.are cx.1).0, M₀.few)) c.pair_at.ensures in
           changed_wide (2 * c.pair_at.result) (2 * (c.pair_at.result + 64)) (2 * vars_at) shown_at _ _ (omega (arith, l.0)) (omega (arith, l.1)) c.narrow_rows.ensures.changed;
@@ -109,7 +109,7 @@ narrow_rows-requires-2 c =
     let Q = c.place-j.ensures T₀.vars M₀.are cx.1 in (
       (pair_low j i _ (omega (arith, c.if-i-j-2.false, c.if-i-j.false)) (omega (arith, P.0, M₀.few)) c.pair_at-2.ensures).1,
       pair_with_lem A.a A.x A.y A.x c.requires.0 (vars_apart T₀.vars A.v i j A.x A.y M₀.distinct M₀.are M₀.few P.0 Q.0 c.if-i-j.false P.1 Q.1) (inl refl),
-      (A.text.now, A.store.now, meant_atom A.size A.a A.v A.text.now A.store.now A.scratch.now T₀),
+      (A.state.now.text.now, A.state.now.store.now, meant_atom A.state.now.size A.a A.v A.state.now.text.now A.state.now.store.now A.scratch.now T₀),
     )
 
 pub returns : goal.returns
@@ -126,8 +126,8 @@ returns c =
           let d = pair_in vs A.a A.x A.y M.among.0 c.requires.0 in
           let p = c.place-i.ensures vs M.are d.0 in
           let q = c.place-j.ensures vs M.are d.1 in
-          narrowed_turned I roles vs A.size A.a A.v A.text.now (words A.store.now) v _ (is_head A.side) one two M T j i c.pair_at-2.result A.x lt p.0 c.pair_at-2.ensures p.1 c.narrow_rows-2.ensures.changed
-          (c.narrow_rows-2.ensures.e_after I roles A.text.now (words A.store.now) (two j i) M.given M.names.0 (λ e h. ap (λ (k : ℕ). set_at v (k + e)) c.pair_at-2.ensures ∙ T.twos j i e lt p.0 h))
+          narrowed_turned I roles vs A.state.now.size A.a A.v A.state.now.text.now (words A.state.now.store.now) v _ (is_head A.side) one two M T j i c.pair_at-2.result A.x lt p.0 c.pair_at-2.ensures p.1 c.narrow_rows-2.ensures.changed
+          (c.narrow_rows-2.ensures.e_after I roles A.state.now.text.now (words A.state.now.store.now) (two j i) M.given M.names.0 (λ e h. ap (λ (k : ℕ). set_at v (k + e)) c.pair_at-2.ensures ∙ T.twos j i e lt p.0 h))
           A.x A.y c.requires.0 p.1 q.1);
       changed = let l = pair_low j i c.pair_at-2.result lt (omega (arith, (c.place-i.ensures T₀.vars M₀.are cx.0).0, M₀.few)) c.pair_at-2.ensures in
           changed_wide (2 * c.pair_at-2.result) (2 * (c.pair_at-2.result + 64)) (2 * vars_at) shown_at _ _ (omega (arith, l.0)) (omega (arith, l.1)) c.narrow_rows-2.ensures.changed;

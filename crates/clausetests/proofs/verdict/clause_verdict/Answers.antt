@@ -20,15 +20,15 @@ pub clause_tables-requires : goal.clause_tables-requires
 clause_tables-requires c =
     let A = c.args in
     let H = c.requires in
-    here_meant A.size A.i A.text.now A.clauses.now A.atoms.now A.store.now A.scratch.now H _ _ c.clause_vars-v.result (c.body_of-body.ensures H.clause H.is.at) (c.head_of-head.ensures H.clause H.is.at)
+    here_meant A.state.now.size A.i A.state.now.text.now A.clauses.now A.atoms.now A.state.now.store.now A.scratch.now H _ _ c.clause_vars-v.result (c.body_of-body.ensures H.clause H.is.at) (c.head_of-head.ensures H.clause H.is.at)
     (c.clause_vars-v.ensures.1 (H.clause.body ++ H.clause.head) (c.atoms_of.ensures H.clause H.is.at))
 
 pub search-requires : goal.search-requires
 search-requires c =
     let A = c.args in
     let H = c.requires in (
-      here_few A.size A.i A.text.now A.clauses.now A.atoms.now A.store.now A.scratch.now H c.clause_vars-v.result (c.clause_vars-v.ensures.1 (H.clause.body ++ H.clause.head) (c.atoms_of.ensures H.clause H.is.at)),
-      here_small A.size A.i A.text.now A.clauses.now A.atoms.now A.store.now A.scratch.now H,
+      here_few A.state.now.size A.i A.state.now.text.now A.clauses.now A.atoms.now A.state.now.store.now A.scratch.now H c.clause_vars-v.result (c.clause_vars-v.ensures.1 (H.clause.body ++ H.clause.head) (c.atoms_of.ensures H.clause H.is.at)),
+      here_small A.state.now.size A.i A.state.now.text.now A.clauses.now A.atoms.now A.state.now.store.now A.scratch.now H,
       rw c.clause_tables.auto.scratch H.space,
     )
 
@@ -41,12 +41,12 @@ returns-in-Some c =
     let A = c.args in
     let H = c.requires in
     let v = c.clause_vars-v.result in
-    let l = here_few A.size A.i A.text.now A.clauses.now A.atoms.now A.store.now A.scratch.now H v (c.clause_vars-v.ensures.1 (H.clause.body ++ H.clause.head) (c.atoms_of.ensures H.clause H.is.at)) in record {
+    let l = here_few A.state.now.size A.i A.state.now.text.now A.clauses.now A.atoms.now A.state.now.store.now A.scratch.now H v (c.clause_vars-v.ensures.1 (H.clause.body ++ H.clause.head) (c.atoms_of.ensures H.clause H.is.at)) in record {
       result_after = (λ I roles x S.
           let R = c.clause_vars-v.ensures.1 (x.body ++ x.head) (c.atoms_of.ensures x S.at) in
-          let M = clause_meant I roles A.size x A.i A.text.now (words A.clauses.now) (words A.atoms.now) (words A.store.now) (words A.scratch.now) S v R in
+          let M = clause_meant I roles A.state.now.size x A.i A.state.now.text.now (words A.clauses.now) (words A.atoms.now) (words A.state.now.store.now) (words A.scratch.now) S v R in
           verdict_some A.i (clause_broken I x) (take v.n c.in-Some.found) _
-          (found_broken I roles A.size x A.i A.text.now (words A.clauses.now) (words A.atoms.now) (words A.store.now) (words A.scratch.now) S v R (Code.Some c.in-Some.found)
+          (found_broken I roles A.state.now.size x A.i A.state.now.text.now (words A.clauses.now) (words A.atoms.now) (words A.state.now.store.now) (words A.scratch.now) S v R (Code.Some c.in-Some.found)
           (c.in-Some.ensures (clause_one I x) (clause_two I x) (c.clause_tables.ensures.tables I roles x (c.body_of-body.ensures x S.at) (c.head_of-head.ensures x S.at) M)))
           (c.put_shown.ensures.by_index v.n l));
       changed = changed_then (2 * vars_at) (shown_at + 4) _ _ _ (changed_wide (2 * vars_at) shown_at (2 * vars_at) (shown_at + 4) _ _ (omega arith) (omega arith) c.clause_tables.ensures.changed)
@@ -59,9 +59,9 @@ returns c =
     let v = c.clause_vars-v.result in record {
       result_after = (λ I roles x S.
           let R = c.clause_vars-v.ensures.1 (x.body ++ x.head) (c.atoms_of.ensures x S.at) in
-          let M = clause_meant I roles A.size x A.i A.text.now (words A.clauses.now) (words A.atoms.now) (words A.store.now) (words A.scratch.now) S v R in
+          let M = clause_meant I roles A.state.now.size x A.i A.state.now.text.now (words A.clauses.now) (words A.atoms.now) (words A.state.now.store.now) (words A.scratch.now) S v R in
           verdict_none A.i (clause_broken I x)
-          (found_broken I roles A.size x A.i A.text.now (words A.clauses.now) (words A.atoms.now) (words A.store.now) (words A.scratch.now) S v R Code.None
+          (found_broken I roles A.state.now.size x A.i A.state.now.text.now (words A.clauses.now) (words A.atoms.now) (words A.state.now.store.now) (words A.scratch.now) S v R Code.None
           (c.in_default.ensures (clause_one I x) (clause_two I x) (c.clause_tables.ensures.tables I roles x (c.body_of-body.ensures x S.at) (c.head_of-head.ensures x S.at) M))));
       changed = changed_wide (2 * vars_at) shown_at (2 * vars_at) (shown_at + 4) _ _ (omega arith) (omega arith) c.clause_tables.ensures.changed;
     }
