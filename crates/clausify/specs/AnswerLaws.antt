@@ -13,8 +13,8 @@ use Rattle.rules.specs.Run.{Lengths, Outcome, Accepted, accepted, refused, sizes
 use Rattle.statistics.specs.declared.ClauseStats.{ClauseStats}
 use Rattle.statistics.specs.Counted.{stats_of}
 use Rattle.run.specs.declared.Ran.{Ran}
-use Rattle.clausify.specs.declared.Reply.{Reply}
-use Rattle.clausify.specs.declared.Reply.TheVariants as Replies
+use Rattle.clausify.specs.Reply.{Reply}
+use Rattle.clausify.specs.Reply as Replies
 use Rattle.run.specs.Ran.{Left, RanAs}
 use Rattle.clausify.specs.Entry.{lent, reply_of}
 use Rattle.clausify.specs.Answer.{Answered}

@@ -15,10 +15,10 @@ use Rattle.rules.specs.Semantics.{Interpretation}
 use Rattle.rules.specs.Statements.{left_clauses, clauses_of, Proper, all_hold, is_inverse_axiom, satisfies_some, FirstHalf, SecondHalf}
 use Rattle.rules.specs.EqualNames.{Call, Clausifies, calls_of, Settles, NameIsFiller}
 use Rattle.statistics.specs.declared.ClauseStats.{ClauseStats}
-use Rattle.clausify.specs.declared.Reply.{Reply}
-use Rattle.clausify.specs.declared.Reply.TheVariants as Replies
-use Rattle.clausify.specs.declared.Clausified.{Clausified}
-use Rattle.clausify.specs.declared.Clausified.TheVariants as Counts
+use Rattle.clausify.specs.Reply.{Reply}
+use Rattle.clausify.specs.Reply as Replies
+use Rattle.clausify.specs.Clausified.{Clausified}
+use Rattle.clausify.specs.Clausified as Counts
 
 -- the lengths of the lent tables
 abbrev pub lent : List ℕ → List ℕ → List ℕ → List ℕ → Lengths

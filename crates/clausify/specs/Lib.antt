@@ -1,3 +1,6 @@
+pub mod Reply
+pub mod Clausified
+pub mod ReplyLaws
 pub mod Entry
 pub mod Answer
 pub mod TableLaws

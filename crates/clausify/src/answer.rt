@@ -1,14 +1,17 @@
 // A run in cleared tables, and what a refusal leaves of it.
-ghost use Rattle.std.specs.Prelude.{◌≡◌, true, List, ℕ, length, replicate};
+ghost use Rattle.std.specs.Prelude.{◌≡◌, true, List, ℕ, length, replicate, Ok};
 ghost use Rattle.words.specs.Words.{words};
 ghost use Rattle.rules.specs.State.{Rooms};
 ghost use Rattle.rules.specs.Run.{Run, sizes_ok, Accepted, accepted as accepted_run};
 ghost use Rattle.tables.specs.Drawn.{Sized};
 ghost use Rattle.run.specs.Ran.{Left};
+ghost use Rattle.clausify.specs.Reply.{told_reply};
 ghost use Rattle.clausify.specs.Entry.{lent, reply_of};
 ghost use Rattle.clausify.specs.Answer.{LeftThere, Zeros, Answered};
 
-use crate::Reply;
+use crate::numbers::Numbers;
+use ir::answer::Refused;
+use ir::refusal::Refusal;
 use run;
 use run::Ran;
 use statistics;
@@ -27,14 +30,18 @@ pub fn blank(clauses: &mut [u8], atoms: &mut [u8], deferrals: &mut [u8])
     words::clear(deferrals);
 }
 
-// The reply of a run that left these tables.
-fn accepted(clauses: &[u8], atoms: &[u8], r: Ran) -> Reply
+// The numbers of a run that left these tables.
+fn accepted(clauses: &[u8], atoms: &[u8], r: Ran) -> Numbers
     requires { LeftThere (words clauses.now) (words atoms.now) r.counters r.first r.decomposed × Sized (length clauses.now) (length atoms.now) 0 }
-    ensures { (rooms : Rooms) (x : Accepted) (d : List ℕ) → Left rooms x r.counters r.first r.decomposed (words clauses.now) (words atoms.now) d → result ≡ reply_of (accepted_run x) }
+    ensures { (rooms : Rooms) (x : Accepted) (d : List ℕ) → Left rooms x r.counters r.first r.decomposed (words clauses.now) (words atoms.now) d → told_reply (Ok result) ≡ reply_of (accepted_run x) }
 {
     let k = r.counters;
     let stats = statistics::clause_stats(clauses, atoms, k.clauses, k.deferrals, r.decomposed);
-    Reply::Accepted(stats, k.next_class - r.first, k.visits)
+    Numbers {
+        stats,
+        fresh_ids: k.next_class - r.first,
+        visits: k.visits,
+    }
 }
 
 // The run in tables of zeros; a refusal leaves zeros.
@@ -44,15 +51,15 @@ fn settled(
     atoms: &mut [u8],
     deferrals: &mut [u8],
     scratch: &mut [u8],
-) -> Reply
+) -> Result<Numbers, Refused>
     requires { (sizes_ok (lent clauses.old atoms.old deferrals.old scratch.old) ≡ true) × Zeros clauses.old atoms.old deferrals.old }
-    ensures { Answered (Run deck.now (lent clauses.old atoms.old deferrals.old scratch.old)) (lent clauses.old atoms.old deferrals.old scratch.old) result clauses.new atoms.new deferrals.new }
+    ensures { Answered (Run deck.now (lent clauses.old atoms.old deferrals.old scratch.old)) (lent clauses.old atoms.old deferrals.old scratch.old) (told_reply result) clauses.new atoms.new deferrals.new }
 {
     match run::run(deck, scratch, clauses, atoms, deferrals, VISITS) {
-        Ok(r) => accepted(clauses, atoms, r),
+        Ok(r) => Ok(accepted(clauses, atoms, r)),
         Err(e) => {
             blank(clauses, atoms, deferrals);
-            Reply::Refused(e.refusal.number(), e.line)
+            Err(e)
         }
     }
 }
@@ -65,14 +72,17 @@ pub fn answer(
     atoms: &mut [u8],
     deferrals: &mut [u8],
     scratch: &mut [u8],
-) -> Reply
+) -> Result<Numbers, Refused>
     requires { fit ≡ sizes_ok (lent clauses.old atoms.old deferrals.old scratch.old) }
-    ensures { Answered (Run deck.now (lent clauses.old atoms.old deferrals.old scratch.old)) (lent clauses.old atoms.old deferrals.old scratch.old) result clauses.new atoms.new deferrals.new }
+    ensures { Answered (Run deck.now (lent clauses.old atoms.old deferrals.old scratch.old)) (lent clauses.old atoms.old deferrals.old scratch.old) (told_reply result) clauses.new atoms.new deferrals.new }
 {
     blank(clauses, atoms, deferrals);
     if fit {
         settled(deck, clauses, atoms, deferrals, scratch)
     } else {
-        Reply::Refused(1, 0)
+        Err(Refused {
+            refusal: Refusal::WrongSize,
+            line: 0,
+        })
     }
 }

@@ -2,6 +2,7 @@ use mathlib.Core.Path.{sym, ap, ◌∙◌}
 use Prim.Native.Nat.{ℕ}
 use lib.ListN.{replicate}
 use Rattle.rules.specs.Run.{sizes_ok}
+use Rattle.clausify.specs.Reply.{told_reply}
 use Rattle.clausify.specs.Entry.{lent}
 use Rattle.clausify.specs.AnswerLaws.{same_lent, answered_lent, answered_unsized}
 use Rattle.clausify.proofs.answer.answer.Goals as goal
@@ -27,7 +28,7 @@ returns-then-fit c =
     let b = c.blank in
     let lengths = same_lent a.clauses.now a.atoms.now a.deferrals.now a.scratch.now b.new.clauses b.new.atoms b.new.deferrals b.auto.clauses b.auto.atoms b.auto.deferrals in
     let q = c.settled in
-    answered_lent a.deck.now t (lent b.new.clauses b.new.atoms b.new.deferrals a.scratch.now) q.result q.new.clauses q.new.atoms q.new.deferrals lengths q.ensures
+    answered_lent a.deck.now t (lent b.new.clauses b.new.atoms b.new.deferrals a.scratch.now) (told_reply q.result) q.new.clauses q.new.atoms q.new.deferrals lengths q.ensures
 
 pub returns-else-fit : goal.returns-else-fit
 returns-else-fit c =

@@ -5,6 +5,8 @@ use lib.ListN.{replicate}
 use Rattle.words.specs.Words.{words}
 use Rattle.rules.specs.Deck.{read_deck}
 use Rattle.rules.specs.Run.{rooms_of, run_read, visit_limit}
+use Rattle.std.specs.Prelude.{Ok}
+use Rattle.clausify.specs.Reply.{told_reply}
 use Rattle.clausify.specs.Entry.{lent}
 use Rattle.clausify.specs.TableLaws.{sizes_whole, cleared_blank}
 use Rattle.clausify.specs.AnswerLaws.{ran_kept, answered_kept, answered_stopped}
@@ -40,7 +42,7 @@ returns-in-Ok c =
     let a' = q.new.atoms in
     let d' = q.new.deferrals in
     let h = q.ensures (rooms_of t) (cleared_blank (rooms_of t) a.clauses.now a.atoms.now a.deferrals.now W.clauses W.atoms W.deferrals c.requires.1) in
-    answered_kept a.deck.now t c.requires.0 q.result c.in-Ok.r c' a' d' c.accepted.result h c.in-Ok.is
+    answered_kept a.deck.now t c.requires.0 q.result c.in-Ok.r c' a' d' (told_reply (Ok c.accepted.result)) h c.in-Ok.is
     q.auto.clauses q.auto.atoms q.auto.deferrals (λ i. (c.slice_known-6-1.given i).fits) (λ i. (c.slice_known-7-1.given i).fits) (λ i. (c.slice_known-8-1.given i).fits) c.accepted.ensures
 
 pub returns-in-Err : goal.returns-in-Err
@@ -54,7 +56,7 @@ returns-in-Err c =
     let d' = q.new.deferrals in
     let h = q.ensures (rooms_of t) (cleared_blank (rooms_of t) a.clauses.now a.atoms.now a.deferrals.now W.clauses W.atoms W.deferrals c.requires.1) in
     let b = c.blank in
-    rw c.number.ensures (answered_stopped a.deck.now t c.requires.0 q.result c.in-Err.e c' a' d' b.new.clauses b.new.atoms b.new.deferrals h c.in-Err.is
+    answered_stopped a.deck.now t c.requires.0 q.result c.in-Err.e c' a' d' b.new.clauses b.new.atoms b.new.deferrals h c.in-Err.is
     (b.ensures.clauses_after ∙ ap (λ (n : ℕ). replicate n 0) q.auto.clauses)
     (b.ensures.atoms_after ∙ ap (λ (n : ℕ). replicate n 0) q.auto.atoms)
-    (b.ensures.deferrals_after ∙ ap (λ (n : ℕ). replicate n 0) q.auto.deferrals))
+    (b.ensures.deferrals_after ∙ ap (λ (n : ℕ). replicate n 0) q.auto.deferrals)
