@@ -5,7 +5,7 @@ use Prim.{tt}
 use Rattle.words.specs.Words.{words}
 use Rattle.rules.specs.Run.{Lengths, Outcome, accepted, refused, Run}
 use Rattle.rules.proofs.RunLaws.{run_never_zero}
-use Rattle.clausify.specs.declared.Reply.{Reply}
+use Rattle.clausify.specs.Reply.{Reply}
 use Rattle.clausify.specs.Entry.{reply_of, Meaning}
 use Rattle.clausify.specs.Answer.{Answered, run_if, ten_of}
 use Rattle.clausify.specs.MeaningLaws.{run_meaning}

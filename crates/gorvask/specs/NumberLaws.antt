@@ -7,8 +7,8 @@ use Rattle.words.specs.Words.{words, bytes}
 use Rattle.words.specs.Laws.{Bytes, length_words}
 use Rattle.words.specs.Bytes.{bytes_words}
 use Rattle.statistics.specs.declared.ClauseStats.{ClauseStats}
-use Rattle.clausify.specs.declared.Reply.{Reply}
-use Rattle.clausify.specs.declared.Reply.TheVariants as Replies
+use Rattle.clausify.specs.Reply.{Reply}
+use Rattle.clausify.specs.Reply as Replies
 use Rattle.clausify.specs.Answer.{ten_of}
 use Rattle.gorvask.specs.Entry.{numbers_bytes}
 use Rattle.gorvask.specs.Replies.{numbers_of, TenWords}

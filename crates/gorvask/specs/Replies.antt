@@ -2,8 +2,8 @@
 use Rattle.std.specs.Prelude.{◌≡◌, List, ℕ, ◌+◌, ◌*◌, ◌^◌, replicate}
 use Prim.{Unit}
 use Rattle.words.specs.Words.{bytes}
-use Rattle.clausify.specs.declared.Reply.{Reply}
-use Rattle.clausify.specs.declared.Reply.TheVariants as Replies
+use Rattle.clausify.specs.Reply.{Reply}
+use Rattle.clausify.specs.Reply as Replies
 use Rattle.clausify.specs.Answer.{ten_of}
 use Rattle.gorvask.specs.Entry.{numbers_bytes}
 

@@ -16,8 +16,8 @@ use Rattle.rules.proofs.RunLaws.{run_never_zero}
 use Rattle.states.specs.State.{State, StateTold, stated, bad, unread, read_state, interpretation_of}
 use Rattle.states.specs.LineLaws.{is_read, state_read}
 use Rattle.states.specs.Test.{Test, axioms, clauses, holds, broken, Tested, told, refused, clauses_verdict, wide_clause, unless_wide, on_state, on_run, Lent, lent_ok, test_sized, test_state, tested_code}
-use Rattle.trials.specs.declared.judged.Tried.{Tried}
-use Rattle.trials.specs.declared.judged.Tried.TheVariants as Said
+use Rattle.trials.specs.Tried.{Tried}
+use Rattle.trials.specs.Tried as Said
 use Rattle.trials.specs.Entry.{tried_of, MeaningStored, MeantTried}
 
 abbrev pub code_of_tried : Tried → ℕ

@@ -4,19 +4,22 @@ ghost use Rattle.rules.specs.Run.{scratch_table};
 ghost use Rattle.states.specs.Test.{test_state, tested_code, tested_clauses, tested_atoms, tested_deferrals, store_table};
 ghost use Rattle.states.specs.Test as Test;
 ghost use Rattle.states.specs.Seen.{SeenByAxioms, SeenByClauses};
+ghost use Rattle.trials.specs.Tried.{told_trial};
 ghost use Rattle.trials.specs.Entry.{lent_all};
 ghost use Rattle.gorvask.specs.Trials.{code_of_tried, MeantCode};
 
-use trials::judged::Tried;
+use crate::reply;
+use ir::answer::Refused;
+use trials::judged::Verdict;
 
 // 0 where all hold, 1 where something is broken; a refusal's number × 2^32 + line.
-fn code(tried: Tried) -> u64
-    ensures { result ≡ code_of_tried tried }
+fn code(tried: Result<Verdict, Refused>) -> u64
+    ensures { result ≡ code_of_tried (told_trial tried) }
 {
     match tried {
-        Tried::Holds => 0,
-        Tried::Broken(_, _) => 1,
-        Tried::Refused(n, line) => (n as u64) * 4294967296 + line as u64,
+        Ok(Ok(())) => 0,
+        Ok(Err(_)) => 1,
+        Err(e) => reply::refused(e),
     }
 }
 

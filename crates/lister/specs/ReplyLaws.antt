@@ -12,8 +12,8 @@ use Rattle.rows.specs.RowLaws.{length_line}
 use Rattle.listing.specs.Listing.{Listable}
 use Rattle.listing.specs.ListingLaws.{clauses_long}
 use Rattle.statistics.specs.declared.ClauseStats.{ClauseStats}
-use Rattle.clausify.specs.declared.Reply.{Reply}
-use Rattle.clausify.specs.declared.Reply.TheVariants as Replies
+use Rattle.clausify.specs.Reply.{Reply}
+use Rattle.clausify.specs.Reply as Replies
 use Rattle.clausify.specs.Entry.{lent, coded, reply_of}
 use Rattle.lister.specs.Text.{numbers_line, most_rows, most_text}
 

@@ -1,11 +1,11 @@
 -- What the entries promise: the reply, and the clauses' meaning by the numbers in the store.
-use Rattle.std.specs.Prelude.{◌≡◌, List, ℕ, length, get_or}
+use Rattle.std.specs.Prelude.{List, ℕ, length, get_or}
 use Prim.{Unit}
 use Rattle.words.specs.Words.{words}
 use Rattle.clausify.specs.Entry.{lent, Meaning}
 use Rattle.states.specs.Test.{Verdict, holds, broken, Tested, told, refused, Lent}
-use Rattle.trials.specs.declared.judged.Tried.{Tried}
-use Rattle.trials.specs.declared.judged.Tried.TheVariants as Replies
+use Rattle.trials.specs.Tried.{Tried}
+use Rattle.trials.specs.Tried as Replies
 
 -- the lengths of what is lent
 abbrev pub lent_all : List ℕ → List ℕ → List ℕ → List ℕ → List ℕ → Lent

@@ -1,5 +1,5 @@
 -- From the run's answer and what was told to the entry's promise. Assumes nothing.
-use Rattle.std.specs.Prelude.{◌≡◌, Bool, true, ◌&&◌, List, ℕ, ◌≤◌, length, get_or, replicate, leb}
+use Rattle.std.specs.Prelude.{◌≡◌, Bool, true, List, ℕ, length, replicate, leb}
 use Rattle.std.proofs.Math.Path.{refl, ap}
 use Rattle.std.proofs.Common.{sym, ap₂, subst, ◌∙◌, arith, leb-true}
 use Rattle.std.proofs.Math.Bool.{false}
@@ -13,20 +13,20 @@ use Rattle.rules.specs.Run as Run
 use Rattle.rules.proofs.RunLaws.{Tables, run_tables}
 use Rattle.meaning.specs.Truth.{by_truth}
 use Rattle.statistics.specs.declared.ClauseStats.{ClauseStats}
-use Rattle.clausify.specs.declared.Reply.{Reply}
-use Rattle.clausify.specs.Entry.{coded, reply_of, Meaning}
+use Rattle.clausify.specs.Reply.{Reply}
+use Rattle.clausify.specs.Entry.{coded}
 use Rattle.clausify.specs.Answer.{Answered, run_if}
 use Rattle.clausify.specs.AnswerLaws.{run_unsized}
 use Rattle.clausify.specs.TableLaws.{sizes_whole}
 use Rattle.clausify.specs.RunTabled.{run_read_lem}
 use Rattle.clausify.specs.MeaningLaws.{run_meaning}
 use Rattle.states.specs.State.{read_state}
-use Rattle.states.specs.Test.{Test, Verdict, holds, broken, Tested, told, refused, on_state, on_run, store_bytes, Lent, lent_ok, test_sized, test_state, store_table, tested_clauses, tested_atoms, tested_deferrals}
-use Rattle.trials.specs.declared.judged.Tried.{Tried}
-use Rattle.trials.specs.declared.judged.Tried.TheVariants as Said
+use Rattle.states.specs.Test.{Test, Verdict, holds, broken, Tested, told, refused, on_run, store_bytes, Lent, lent_ok, test_sized, test_state, store_table, tested_clauses, tested_atoms, tested_deferrals}
+use Rattle.trials.specs.Tried.{Tried}
+use Rattle.trials.specs.Tried as Said
 use Rattle.trials.specs.Judged.{Judgement, given, denied, judged_of, tested_as, on_state_lem}
 use Rattle.trials.specs.Entry.{verdict_reply, tried_of, MeaningStored, MeantTried}
-use Rattle.trials.specs.Tells.{Ran, RanThere, TellThere, tested_on, Numbered, NumberedAs, ToldAs, TellsAs, kept_of}
+use Rattle.trials.specs.Tells.{Ran, TellThere, tested_on, Numbered, NumberedAs, ToldAs, TellsAs, kept_of}
 use Rattle.trials.specs.TellLaws.{ran_fits}
 
 pub record Promised (k : Test) (deck state : List ℕ) (t : Lent) (r : Tried) (c a d store : List ℕ) : Type 0 where

@@ -1,15 +1,17 @@
 -- What a test says of a deck that was run: a verdict, or the refusals that a state can bring.
-use Rattle.std.specs.Prelude.{◌≡◌, refl, Bool, true, false, List, ℕ}
+use Rattle.std.specs.Prelude.{◌≡◌, refl, Bool, true, false, List, ℕ, Result, Ok, Err}
+use Prim.{Unit}
+use Rattle.ir.specs.Refusals.{refusal_number}
+use Rattle.ir.specs.declared.answer.Refused.{Refused}
 use Rattle.rules.specs.Base.{any}
 use Rattle.rules.specs.State.{Clause}
 use Rattle.rules.specs.Deck.{Known}
 use Rattle.rules.specs.Run.{Accepted}
 use Rattle.rules.specs.Semantics.{Interpretation}
 use Rattle.states.specs.State.{StateTold, stated, bad, unread, interpretation_of}
-use Rattle.states.specs.Test.{Test, axioms, clauses, Verdict, Tested, told, refused, axioms_verdict, clauses_verdict, wide_clause, unless_wide, verdict_on, on_state}
+use Rattle.states.specs.Test.{Test, axioms, clauses, Verdict, Tested, told, refused, axioms_verdict, clauses_verdict, wide_clause, unless_wide, on_state}
+use Rattle.sets.specs.declared.verdict.Broken.{Broken}
 use Rattle.sets.specs.Verdicts.{verdict_in}
-use Rattle.trials.specs.declared.judged.Judged.{Judged}
-use Rattle.trials.specs.declared.judged.Judged.TheVariants as Code
 
 pub data Judgement : Type 0 where
   given : Verdict → Judgement
@@ -46,6 +48,6 @@ on_state_lem clauses d a (bad line) = refl
 on_state_lem clauses d a unread = refl
 
 -- what the code says, with the words v of scratch
-abbrev pub said_in : List ℕ → Judged → Judgement
-said_in v (Code.Given x) = given (verdict_in v x)
-said_in v (Code.Denied n line) = denied n line
+abbrev pub said_in : List ℕ → Result (Result (Unit {0}) Broken) Refused → Judgement
+said_in v (Ok x) = given (verdict_in v x)
+said_in v (Err e) = denied (refusal_number e.refusal) e.line

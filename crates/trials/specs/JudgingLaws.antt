@@ -1,8 +1,9 @@
 -- The deck that was read twice, once for its header and once into scratch, is one deck; and what is laid out beside it is ready
 -- for the tests. Assumes nothing.
-use Rattle.std.specs.Prelude.{◌≡◌, refl, Bool, true, false, List, ℕ, ◌+◌, ◌*◌, ◌/◌, ◌≤◌, length, ltb, leb, Result, Ok, Err, is_ok}
+use Rattle.std.specs.Prelude.{◌≡◌, refl, Bool, true, false, List, ℕ, ◌+◌, ◌/◌, ◌≤◌, length, ltb, leb, Result, Ok, Err, is_ok}
 use Rattle.std.proofs.Common.{sym, ap, subst, ◌∙◌, arith, ltb-true, le_refl}
 use Rattle.std.proofs.lemmas.Bool.{false≢true}
+use Rattle.std.specs.Result.{MatchResult}
 use Rattle.ir.specs.Refusals.{refusal_number}
 use Rattle.ir.specs.declared.counters.Counters.{Counters}
 use Rattle.words.specs.Words.{words}
@@ -21,7 +22,6 @@ use Rattle.ontology.specs.Loads as Loads
 use Rattle.ontology.specs.Loads.{Holds, LoadedAs, loaded, stopped}
 use Rattle.states.specs.State.{State, StateTold, stated, bad, unread, read_state, is_individual_class, interpretation_of}
 use Rattle.states.specs.ProperLaws.{read_sound, read_proper}
-use Rattle.states.specs.Test.{axioms, axioms_verdict}
 use Rattle.sets.specs.Places.{deck_words}
 use Rattle.sets.specs.Laid.{Laid, Found, KeptTo, KeptIn}
 use Rattle.words.specs.Laws.{length_words}
@@ -37,7 +37,6 @@ use Rattle.ontology.specs.KeptAxioms.{held_axioms, axioms_kept}
 use Rattle.layouts.specs.declared.Limits.{Limits}
 use Rattle.layouts.specs.declared.BadLine.{BadLine}
 use Rattle.layouts.specs.Read.{Declares, StatedAs}
-use Rattle.trials.specs.Judged.{Judgement, denied, judged_of}
 use Rattle.trials.specs.Judging.{InScratch, trial_of, Clauses, Clausal}
 
 -- ---- what was read
@@ -121,6 +120,11 @@ module _ (d : Known) (v v' w : List ℕ) (k : Counters) (n : ℕ) (S : InScratch
   fits_beside I size e = rw H.counters (record { size = e; base = refl; concepts = refl; axioms = H.count; line = refl })
 
 -- ---- what the state's reading says
+-- (its refusal is made into the entry's, its size stays)
+pub ok_mapped : {A E F : Type 0} (Q : E → Type 0) (r : Result A E) (s : Result A F) (x : A) → MatchResult r (λ y. s ≡ Ok y) Q → is_ok s ≡ is_ok r → s ≡ Ok x → r ≡ Ok x
+ok_mapped Q (Ok y) s x h v e = let q : y ≡ x = cc in ap Ok q
+ok_mapped Q (Err d) s x h v e = absurd (false≢true (sym v ∙ ap is_ok e))
+
 pub record Stating (d : Known) (m : Limits) (text w v : List ℕ) (size : ℕ) : Type 0 where
   pub state : State
   pub read : read_state d m.fresh text ≡ stated state

@@ -1,3 +1,5 @@
+pub mod Tried
+pub mod TriedLaws
 pub mod Judged
 pub mod Judging
 pub mod JudgingLaws

@@ -1,9 +1,10 @@
 -- The front of the store: the ten numbers, and the verdict.
-use Rattle.std.specs.Prelude.{◌≡◌, List, [], ◌∷◌, ◌++◌, Result, Ok, Err, ℕ, ◌+◌, ◌*◌, ◌≤◌, length}
+use Rattle.std.specs.Prelude.{◌≡◌, List, ◌++◌, Result, Ok, Err, ℕ, ◌≤◌, length}
 use Prim.{Unit}
+use Rattle.ir.specs.declared.answer.Refused.{Refused}
 use Rattle.rules.specs.Run.{Accepted, accepted, scratch_bytes}
 use Rattle.statistics.specs.declared.ClauseStats.{ClauseStats}
-use Rattle.clausify.specs.declared.Reply.TheVariants as Replies
+use Rattle.clausify.specs.Reply as Replies
 use Rattle.clausify.specs.Entry.{reply_of}
 use Rattle.clausify.specs.Answer.{ten_of}
 use Rattle.words.specs.Words.{words}
@@ -12,7 +13,6 @@ use Rattle.states.specs.Test as Test
 use Rattle.sets.specs.declared.verdict.Broken.{Broken}
 use Rattle.sets.specs.Verdicts.{verdict_in}
 use Rattle.trials.specs.Judged.{Judgement, given, denied, said_in}
-use Rattle.trials.specs.declared.judged.Judged.{Judged}
 
 -- ten numbers, two, and at most 129 elements
 abbrev pub front_words : ℕ
@@ -43,7 +43,7 @@ Short (denied n line) = Unit {0}
 abbrev pub Counted : Accepted → ClauseStats → ℕ → ℕ → Type 0
 Counted a s fresh_ids visits = reply_of (accepted a) ≡ Replies.Accepted s fresh_ids visits
 
-pub record ReportThere (store scratch : List ℕ) (x : Judged) (s : ClauseStats) (fresh_ids visits : ℕ) : Type 0 where
+pub record ReportThere (store scratch : List ℕ) (x : Result (Result (Unit {0}) Broken) Refused) (s : ClauseStats) (fresh_ids visits : ℕ) : Type 0 where
   pub run : Accepted
   pub counted : Counted run s fresh_ids visits
   pub short : Short (said_in (words scratch) x)

@@ -8,23 +8,25 @@ use Rattle.std.proofs.lemmas.List.{replicate-append-replicate}
 use Rattle.std.proofs.lemmas.List.Edits.{sets}
 use Rattle.words.specs.Words.{words, bytes}
 use Rattle.words.specs.Laws.{Bytes, words_zeros, words_append}
-use Rattle.rules.specs.Run.{Accepted, accepted, scratch_bytes, ten_numbers, table_of}
+use Rattle.rules.specs.Run.{Accepted, scratch_bytes, ten_numbers, table_of}
 use Rattle.tables.specs.Drawn.{padded}
 use Rattle.tables.specs.DrawnLaws.{padded_put, drop_zeros}
 use Rattle.statistics.specs.declared.ClauseStats.{ClauseStats}
-use Rattle.clausify.specs.declared.Reply.{Reply}
-use Rattle.clausify.specs.declared.Reply.TheVariants as Replies
+use Rattle.clausify.specs.Reply.{Reply}
+use Rattle.clausify.specs.Reply as Replies
 use Rattle.clausify.specs.Answer.{ten_of}
 use Rattle.clausify.specs.TableLaws.{table_bytes_lem}
 use Rattle.states.specs.Test.{Lent, verdict_words, store_table}
 use Rattle.states.specs.Test as Test
+use Rattle.trials.specs.Tried as Said
+use Rattle.trials.specs.Tried.{told_trial}
 use Rattle.trials.specs.Entry.{verdict_reply}
 use Rattle.trials.specs.Tells.{Numbered, NumberedAs}
 use Rattle.sets.specs.declared.verdict.Broken.{Broken}
 use Rattle.sets.specs.Places.{shown_at}
 use Rattle.sets.specs.Verdicts.{shown, verdict_in}
 use Rattle.trials.specs.Judged.{given, tested_as}
-use Rattle.trials.specs.Stored.{front_words, most_shown, Shows, front_of, Short, ShortVerdict, Counted}
+use Rattle.trials.specs.Stored.{front_words, most_shown, Shows, front_of, ShortVerdict, Counted}
 
 -- ---- the words of a front of zeros
 pub front_zeros : (z l : List ℕ) → z ≡ replicate (length z) 0 → length z ≡ 4 * front_words → length l ≤ front_words → sets (words z) 0 l ≡ padded front_words l
@@ -65,6 +67,11 @@ shows_short w (Err v) h l =
     let a = length-take v.shown (drop shown_at w) in
     let b = length-drop shown_at w in
     omega (arith, h, a, b, l)
+
+-- a verdict told
+pub told_verdict : (w : List ℕ) (x : Result (Unit {0}) Broken) → Shows x → scratch_bytes ≤ 4 * length w → told_trial (Ok x) ≡ verdict_reply (verdict_in w x)
+told_verdict w (Ok _) h l = refl
+told_verdict w (Err b) h l = ap (λ (k : ℕ). Said.Broken b.at k) (sym (shown_long w b.shown h l))
 
 -- ---- the store's bytes
 pub bytes_first : (f g : List ℕ) → Bytes (f ++ g) → Bytes f

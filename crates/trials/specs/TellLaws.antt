@@ -1,8 +1,7 @@
 -- A run's reply told with a state: what is short enough for the store, and the clauses in the tables. Assumes nothing.
-use Rattle.std.specs.Prelude.{◌≡◌, refl, Bool, true, false, ◌||◌, List, [], ◌∷◌, ◌++◌, ℕ, suc, ◌+◌, ◌*◌, ◌≤◌, ◌<◌, length, ltb}
+use Rattle.std.specs.Prelude.{◌≡◌, refl, Bool, true, false, List, [], ◌∷◌, ◌++◌, ℕ, ◌+◌, ◌≤◌, length}
 use Rattle.std.proofs.Common.{sym, ap, subst, ◌∙◌, arith, ltb-false}
 use Rattle.std.proofs.lemmas.Bool.{false≢true}
-use Rattle.std.proofs.Math.Option.{Option, none, some}
 use Prim.{tt}
 use Rattle.ir.specs.declared.atom.Atom.{Atom}
 use Rattle.ir.specs.declared.atom.Atom.TheVariants.{Class, Exists, AtMost, AtLeast, Equal, Role as RoleAtom}
@@ -11,11 +10,11 @@ use Rattle.rules.specs.Base.{any}
 use Rattle.rules.specs.Concept.{Axiom}
 use Rattle.rules.specs.Concept.{SubClassOf, EquivalentClasses, DisjointClasses, DisjointUnion, ObjectPropertyDomain, ObjectPropertyRange, SubChain, TransitiveRole, IrreflexiveRole, AsymmetricRole, DisjointObjectProperties, InverseObjectProperties, SubObjectPropertyOf, EquivalentObjectProperties, ReflexiveRole, ClassAssertion}
 use Rattle.rules.specs.State.{Clause}
-use Rattle.rules.specs.Deck.{Known, fine, read_deck, axiom_line, most_listed}
-use Rattle.rules.specs.DeckLaws.{DeckIn, axiom_width, bounds_of, read_in}
+use Rattle.rules.specs.Deck.{Known, axiom_line, most_listed}
+use Rattle.rules.specs.DeckLaws.{DeckIn, axiom_width, bounds_of}
 use Rattle.rules.specs.Invariants.{Bounds, Each, AtomIn, ClauseIn}
 use Rattle.rules.specs.EachLaws.{each_map}
-use Rattle.rules.specs.Run.{Lengths, Accepted, accepted, refused, sizes_ok, Run, visit_limit, first_fresh, rooms_of, clause_table, atom_table}
+use Rattle.rules.specs.Run.{Lengths, Accepted, accepted, refused, sizes_ok, visit_limit, first_fresh, clause_table, atom_table}
 use Rattle.rules.proofs.RunLaws.{Tables, run_accepted, run_tables}
 use Rattle.rules.specs.Semantics.{Interpretation, clause_vars}
 use Rattle.meaning.specs.Truth.{by_truth}
@@ -26,14 +25,14 @@ use Rattle.tables.specs.Drawn.{Sized}
 use Rattle.tables.specs.Tabled.{Tabled}
 use Rattle.clausify.specs.AnswerLaws.{run_unsized}
 use Rattle.clausify.specs.TableLaws.{sizes_whole}
-use Rattle.states.specs.State.{StateTold, stated, bad, unread, read_state, interpretation_of}
-use Rattle.states.specs.Conditions.{rises, axiom_vars, axiom_holds_at, axiom_broken, clause_true_at, clause_broken}
+use Rattle.states.specs.State.{StateTold, stated, bad, unread, interpretation_of}
+use Rattle.states.specs.Conditions.{axiom_vars, axiom_holds_at, axiom_broken, clause_true_at, clause_broken}
 use Rattle.states.specs.LeastLaws.{least_found}
-use Rattle.states.specs.VerdictLaws.{First, first_broken_lem}
+use Rattle.states.specs.VerdictLaws.{first_broken_lem}
 use Rattle.states.specs.Test.{Test, axioms, clauses, Verdict, holds, broken, axioms_verdict, clauses_verdict, wide_clause}
 use Rattle.clausetests.specs.Given.{NamesRoles}
 use Rattle.clausetests.specs.Clauses.{ClauseNames}
-use Rattle.trials.specs.Judged.{Judgement, given, denied, unless_denied, judged_of}
+use Rattle.trials.specs.Judged.{unless_denied, judged_of}
 use Rattle.trials.specs.Judging.{Clauses}
 use Rattle.trials.specs.Stored.{ShortVerdict, Short, Counted, most_shown}
 use Rattle.trials.specs.Tells.{Ran}

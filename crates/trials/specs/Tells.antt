@@ -5,12 +5,12 @@ use Rattle.words.specs.Words.{words}
 use Rattle.rules.specs.Deck.{Known, fine, read_deck}
 use Rattle.rules.specs.Run.{Lengths, Accepted, accepted, Run, clause_table, atom_table, scratch_bytes}
 use Rattle.statistics.specs.declared.ClauseStats.{ClauseStats}
-use Rattle.clausify.specs.declared.Reply.{Reply}
-use Rattle.clausify.specs.declared.Reply.TheVariants as Replies
+use Rattle.clausify.specs.Reply.{Reply}
+use Rattle.clausify.specs.Reply as Replies
 use Rattle.states.specs.State.{read_state}
 use Rattle.states.specs.Test.{Test, Tested, Lent, store_bytes, store_table}
-use Rattle.trials.specs.declared.judged.Tried.{Tried}
-use Rattle.trials.specs.declared.judged.Tried.TheVariants as Said
+use Rattle.trials.specs.Tried.{Tried}
+use Rattle.trials.specs.Tried as Said
 use Rattle.trials.specs.Judged.{judged_of, tested_as}
 use Rattle.trials.specs.Entry.{tried_of}
 use Rattle.trials.specs.Stored.{Counted}

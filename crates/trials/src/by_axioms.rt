@@ -14,16 +14,16 @@ ghost use Rattle.layouts.specs.Read.{Limited, Declares};
 ghost use Rattle.trials.specs.Judged.{judged_of, said_in};
 ghost use Rattle.trials.specs.Judging.{trial_of, LoadedThere, InScratch};
 
-use crate::judged::Judged;
+use crate::judged::Verdict;
 use crate::opened;
 use extents::Trial;
+use ir::answer::Refused;
 use ir::counters::Counters;
 use layouts::Limits;
 use ontology::load;
-use sets::verdict::Broken;
 
 // In a state that is laid out.
-fn verdict(store: &[u8], scratch: &mut [u8], t: Trial) -> Result<(), Broken>
+fn verdict(store: &[u8], scratch: &mut [u8], t: Trial) -> Verdict
     requires { ReadyThere store.now scratch.old t }
     ensures { (d : Known) (I : Interpretation) → Ready d I (words store.now) (words scratch.old) → Fits d I t → verdict_in (words scratch.new) result ≡ axioms_verdict I d }
 {
@@ -52,23 +52,25 @@ fn loaded(
     m: Limits,
     k: Counters,
     n: u32,
-) -> Judged
+) -> Result<Verdict, Refused>
     requires { LoadedThere store.old scratch.old m k n }
     ensures { (d : Known) (l : List Clause) → InScratch d (words scratch.old) k n → Declares d m → said_in (words scratch.new) result ≡ judged_of Test.axioms d l (read_state d m.fresh state.now) }
 {
-    match layouts::read_state(state, store, scratch, m) {
-        Ok(size) => Judged::Given(verdict(store, scratch, trial(k, n, size))),
-        Err(bad) => Judged::Denied(13, bad.line),
-    }
+    let size = layouts::read_state(state, store, scratch, m).map_err(opened::bad_state)?;
+    Ok(verdict(store, scratch, trial(k, n, size)))
 }
 
-pub fn judge(deck: &[u8], state: &[u8], store: &mut [u8], scratch: &mut [u8], fresh: u32) -> Judged
+pub fn judge(
+    deck: &[u8],
+    state: &[u8],
+    store: &mut [u8],
+    scratch: &mut [u8],
+    fresh: u32,
+) -> Result<Verdict, Refused>
     requires { (store_bytes ≤ length store.old) × (scratch_bytes ≤ length scratch.old) × («fresh» ≤ 2000000) × ((d : Known) × (read_deck deck.now ≡ fine d)) }
     ensures { (d : Known) (l : List Clause) → read_deck deck.now ≡ fine d → said_in (words scratch.new) result ≡ judged_of Test.axioms d l (read_state d «fresh» state.now) }
 {
     let m = opened::limits(deck, scratch, fresh);
-    match load::load(deck, scratch, 0) {
-        Ok((k, n)) => loaded(state, store, scratch, m, k, n),
-        Err(e) => Judged::Denied(e.refusal.number(), e.line),
-    }
+    let (k, n) = load::load(deck, scratch, 0)?;
+    loaded(state, store, scratch, m, k, n)
 }

@@ -11,9 +11,11 @@ ghost use Rattle.states.specs.Test as Test;
 ghost use Rattle.trials.specs.Judged.{unless_denied, judged_of, said_in};
 ghost use Rattle.trials.specs.Judging.{Clausal, ClausalThere, Clauses, JudgeThere};
 
-use crate::judged::Judged;
+use crate::judged::Verdict;
 use crate::opened;
 use clausetests::{vars, verdict};
+use ir::answer::Refused;
+use ir::refusal::Refusal;
 
 // In a state that is laid out: 14, before any verdict, or the verdict.
 fn tested(
@@ -24,14 +26,17 @@ fn tested(
     scratch: &mut [u8],
     count: u32,
     size: u32,
-) -> Judged
+) -> Result<Verdict, Refused>
     requires { ClausalThere size count state.now clauses.now atoms.now store.now scratch.old }
     ensures { (I : Interpretation) (roles : ℕ) (l : List Clause) → Clausal I roles size count l state.now (words clauses.now) (words atoms.now) (words store.now) (words scratch.old) → said_in (words scratch.new) result ≡ unless_denied (clauses_verdict I l) (any wide_clause l) }
 {
     if vars::wide(clauses, atoms, count) {
-        return Judged::Denied(14, 0);
+        return Err(Refused {
+            refusal: Refusal::WideClause,
+            line: 0,
+        });
     }
-    Judged::Given(verdict::clauses_verdict(state, clauses, atoms, store, scratch, count, size))
+    Ok(verdict::clauses_verdict(state, clauses, atoms, store, scratch, count, size))
 }
 
 pub fn judge(
@@ -43,13 +48,11 @@ pub fn judge(
     scratch: &mut [u8],
     count: u32,
     fresh: u32,
-) -> Judged
+) -> Result<Verdict, Refused>
     requires { JudgeThere deck.now clauses.now atoms.now store.old scratch.old count «fresh» }
     ensures { (d : Known) (l : List Clause) → read_deck deck.now ≡ fine d → Clauses d count l (words clauses.now) (words atoms.now) → said_in (words scratch.new) result ≡ judged_of Test.clauses d l (read_state d «fresh» state.now) }
 {
     let m = opened::limits(deck, scratch, fresh);
-    match layouts::read_state(state, store, scratch, m) {
-        Ok(size) => tested(state, clauses, atoms, store, scratch, count, size),
-        Err(bad) => Judged::Denied(13, bad.line),
-    }
+    let size = layouts::read_state(state, store, scratch, m).map_err(opened::bad_state)?;
+    tested(state, clauses, atoms, store, scratch, count, size)
 }

@@ -15,10 +15,12 @@ ghost use Rattle.rules.specs.Run.{scratch_table};
 ghost use Rattle.states.specs.Test.{test_state, tested_clauses, tested_atoms, tested_deferrals, store_table};
 ghost use Rattle.states.specs.Test as Test;
 ghost use Rattle.states.specs.Seen.{SeenByAxioms, SeenByClauses};
+ghost use Rattle.trials.specs.Tried.{told_trial};
 ghost use Rattle.trials.specs.Entry.{lent_all, tried_of, MeantTried};
 
 use clausify::fitted;
-use judged::Tried;
+use ir::answer::Refused;
+use judged::Verdict;
 
 // The least size of the store, in bytes.
 const STORE: usize = 65536;
@@ -32,10 +34,10 @@ pub fn try_axioms(
     deferrals: &mut [u8],
     store: &mut [u8],
     scratch: &mut [u8],
-) -> Tried
+) -> Result<Verdict, Refused>
     ensures reply { let t = lent_all clauses.old atoms.old deferrals.old store.old scratch.old in
         let o = test_state Test.axioms deck.now state.now t in
-        result ≡ tried_of o }
+        told_trial result ≡ tried_of o }
     ensures clauses { let t = lent_all clauses.old atoms.old deferrals.old store.old scratch.old in
         let o = test_state Test.axioms deck.now state.now t in
         clauses.new ≡ tested_clauses t o }
@@ -50,7 +52,7 @@ pub fn try_axioms(
         store.new ≡ store_table t o }
     ensures scratch { let t = lent_all clauses.old atoms.old deferrals.old store.old scratch.old in
         scratch.new ≡ scratch_table t.run }
-    ensures meaning { MeantTried deck.now clauses.new atoms.new store.new result }
+    ensures meaning { MeantTried deck.now clauses.new atoms.new store.new (told_trial result) }
     ensures seen { let t = lent_all clauses.old atoms.old deferrals.old store.old scratch.old in
         SeenByAxioms deck.now state.now t (test_state Test.axioms deck.now state.now t) }
 {
@@ -71,10 +73,10 @@ pub fn try_clauses(
     deferrals: &mut [u8],
     store: &mut [u8],
     scratch: &mut [u8],
-) -> Tried
+) -> Result<Verdict, Refused>
     ensures reply { let t = lent_all clauses.old atoms.old deferrals.old store.old scratch.old in
         let o = test_state Test.clauses deck.now state.now t in
-        result ≡ tried_of o }
+        told_trial result ≡ tried_of o }
     ensures clauses { let t = lent_all clauses.old atoms.old deferrals.old store.old scratch.old in
         let o = test_state Test.clauses deck.now state.now t in
         clauses.new ≡ tested_clauses t o }
@@ -89,7 +91,7 @@ pub fn try_clauses(
         store.new ≡ store_table t o }
     ensures scratch { let t = lent_all clauses.old atoms.old deferrals.old store.old scratch.old in
         scratch.new ≡ scratch_table t.run }
-    ensures meaning { MeantTried deck.now clauses.new atoms.new store.new result }
+    ensures meaning { MeantTried deck.now clauses.new atoms.new store.new (told_trial result) }
     ensures seen { let t = lent_all clauses.old atoms.old deferrals.old store.old scratch.old in
         SeenByClauses deck.now state.now t (test_state Test.clauses deck.now state.now t) }
 {

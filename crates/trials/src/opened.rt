@@ -1,10 +1,13 @@
-// What an accepted deck declares.
+// What an accepted deck declares, and the refusal of a state.
 ghost use Rattle.std.specs.Prelude.{◌≡◌, ◌≤◌, length};
+ghost use Rattle.ir.specs.declared.refusal.Refusal.TheVariants.{BadState};
 ghost use Rattle.rules.specs.Deck.{Known, fine, read_deck};
 ghost use Rattle.rules.specs.Run.{scratch_bytes};
 ghost use Rattle.layouts.specs.Read.{Limited, Declares};
 
-use layouts::Limits;
+use ir::answer::Refused;
+use ir::refusal::Refusal;
+use layouts::{BadLine, Limits};
 
 // The reader's table in scratch: its first byte and the one behind it.
 const TABLE: usize = 204800;
@@ -22,5 +25,15 @@ pub fn limits(deck: &[u8], scratch: &mut [u8], fresh: u32) -> Limits
         individuals: st.individuals as u32,
         roles: st.roles as u32,
         fresh,
+    }
+}
+
+// Refusal 13, at the state's line.
+pub fn bad_state(bad: BadLine) -> Refused
+    ensures { result ≡ record { refusal = BadState; line = bad.line } }
+{
+    Refused {
+        refusal: Refusal::BadState,
+        line: bad.line,
     }
 }

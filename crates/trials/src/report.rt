@@ -8,15 +8,16 @@ ghost use Rattle.sets.specs.Verdicts.{shown, verdict_in};
 ghost use Rattle.tables.specs.Drawn.{padded};
 ghost use Rattle.clausify.specs.Answer.{ten_of};
 ghost use Rattle.trials.specs.Judged.{said_in, tested_as};
-ghost use Rattle.trials.specs.Entry.{verdict_reply, tried_of};
+ghost use Rattle.trials.specs.Tried.{told_trial};
+ghost use Rattle.trials.specs.Entry.{tried_of};
 ghost use Rattle.trials.specs.Tells.{NumberedAs};
 ghost use Rattle.trials.specs.Stored.{front_words, most_shown, Shows, front_of, Counted, ReportThere};
 
-use crate::judged::{Judged, Tried};
+use crate::judged::Verdict;
 use clausify::numbers;
+use clausify::numbers::Numbers;
+use ir::answer::Refused;
 use sets::places::SHOWN;
-use sets::verdict::Broken;
-use statistics::ClauseStats;
 
 // Behind the ten numbers: what is broken, how many elements are shown, and these.
 fn put_broken(front: &mut [u8], scratch: &[u8], n: u32, k: u32)
@@ -31,7 +32,7 @@ fn put_broken(front: &mut [u8], scratch: &[u8], n: u32, k: u32)
 }
 
 // The verdict behind the ten numbers of a front that was zeros.
-fn put_verdict(front: &mut [u8], scratch: &[u8], v: Result<(), Broken>)
+fn put_verdict(front: &mut [u8], scratch: &[u8], v: Verdict)
     requires { (length front.old ≡ 4 * front_words) × Shows v × (scratch_bytes ≤ length scratch.now) }
     ensures { (l : List ℕ) → length l ≡ 10 → words front.old ≡ padded front_words l → words front.new ≡ padded front_words (l ++ verdict_words (verdict_in (words scratch.now) v)) }
 {
@@ -42,53 +43,31 @@ fn put_verdict(front: &mut [u8], scratch: &[u8], v: Result<(), Broken>)
 }
 
 // The whole front, of zeros.
-fn put_front(
-    front: &mut [u8],
-    scratch: &[u8],
-    s: ClauseStats,
-    fresh_ids: u32,
-    visits: u32,
-    v: Result<(), Broken>,
-)
+fn put_front(front: &mut [u8], scratch: &[u8], n: Numbers, v: Verdict)
     requires { (front.old ≡ replicate (length front.old) 0) × (length front.old ≡ 4 * front_words) × Shows v × (scratch_bytes ≤ length scratch.now) }
-    ensures { words front.new ≡ padded front_words (front_of (words scratch.now) s fresh_ids visits v) }
+    ensures { words front.new ≡ padded front_words (front_of (words scratch.now) n.stats n.fresh_ids n.visits v) }
 {
-    numbers::put_ten(front, s, fresh_ids, visits);
+    numbers::put_ten(front, n);
     put_verdict(front, scratch, v);
-}
-
-// The reply.
-fn tried(v: Result<(), Broken>) -> Tried
-    ensures { (w : List ℕ) → Shows v → scratch_bytes ≤ 4 * length w → result ≡ verdict_reply (verdict_in w v) }
-{
-    match v {
-        Ok(()) => Tried::Holds,
-        Err(b) => Tried::Broken(b.at, b.shown),
-    }
 }
 
 // The store's bytes from its front to `to`.
 const FRONT: usize = 564;
 
+// Hands back what it reports.
 pub fn report(
-    told: Judged,
-    s: ClauseStats,
-    fresh_ids: u32,
-    visits: u32,
+    told: Result<Verdict, Refused>,
+    n: Numbers,
     store: &mut [u8],
     scratch: &[u8],
-) -> Tried
-    requires { ReportThere store.old scratch.now told s fresh_ids visits }
-    ensures value { (a : Accepted) → Counted a s fresh_ids visits → result ≡ tried_of (tested_as a (said_in (words scratch.now) told)) }
-    ensures store_after { (a : Accepted) (t : Lent) → t.store ≡ length store.old → Counted a s fresh_ids visits → store.new ≡ store_table t (tested_as a (said_in (words scratch.now) told)) }
-    ensures numbered_as { NumberedAs (words store.new) s fresh_ids result }
+) -> Result<Verdict, Refused>
+    requires { ReportThere store.old scratch.now told n.stats n.fresh_ids n.visits }
+    ensures value { (a : Accepted) → Counted a n.stats n.fresh_ids n.visits → told_trial result ≡ tried_of (tested_as a (said_in (words scratch.now) told)) }
+    ensures store_after { (a : Accepted) (t : Lent) → t.store ≡ length store.old → Counted a n.stats n.fresh_ids n.visits → store.new ≡ store_table t (tested_as a (said_in (words scratch.now) told)) }
+    ensures numbered_as { NumberedAs (words store.new) n.stats n.fresh_ids (told_trial result) }
 {
     words::clear(store);
-    match told {
-        Judged::Given(v) => {
-            put_front(&mut store[0..FRONT], scratch, s, fresh_ids, visits, v);
-            tried(v)
-        }
-        Judged::Denied(n, line) => Tried::Refused(n, line),
-    }
+    let v = told?;
+    put_front(&mut store[0..FRONT], scratch, n, v);
+    Ok(v)
 }

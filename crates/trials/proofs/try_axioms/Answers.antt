@@ -3,6 +3,8 @@ use Prim.Native.Nat.{ℕ}
 use lib.ListN.{replicate}
 use Rattle.states.specs.Test.{axioms}
 use Rattle.states.specs.Seen.{seen_axioms}
+use Rattle.clausify.specs.Reply.{told_reply}
+use Rattle.trials.specs.Tried.{told_trial}
 use Rattle.trials.specs.Entry.{lent_all}
 use Rattle.trials.specs.EntryLaws.{promised, tell_there}
 use Rattle.trials.proofs.try_axioms.Goals as goal
@@ -12,7 +14,7 @@ tell_axioms-tried-requires c =
     let a = c.args in
     let q = c.answer_if-reply in
     let t = lent_all a.clauses.now a.atoms.now a.deferrals.now a.store.now a.scratch.now in
-    (q.new.clauses, q.new.atoms, tell_there a.deck.now t q.result q.new.clauses q.new.atoms q.new.deferrals a.store.now q.new.scratch refl q.auto.scratch _ refl q.ensures.fact)
+    (q.new.clauses, q.new.atoms, tell_there a.deck.now t (told_reply q.result) q.new.clauses q.new.atoms q.new.deferrals a.store.now q.new.scratch refl q.auto.scratch _ refl q.ensures.fact)
 
 pub returns : goal.returns
 returns c =
@@ -22,7 +24,7 @@ returns c =
     let z = c.clear in
     let s = c.settle in
     let t = lent_all a.clauses.now a.atoms.now a.deferrals.now a.store.now a.scratch.now in
-    let P = promised axioms a.deck.now a.state.now t q.result q.new.clauses q.new.atoms q.new.deferrals s.new.clauses s.new.atoms s.new.deferrals e.new.store e.result
+    let P = promised axioms a.deck.now a.state.now t (told_reply q.result) q.new.clauses q.new.atoms q.new.deferrals s.new.clauses s.new.atoms s.new.deferrals e.new.store (told_trial e.result)
     s.ensures.clauses_after s.ensures.atoms_after s.ensures.deferrals_after _ refl q.ensures.fact (e.ensures q.new.clauses q.new.atoms) in
     let scratch = z.ensures ∙ ap (λ (n : ℕ). replicate n 0) (e.auto.scratch ∙ q.auto.scratch) in
     record {

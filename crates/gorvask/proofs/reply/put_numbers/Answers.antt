@@ -1,24 +1,15 @@
-use mathlib.Core.Path.{subst, ◌∙◌}
-use native.Mathlib.Omega.{arith}
+use mathlib.Core.Path.{subst, ap, ◌∙◌}
 use lib.ListN.{length}
 use Rattle.words.specs.Words.{words}
+use Rattle.clausify.specs.Reply.{told_reply}
 use Rattle.clausify.specs.Answer.{ten_of}
 use Rattle.gorvask.specs.Replies.{NumbersFit}
-use Rattle.gorvask.specs.NumberLaws.{sets_all, ten_long, numbers_ten, numbers_none}
+use Rattle.gorvask.specs.NumberLaws.{sets_all, ten_long, numbers_ten}
 use Rattle.gorvask.proofs.reply.put_numbers.Goals as goal
 
-pub put_ten-requires : goal.put_ten-requires
-put_ten-requires c =
-    let long = subst (NumbersFit (length c.args.numbers.now)) c.in-Accepted.is c.requires in
-    omega (arith, long)
-
-pub returns-in-Accepted : goal.returns-in-Accepted
-returns-in-Accepted c =
+pub returns-in-Ok : goal.returns-in-Ok
+returns-in-Ok c =
     let a = c.args in
     let q = c.put_ten in
-    let long = subst (NumbersFit (length a.numbers.now)) c.in-Accepted.is c.requires in let both = numbers_ten (length a.numbers.now) q.new.numbers a.reply c.in-Accepted.s c.in-Accepted.fresh_ids c.in-Accepted.visits c.in-Accepted.is (λ i. (c.slice_known-in-Accepted-1.given i).fits)
-    (q.auto.numbers ∙ long) (q.ensures ∙ sets_all (ten_of c.in-Accepted.s c.in-Accepted.fresh_ids c.in-Accepted.visits) (words a.numbers.now) (ten_long a.numbers.now long)) in record { numbers_after = both.0; ten_words = both.1 }
-
-pub returns-in-Refused : goal.returns-in-Refused
-returns-in-Refused c =
-    let a = c.args in let both = numbers_none (length a.numbers.now) c.clear.new.s a.reply c.in-Refused.field-0 c.in-Refused.field-1 c.in-Refused.is c.clear.ensures in record { numbers_after = both.0; ten_words = both.1 }
+    let long = subst (λ x. NumbersFit (length a.numbers.now) (told_reply x)) c.in-Ok.is c.requires in let both = numbers_ten (length a.numbers.now) q.new.numbers (told_reply a.reply) c.in-Ok.n.stats c.in-Ok.n.fresh_ids c.in-Ok.n.visits (ap told_reply c.in-Ok.is) (λ i. (c.slice_known-in-Ok-1.given i).fits)
+    (q.auto.numbers ∙ long) (q.ensures ∙ sets_all (ten_of c.in-Ok.n.stats c.in-Ok.n.fresh_ids c.in-Ok.n.visits) (words a.numbers.now) (ten_long a.numbers.now long)) in record { numbers_after = both.0; ten_words = both.1 }

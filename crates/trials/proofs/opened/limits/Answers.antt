@@ -1,10 +1,7 @@
 use mathlib.Core.Path.{refl}
 use native.Mathlib.Omega.{arith}
-use Rattle.trials.specs.JudgingLaws.{opened, answer_ok}
+use Rattle.trials.specs.JudgingLaws.{opened}
 use Rattle.trials.proofs.opened.limits.Goals as goal
-
-pub unwrap-st-requires : goal.unwrap-st-requires
-unwrap-st-requires c = answer_ok c.args.deck.now c.read.new.t c.read.result c.requires.2.0 c.read.ensures.result_after c.requires.2.1
 
 pub overflow_cast-result : goal.overflow_cast-result
 overflow_cast-result c =

@@ -10,10 +10,6 @@ use Rattle.trials.specs.Stored.{front_words, Shows}
 use Rattle.trials.specs.StoredLaws.{front_broken, front_holds}
 use Rattle.trials.proofs.report.put_verdict.Goals as goal
 
-pub put_broken-requires : goal.put_broken-requires
-put_broken-requires c =
-    (c.requires.0, subst Shows c.in-Err.is c.requires.1, c.requires.2)
-
 pub returns-in-Ok : goal.returns-in-Ok
 returns-in-Ok c = λ l h e.
     let a = c.args in
