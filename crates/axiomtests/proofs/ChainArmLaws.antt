@@ -45,8 +45,8 @@ map_tab g f i zero = refl
 map_tab g f i (suc n) = ap (λ l. g (f i) ∷ l) (map_tab g f (i + 1) n)
 
 -- ---- a chain of `count - 2` parts
-abbrev pub chain_of : (sup at count : ℕ) → Chain
-chain_of sup at count = record { sup = sup; at = at + 2; step = 1; parts = count - 2 }
+abbrev pub chain_of : (size sup at count : ℕ) → Chain
+chain_of size sup at count = record { size = size; sup = sup; at = at + 2; step = 1; parts = count - 2 }
 
 module _ {d : Known} {I : Interpretation} {w v : List ℕ} {t : Trial} {at count : ℕ} (L : Line d I w v t 27 at count) (sup : ℕ) (e : sup ≡ row_number v at 1) where
   two : 2 ≤ count
@@ -61,41 +61,41 @@ module _ {d : Known} {I : Interpretation} {w v : List ℕ} {t : Trial} {at count
   parts_in : Each (λ c. c < 2 * d.header.roles) (run v (at + 2) (count - 2))
   parts_in = codes_of L (at + 2) (count - 2) (arm_in L _ chain_arm).1
 
-  code_is_lem : (j : ℕ) → part_code v (chain_of sup at count) j ≡ get_or v (at + 2 + j) 0
+  code_is_lem : (j : ℕ) → part_code v (chain_of t.size sup at count) j ≡ get_or v (at + 2 + j) 0
   code_is_lem j = ap (λ (k : ℕ). get_or v (at + 2 + k) 0) (one-mul j)
 
-  part_in : (j : ℕ) → j < count - 2 → part_code v (chain_of sup at count) j < 2 * d.header.roles
+  part_in : (j : ℕ) → j < count - 2 → part_code v (chain_of t.size sup at count) j < 2 * d.header.roles
   part_in j h = let q = tab_each (λ i. get_or v i 0) (λ c. c < 2 * d.header.roles) (at + 2) (count - 2) parts_in j h in omega (arith, code_is_lem j)
 
-  pub chain_chained : Chained I v t.size (chain_of sup at count)
-  chain_chained = record { sized = L.fits.size; sup = rows_of L sup (omega (arith, sup_in)); parts = λ j h. rows_of L (part_code v (chain_of sup at count) j) (part_in j h) }
+  pub chain_chained : Chained I v t.size (chain_of t.size sup at count)
+  chain_chained = record { sized = L.fits.size; sup = rows_of L sup (omega (arith, sup_in)); parts = λ j h. rows_of L (part_code v (chain_of t.size sup at count) j) (part_in j h) }
 
-  parts_are : parts_of v (chain_of sup at count) ≡ map role_of (run v (at + 2) (count - 2))
+  parts_are : parts_of v (chain_of t.size sup at count) ≡ map role_of (run v (at + 2) (count - 2))
   parts_are =
-      tab_same (λ j. role_of (part_code v (chain_of sup at count) j)) (λ j. role_of (get_or v j 0)) 0 (at + 2) (count - 2) (λ j h. let z : 0 + j ≡ j = omega arith in rw z (ap role_of (code_is_lem j)))
+      tab_same (λ j. role_of (part_code v (chain_of t.size sup at count) j)) (λ j. role_of (get_or v j 0)) 0 (at + 2) (count - 2) (λ j h. let z : 0 + j ≡ j = omega arith in rw z (ap role_of (code_is_lem j)))
       ∙ sym (map_tab role_of (λ i. get_or v i 0) (at + 2) (count - 2))
 
   pub chain_short : count - 2 ≤ most_listed
   chain_short =
       let q : axiom_width (SubChain (role_of (row_number v at 1)) (map role_of (run v (at + 2) (count - 2)))) ≤ most_listed = subst (λ (a : Axiom). axiom_width a ≤ most_listed) chain_arm L.narrow in
-      omega (arith, ap length parts_are, length_parts v (chain_of sup at count))
+      omega (arith, ap length parts_are, length_parts v (chain_of t.size sup at count))
 
-  pub chain_codes : (sup < 2 * 1024) × ((j : ℕ) → j < count - 2 → part_code v (chain_of sup at count) j < 2 * 1024)
+  pub chain_codes : (sup < 2 * 1024) × ((j : ℕ) → j < count - 2 → part_code v (chain_of t.size sup at count) j < 2 * 1024)
   chain_codes = (code_small L sup (row_number v at 1) e sup_in, λ j h. code_small L _ _ refl (part_in j h))
 
   pub chain_among : (j : ℕ) → j < count - 2 → at + 2 + 1 * j < lines_at
   chain_among j h = let q = one-mul j in omega (arith, L.below)
 
-  pub chain_broken : (o : Option (List ℕ)) → o ≡ least_of (rises 0 I.size) (suc (count - 2)) (λ l. chain_at I (role_of sup) (place l 0) (parts_of v (chain_of sup at count)) l) → o ≡ axiom_broken I d.concepts (row_axiom v 27 at count)
+  pub chain_broken : (o : Option (List ℕ)) → o ≡ least_of (rises 0 I.size) (suc (count - 2)) (λ l. chain_at I (role_of sup) (place l 0) (parts_of v (chain_of t.size sup at count)) l) → o ≡ axiom_broken I d.concepts (row_axiom v 27 at count)
   chain_broken o q =
-      q ∙ ap (λ (k : ℕ). least_of (rises 0 I.size) (suc k) (λ l. chain_at I (role_of sup) (place l 0) (parts_of v (chain_of sup at count)) l)) (sym (length_parts v (chain_of sup at count)))
+      q ∙ ap (λ (k : ℕ). least_of (rises 0 I.size) (suc k) (λ l. chain_at I (role_of sup) (place l 0) (parts_of v (chain_of t.size sup at count)) l)) (sym (length_parts v (chain_of t.size sup at count)))
       ∙ ap (λ (k : List Role). least_of (rises 0 I.size) (suc (length k)) (λ l. chain_at I (role_of sup) (place l 0) k l)) parts_are
       ∙ ap (λ (c : ℕ). axiom_broken I d.concepts (SubChain (role_of c) (map role_of (run v (at + 2) (count - 2))))) e
       ∙ ap (axiom_broken I d.concepts) (sym chain_arm)
 
 -- ---- a transitive role: the chain r r below r
-abbrev pub twice_of : (sup at : ℕ) → Chain
-twice_of sup at = record { sup = sup; at = at + 1; step = 0; parts = 2 }
+abbrev pub twice_of : (size sup at : ℕ) → Chain
+twice_of size sup at = record { size = size; sup = sup; at = at + 1; step = 0; parts = 2 }
 
 both_implied : (a b c : Bool) → implies a (implies b c) ≡ implies (a && b) c
 both_implied true b c = refl
@@ -117,25 +117,25 @@ module _ {d : Known} {I : Interpretation} {w v : List ℕ} {t : Trial} {at count
   pub transitive_in : row_number v at 1 < 2 * d.header.roles
   transitive_in = code_in (row_number v at 1) d.header.roles (arm_in L _ transitive_arm)
 
-  same_code : (j : ℕ) → part_code v (twice_of sup at) j ≡ sup
+  same_code : (j : ℕ) → part_code v (twice_of t.size sup at) j ≡ sup
   same_code j = let z : at + 1 + 0 * j ≡ at + 1 = omega (arith, zero-mul j) in ap (λ (k : ℕ). get_or v k 0) z ∙ sym e
 
-  pub transitive_chained : Chained I v t.size (twice_of sup at)
+  pub transitive_chained : Chained I v t.size (twice_of t.size sup at)
   transitive_chained =
       let R : RowsOf I v sup = rows_of L sup (omega (arith, transitive_in)) in
       record { sized = L.fits.size; sup = R; parts = λ j h. subst (RowsOf I v) (sym (same_code j)) R }
 
-  pub transitive_codes : (sup < 2 * 1024) × ((j : ℕ) → j < 2 → part_code v (twice_of sup at) j < 2 * 1024)
+  pub transitive_codes : (sup < 2 * 1024) × ((j : ℕ) → j < 2 → part_code v (twice_of t.size sup at) j < 2 * 1024)
   transitive_codes = let q = code_small L sup (row_number v at 1) e transitive_in in (q, λ j h. omega (arith, same_code j))
 
   pub transitive_among : (j : ℕ) → j < 2 → at + 1 + 0 * j < lines_at
   transitive_among j h = let two = eqb-true count 2 L.fields in omega (arith, zero-mul j, L.below)
 
-  parts_two : parts_of v (twice_of sup at) ≡ role_of sup ∷ role_of sup ∷ []
+  parts_two : parts_of v (twice_of t.size sup at) ≡ role_of sup ∷ role_of sup ∷ []
   unfolding tab
-  parts_two = tab_same (λ j. role_of (part_code v (twice_of sup at) j)) (λ _. role_of sup) 0 0 2 (λ j h. ap role_of (same_code (0 + j)))
+  parts_two = tab_same (λ j. role_of (part_code v (twice_of t.size sup at) j)) (λ _. role_of sup) 0 0 2 (λ j h. ap role_of (same_code (0 + j)))
 
-  pub transitive_broken : (o : Option (List ℕ)) → o ≡ least_of (rises 0 I.size) 3 (λ l. chain_at I (role_of sup) (place l 0) (parts_of v (twice_of sup at)) l) → o ≡ axiom_broken I d.concepts (row_axiom v 28 at count)
+  pub transitive_broken : (o : Option (List ℕ)) → o ≡ least_of (rises 0 I.size) 3 (λ l. chain_at I (role_of sup) (place l 0) (parts_of v (twice_of t.size sup at)) l) → o ≡ axiom_broken I d.concepts (row_axiom v 28 at count)
   transitive_broken o q =
       q ∙ ap (λ (k : List Role). least_of (rises 0 I.size) 3 (λ l. chain_at I (role_of sup) (place l 0) k l)) parts_two
       ∙ least_same I.size 3 (λ l. chain_at I (role_of sup) (place l 0) (role_of sup ∷ role_of sup ∷ []) l) (axiom_holds_at I d.concepts (TransitiveRole (role_of sup))) (λ l A. transitive_at I d.concepts (role_of sup) l A.many)
@@ -144,7 +144,7 @@ module _ {d : Known} {I : Interpretation} {w v : List ℕ} {t : Trial} {at count
 
 -- ---- what the code asks
 module _ (s : List ℕ) (t : Trial) (at count sup : ℕ) where
-  pub chain_in : (P : LineIn s t 27 at count) → sup ≡ row_number (words s) at 1 → ChainIn s t.size (chain_of sup at count)
+  pub chain_in : (P : LineIn s t 27 at count) → sup ≡ row_number (words s) at 1 → ChainIn s t.size (chain_of t.size sup at count)
   chain_in P e = let L = P.line in record {
     meant = P.meant;
     chained = chain_chained L sup e;
@@ -156,7 +156,7 @@ module _ (s : List ℕ) (t : Trial) (at count sup : ℕ) where
     space = P.space;
   }
 
-  pub transitive_there : (P : LineIn s t 28 at count) → sup ≡ row_number (words s) at 1 → ChainIn s t.size (twice_of sup at)
+  pub transitive_there : (P : LineIn s t 28 at count) → sup ≡ row_number (words s) at 1 → ChainIn s t.size (twice_of t.size sup at)
   transitive_there P e = let L = P.line in record {
     meant = P.meant;
     chained = transitive_chained L sup e;

@@ -18,17 +18,18 @@ ghost use Rattle.axiomtests.specs.Chains.{part_code, parts_of, next_of, RowsOf, 
 use crate::roles;
 use sets::places::{LEFT, SHOWN};
 
-// Part j is the role whose code is word `at + step * j`.
+// Part j is the role whose code is word `at + step * j`; the elements are those below `size`.
 #[derive(Clone, Copy)]
 pub struct Chain {
+    pub size: u64,
     pub sup: u32,
     pub at: usize,
     pub step: usize,
     pub parts: u32,
 }
 
-fn part(scratch: &[u8], size: u64, c: Chain, j: u32) -> u32
-    requires { ChainIn scratch.now size c × (j < c.parts) }
+fn part(scratch: &[u8], c: Chain, j: u32) -> u32
+    requires { ChainIn scratch.now c.size c × (j < c.parts) }
     ensures { result ≡ part_code (words scratch.now) c j }
 {
     words::get_word(scratch, c.at + c.step * (j as usize))
@@ -46,54 +47,54 @@ fn back(scratch: &[u8], size: u64, code: u32, set: u64) -> u64
 }
 
 // For the first element x, a set for each number of parts that are left.
-fn fill_left(scratch: &mut [u8], size: u64, c: Chain, x: u64)
-    requires { ChainIn scratch.old size c × (x < size) }
+fn fill_left(scratch: &mut [u8], c: Chain, x: u64)
+    requires { ChainIn scratch.old c.size c × (x < c.size) }
     ensures aside { Aside (words scratch.old) (words scratch.new) }
-    ensures all_left { (I : Interpretation) → Chained I (words scratch.old) size c → AllLeft I (words scratch.new) c x }
+    ensures all_left { (I : Interpretation) → Chained I (words scratch.old) c.size c → AllLeft I (words scratch.new) c x }
 {
-    let mut set = sets::without(sets::whole(size), roles::row(scratch, c.sup, x));
+    let mut set = sets::without(sets::whole(c.size), roles::row(scratch, c.sup, x));
     sets::kept::put_set(scratch, LEFT, set);
     for k in 0..c.parts {
-        let code = part(scratch, size, c, c.parts - 1 - k);
-        set = back(scratch, size, code, set);
+        let code = part(scratch, c, c.parts - 1 - k);
+        set = back(scratch, c.size, code, set);
         sets::kept::put_set(scratch, LEFT + (k + 1) as usize, set);
     }
 }
 
 // The next element behind y, before the last k parts.
-fn next(scratch: &[u8], size: u64, c: Chain, x: u64, k: u32, y: u64) -> u64
-    requires { WalkIn scratch.now size c x (suc k) y }
-    ensures { (I : Interpretation) → Chained I (words scratch.now) size c → AllLeft I (words scratch.now) c x → (result ≡ next_of I (words scratch.now) c x k y) × (result < I.size) }
+fn next(scratch: &[u8], c: Chain, x: u64, k: u32, y: u64) -> u64
+    requires { WalkIn scratch.now c.size c x (suc k) y }
+    ensures { (I : Interpretation) → Chained I (words scratch.now) c.size c → AllLeft I (words scratch.now) c x → (result ≡ next_of I (words scratch.now) c x k y) × (result < I.size) }
 {
-    let code = part(scratch, size, c, c.parts - 1 - k);
+    let code = part(scratch, c, c.parts - 1 - k);
     let left = sets::kept::get_set(scratch, LEFT + k as usize);
     sets::least(sets::both(roles::row(scratch, code, y), left))
 }
 
 // The elements of the least path from x on are shown.
-fn walk(scratch: &mut [u8], size: u64, c: Chain, x: u64)
-    requires { WalkIn scratch.old size c x c.parts x }
+fn walk(scratch: &mut [u8], c: Chain, x: u64)
+    requires { WalkIn scratch.old c.size c x c.parts x }
     ensures aside { Aside (words scratch.old) (words scratch.new) }
-    ensures parts_after { (I : Interpretation) → Chained I (words scratch.old) size c → AllLeft I (words scratch.old) c x → shown (words scratch.new) (c.parts + 1) ≡ x ∷ walk_of I (role_of c.sup) x (parts_of (words scratch.old) c) x }
+    ensures parts_after { (I : Interpretation) → Chained I (words scratch.old) c.size c → AllLeft I (words scratch.old) c x → shown (words scratch.new) (c.parts + 1) ≡ x ∷ walk_of I (role_of c.sup) x (parts_of (words scratch.old) c) x }
 {
     words::put_word(scratch, SHOWN, x as u32);
     let mut y = x;
     for k in (0..c.parts).rev() {
-        y = next(scratch, size, c, x, k, y);
+        y = next(scratch, c, x, k, y);
         words::put_word(scratch, SHOWN + (c.parts - k) as usize, y as u32);
     }
 }
 
-pub fn least_path(scratch: &mut [u8], size: u64, c: Chain) -> Option<u32>
-    requires { ChainIn scratch.old size c }
+pub fn least_path(scratch: &mut [u8], c: Chain) -> Option<u32>
+    requires { ChainIn scratch.old c.size c }
     ensures aside { Aside (words scratch.old) (words scratch.new) }
-    ensures result_after { (I : Interpretation) → Chained I (words scratch.old) size c → least_in (words scratch.new) result ≡ least_of (rises 0 I.size) (suc c.parts) (λ l. chain_at I (role_of c.sup) (place l 0) (parts_of (words scratch.old) c) l) }
+    ensures result_after { (I : Interpretation) → Chained I (words scratch.old) c.size c → least_in (words scratch.new) result ≡ least_of (rises 0 I.size) (suc c.parts) (λ l. chain_at I (role_of c.sup) (place l 0) (parts_of (words scratch.old) c) l) }
 {
-    for x in 0..size {
-        fill_left(scratch, size, c, x);
+    for x in 0..c.size {
+        fill_left(scratch, c, x);
         let left = sets::kept::get_set(scratch, LEFT + c.parts as usize);
         if sets::has(left, x) {
-            walk(scratch, size, c, x);
+            walk(scratch, c, x);
             return Some(c.parts + 1);
         }
     }

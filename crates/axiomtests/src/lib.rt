@@ -90,20 +90,22 @@ fn chain(scratch: &mut [u8], t: Trial, line: Line) -> Option<u32>
     let size = t.size as u64;
     if line.kind == 27 {
         let c = Chain {
+            size,
             sup,
             at: line.at + 2,
             step: 1,
             parts: line.count - 2,
         };
-        return chains::least_path(scratch, size, c);
+        return chains::least_path(scratch, c);
     }
     let c = Chain {
+        size,
         sup,
         at: line.at + 1,
         step: 0,
         parts: 2,
     };
-    chains::least_path(scratch, size, c)
+    chains::least_path(scratch, c)
 }
 
 fn element(store: &[u8], scratch: &mut [u8], t: Trial, line: Line) -> Option<u32>

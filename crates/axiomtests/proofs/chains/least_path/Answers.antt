@@ -32,7 +32,7 @@ fill_left-requires c =
     let X = c.loop-x in
     let a = c.args.c in
     let u = words c.args.scratch.now in
-    let C : ChainIn X.scratch c.args.size a = chain_kept c.args.scratch.now X.scratch c.args.size a X.invariant.0 X.auto.scratch c.requires in
+    let C : ChainIn X.scratch c.args.c.size a = chain_kept c.args.scratch.now X.scratch c.args.c.size a X.invariant.0 X.auto.scratch c.requires in
     (C, c.loop-x-test.true)
 
 pub get_set-left-requires : goal.get_set-left-requires
@@ -40,7 +40,7 @@ get_set-left-requires c =
     let X = c.loop-x in
     let a = c.args.c in
     let u = words c.args.scratch.now in
-    let C : ChainIn X.scratch c.args.size a = chain_kept c.args.scratch.now X.scratch c.args.size a X.invariant.0 X.auto.scratch c.requires in
+    let C : ChainIn X.scratch c.args.c.size a = chain_kept c.args.scratch.now X.scratch c.args.c.size a X.invariant.0 X.auto.scratch c.requires in
     omega (arith, c.requires.short, C.space, c.fill_left.auto.scratch)
 
 pub has-requires : goal.has-requires
@@ -54,12 +54,12 @@ walk-requires c =
     let u = words c.args.scratch.now in
     let v = words c.fill_left.new.scratch in
     let still : Aside u v = aside_trans u (words X.scratch) v X.invariant.0 c.fill_left.ensures.aside in
-    let chained : (I : Interpretation) → Chained I u c.args.size a → Chained I v c.args.size a = λ I K. chained_kept u v a still c.requires.among I c.args.size K in
-    let left : (I : Interpretation) → Chained I u c.args.size a → AllLeft I v a X.x = λ I K. c.fill_left.ensures.all_left I (chained_kept u (words X.scratch) a X.invariant.0 c.requires.among I c.args.size K) in
-    let told : (I : Interpretation) → Chained I u c.args.size a → c.has.result ≡ not (onward I (role_of a.sup) X.x (parts_of u a) X.x) =
-    λ I K. onward_is u v c.args.size a X.x still c.requires.among c.loop-x-test.true c.has.result (λ n g l e. c.has.ensures.by_index n g l (c.get_set-left.ensures ∙ e)) I (chained I K) (left I K) in
+    let chained : (I : Interpretation) → Chained I u c.args.c.size a → Chained I v c.args.c.size a = λ I K. chained_kept u v a still c.requires.among I c.args.c.size K in
+    let left : (I : Interpretation) → Chained I u c.args.c.size a → AllLeft I v a X.x = λ I K. c.fill_left.ensures.all_left I (chained_kept u (words X.scratch) a X.invariant.0 c.requires.among I c.args.c.size K) in
+    let told : (I : Interpretation) → Chained I u c.args.c.size a → c.has.result ≡ not (onward I (role_of a.sup) X.x (parts_of u a) X.x) =
+    λ I K. onward_is u v c.args.c.size a X.x still c.requires.among c.loop-x-test.true c.has.result (λ n g l e. c.has.ensures.by_index n g l (c.get_set-left.ensures ∙ e)) I (chained I K) (left I K) in
     let P = c.requires in
-    walk_start c.args.scratch.now _ c.args.size a X.x P still (c.fill_left.auto.scratch ∙ X.auto.scratch) (left P.meant P.chained) c.loop-x-test.true (not_true _ (sym (told P.meant P.chained) ∙ c.if-has.true))
+    walk_start c.args.scratch.now _ c.args.c.size a X.x P still (c.fill_left.auto.scratch ∙ X.auto.scratch) (left P.meant P.chained) c.loop-x-test.true (not_true _ (sym (told P.meant P.chained) ∙ c.if-has.true))
 
 pub returns-then-has : goal.returns-then-has
 returns-then-has c =
@@ -68,10 +68,10 @@ returns-then-has c =
     let u = words c.args.scratch.now in
     let v = words c.fill_left.new.scratch in
     let still : Aside u v = aside_trans u (words X.scratch) v X.invariant.0 c.fill_left.ensures.aside in
-    let chained : (I : Interpretation) → Chained I u c.args.size a → Chained I v c.args.size a = λ I K. chained_kept u v a still c.requires.among I c.args.size K in
-    let left : (I : Interpretation) → Chained I u c.args.size a → AllLeft I v a X.x = λ I K. c.fill_left.ensures.all_left I (chained_kept u (words X.scratch) a X.invariant.0 c.requires.among I c.args.size K) in
-    let told : (I : Interpretation) → Chained I u c.args.size a → c.has.result ≡ not (onward I (role_of a.sup) X.x (parts_of u a) X.x) =
-    λ I K. onward_is u v c.args.size a X.x still c.requires.among c.loop-x-test.true c.has.result (λ n g l e. c.has.ensures.by_index n g l (c.get_set-left.ensures ∙ e)) I (chained I K) (left I K) in
+    let chained : (I : Interpretation) → Chained I u c.args.c.size a → Chained I v c.args.c.size a = λ I K. chained_kept u v a still c.requires.among I c.args.c.size K in
+    let left : (I : Interpretation) → Chained I u c.args.c.size a → AllLeft I v a X.x = λ I K. c.fill_left.ensures.all_left I (chained_kept u (words X.scratch) a X.invariant.0 c.requires.among I c.args.c.size K) in
+    let told : (I : Interpretation) → Chained I u c.args.c.size a → c.has.result ≡ not (onward I (role_of a.sup) X.x (parts_of u a) X.x) =
+    λ I K. onward_is u v c.args.c.size a X.x still c.requires.among c.loop-x-test.true c.has.result (λ n g l e. c.has.ensures.by_index n g l (c.get_set-left.ensures ∙ e)) I (chained I K) (left I K) in
     let sup = role_of a.sup in
     let parts = parts_of u a in record {
       aside = aside_trans u v _ still c.walk.ensures.aside;
@@ -89,12 +89,12 @@ loop-x-preserved c =
     let u = words c.args.scratch.now in
     let v = words c.fill_left.new.scratch in
     let still : Aside u v = aside_trans u (words X.scratch) v X.invariant.0 c.fill_left.ensures.aside in
-    let chained : (I : Interpretation) → Chained I u c.args.size a → Chained I v c.args.size a = λ I K. chained_kept u v a still c.requires.among I c.args.size K in
-    let left : (I : Interpretation) → Chained I u c.args.size a → AllLeft I v a X.x = λ I K. c.fill_left.ensures.all_left I (chained_kept u (words X.scratch) a X.invariant.0 c.requires.among I c.args.size K) in
-    let told : (I : Interpretation) → Chained I u c.args.size a → c.has.result ≡ not (onward I (role_of a.sup) X.x (parts_of u a) X.x) =
-    λ I K. onward_is u v c.args.size a X.x still c.requires.among c.loop-x-test.true c.has.result (λ n g l e. c.has.ensures.by_index n g l (c.get_set-left.ensures ∙ e)) I (chained I K) (left I K) in (
+    let chained : (I : Interpretation) → Chained I u c.args.c.size a → Chained I v c.args.c.size a = λ I K. chained_kept u v a still c.requires.among I c.args.c.size K in
+    let left : (I : Interpretation) → Chained I u c.args.c.size a → AllLeft I v a X.x = λ I K. c.fill_left.ensures.all_left I (chained_kept u (words X.scratch) a X.invariant.0 c.requires.among I c.args.c.size K) in
+    let told : (I : Interpretation) → Chained I u c.args.c.size a → c.has.result ≡ not (onward I (role_of a.sup) X.x (parts_of u a) X.x) =
+    λ I K. onward_is u v c.args.c.size a X.x still c.requires.among c.loop-x-test.true c.has.result (λ n g l e. c.has.ensures.by_index n g l (c.get_set-left.ensures ∙ e)) I (chained I K) (left I K) in (
       still,
-      tried_next u v c.args.size a X.x still c.requires.among c.loop-x-test.true X.invariant.1 (λ I C. not_false _ (sym (told I C) ∙ c.if-has.false)),
+      tried_next u v c.args.c.size a X.x still c.requires.among c.loop-x-test.true X.invariant.1 (λ I C. not_false _ (sym (told I C) ∙ c.if-has.false)),
     )
 
 pub returns : goal.returns

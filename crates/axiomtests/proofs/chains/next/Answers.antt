@@ -17,7 +17,7 @@ row-requires c =
 pub least-requires : goal.least-requires
 least-requires c =
     let P = c.requires in
-    next_positive (words c.args.scratch.now) c.args.size c.args.c c.args.x c.args.k c.args.y _ _ _ _ P.among P.element c.part-code.ensures c.row.ensures c.get_set-left.ensures c.both.ensures P.chain.meant P.chain.chained P.left P.breaks
+    next_positive (words c.args.scratch.now) c.args.c.size c.args.c c.args.x c.args.k c.args.y _ _ _ _ P.among P.element c.part-code.ensures c.row.ensures c.get_set-left.ensures c.both.ensures P.chain.meant P.chain.chained P.left P.breaks
 
 pub returns : goal.returns
 returns c =
@@ -25,4 +25,4 @@ returns c =
     let a = c.args.c in
     let v = words c.args.scratch.now in
     λ I C L. c.least.ensures.by_index I.size (λ w. related I (role_of (part_code v a (a.parts - suc c.args.k))) c.args.y w && not (onward I (role_of a.sup) c.args.x (last_parts v a c.args.k) w)) (omega (arith, C.sized, P.chain.few))
-    (next_mask v c.args.size a c.args.x c.args.k c.args.y _ _ _ _ P.among P.element c.part-code.ensures c.row.ensures c.get_set-left.ensures c.both.ensures I C L)
+    (next_mask v c.args.c.size a c.args.x c.args.k c.args.y _ _ _ _ P.among P.element c.part-code.ensures c.row.ensures c.get_set-left.ensures c.both.ensures I C L)

@@ -33,48 +33,48 @@ pub loop-k-init : goal.loop-k-init
 loop-k-init c =
     let u = words c.args.scratch.now in
     let long : shown_at < length u = omega (arith, length_words c.args.scratch.now, c.requires.chain.space) in
-    walked_first u _ c.args.size c.args.c c.args.x c.requires.element long c.put_word.ensures
+    walked_first u _ c.args.c.size c.args.c c.args.x c.requires.element long c.put_word.ensures
 
 pub next-y-requires : goal.next-y-requires
 next-y-requires c =
     let u = words c.args.scratch.now in
     let X = c.loop-k in
-    let W : WalkIn X.scratch c.args.size c.args.c c.args.x X.k X.y =
-    walked_in _ X.scratch c.args.size c.args.c c.args.x X.k X.y X.invariant
-    (walk_kept c.args.scratch.now _ c.args.size c.args.c c.args.x c.args.c.parts c.args.x c.requires (aside_shown u _ 0 _ (omega arith) c.put_word.ensures) (λ j _. shown_left u _ _ c.put_word.ensures j) c.put_word.auto.s) X.auto.scratch in
-    subst (λ (k : ℕ). WalkIn X.scratch c.args.size c.args.c c.args.x k X.y) (same X.k c.loop-k-test.true) W
+    let W : WalkIn X.scratch c.args.c.size c.args.c c.args.x X.k X.y =
+    walked_in _ X.scratch c.args.c.size c.args.c c.args.x X.k X.y X.invariant
+    (walk_kept c.args.scratch.now _ c.args.c.size c.args.c c.args.x c.args.c.parts c.args.x c.requires (aside_shown u _ 0 _ (omega arith) c.put_word.ensures) (λ j _. shown_left u _ _ c.put_word.ensures j) c.put_word.auto.s) X.auto.scratch in
+    subst (λ (k : ℕ). WalkIn X.scratch c.args.c.size c.args.c c.args.x k X.y) (same X.k c.loop-k-test.true) W
 
 pub overflow_cast-y : goal.overflow_cast-y
 overflow_cast-y c =
     let u = words c.args.scratch.now in
     let X = c.loop-k in
-    let W : WalkIn X.scratch c.args.size c.args.c c.args.x X.k X.y =
-    walked_in _ X.scratch c.args.size c.args.c c.args.x X.k X.y X.invariant
-    (walk_kept c.args.scratch.now _ c.args.size c.args.c c.args.x c.args.c.parts c.args.x c.requires (aside_shown u _ 0 _ (omega arith) c.put_word.ensures) (λ j _. shown_left u _ _ c.put_word.ensures j) c.put_word.auto.s) X.auto.scratch in
-    record { fits = omega (arith, next_small X.scratch c.args.size c.args.c c.args.x (X.k - 1) X.y _ (subst (λ (k : ℕ). WalkIn X.scratch c.args.size c.args.c c.args.x k X.y) (same X.k c.loop-k-test.true) W) c.next-y.ensures, c.requires.chain.few) }
+    let W : WalkIn X.scratch c.args.c.size c.args.c c.args.x X.k X.y =
+    walked_in _ X.scratch c.args.c.size c.args.c c.args.x X.k X.y X.invariant
+    (walk_kept c.args.scratch.now _ c.args.c.size c.args.c c.args.x c.args.c.parts c.args.x c.requires (aside_shown u _ 0 _ (omega arith) c.put_word.ensures) (λ j _. shown_left u _ _ c.put_word.ensures j) c.put_word.auto.s) X.auto.scratch in
+    record { fits = omega (arith, next_small X.scratch c.args.c.size c.args.c c.args.x (X.k - 1) X.y _ (subst (λ (k : ℕ). WalkIn X.scratch c.args.c.size c.args.c c.args.x k X.y) (same X.k c.loop-k-test.true) W) c.next-y.ensures, c.requires.chain.few) }
 
 pub put_word-requires-in-loop-k : goal.put_word-requires-in-loop-k
 put_word-requires-in-loop-k c =
     let u = words c.args.scratch.now in
     let X = c.loop-k in
-    let W : WalkIn X.scratch c.args.size c.args.c c.args.x X.k X.y =
-    walked_in _ X.scratch c.args.size c.args.c c.args.x X.k X.y X.invariant
-    (walk_kept c.args.scratch.now _ c.args.size c.args.c c.args.x c.args.c.parts c.args.x c.requires (aside_shown u _ 0 _ (omega arith) c.put_word.ensures) (λ j _. shown_left u _ _ c.put_word.ensures j) c.put_word.auto.s) X.auto.scratch in
+    let W : WalkIn X.scratch c.args.c.size c.args.c c.args.x X.k X.y =
+    walked_in _ X.scratch c.args.c.size c.args.c c.args.x X.k X.y X.invariant
+    (walk_kept c.args.scratch.now _ c.args.c.size c.args.c c.args.x c.args.c.parts c.args.x c.requires (aside_shown u _ 0 _ (omega arith) c.put_word.ensures) (λ j _. shown_left u _ _ c.put_word.ensures j) c.put_word.auto.s) X.auto.scratch in
     omega (arith, c.requires.chain.short, W.chain.space)
 
 pub loop-k-preserved : goal.loop-k-preserved
 loop-k-preserved c =
     let u = words c.args.scratch.now in
     let X = c.loop-k in
-    let W : WalkIn X.scratch c.args.size c.args.c c.args.x X.k X.y =
-    walked_in _ X.scratch c.args.size c.args.c c.args.x X.k X.y X.invariant
-    (walk_kept c.args.scratch.now _ c.args.size c.args.c c.args.x c.args.c.parts c.args.x c.requires (aside_shown u _ 0 _ (omega arith) c.put_word.ensures) (λ j _. shown_left u _ _ c.put_word.ensures j) c.put_word.auto.s) X.auto.scratch in
+    let W : WalkIn X.scratch c.args.c.size c.args.c c.args.x X.k X.y =
+    walked_in _ X.scratch c.args.c.size c.args.c c.args.x X.k X.y X.invariant
+    (walk_kept c.args.scratch.now _ c.args.c.size c.args.c c.args.x c.args.c.parts c.args.x c.requires (aside_shown u _ 0 _ (omega arith) c.put_word.ensures) (λ j _. shown_left u _ _ c.put_word.ensures j) c.put_word.auto.s) X.auto.scratch in
     let v = words X.scratch in
     let w = words c.put_word.new.s in
     let few = c.requires.chain.short in
-    let small = next_small X.scratch c.args.size c.args.c c.args.x (X.k - 1) X.y _ (subst (λ (k : ℕ). WalkIn X.scratch c.args.size c.args.c c.args.x k X.y) (same X.k c.loop-k-test.true) W) c.next-y.ensures in
+    let small = next_small X.scratch c.args.c.size c.args.c c.args.x (X.k - 1) X.y _ (subst (λ (k : ℕ). WalkIn X.scratch c.args.c.size c.args.c c.args.x k X.y) (same X.k c.loop-k-test.true) W) c.next-y.ensures in
     let long : shown_at + (c.args.c.parts - (X.k - 1)) < length v = omega (arith, length_words X.scratch, W.chain.space) in
-    walked_next w v _ c.args.size c.args.c c.args.x (X.k - 1) X.y _ c.requires.chain.among (omega arith) (subst (λ (k : ℕ). Walked w v c.args.size c.args.c c.args.x k X.y) (same X.k c.loop-k-test.true) X.invariant) c.next-y.ensures small long c.put_word-in-loop-k.ensures
+    walked_next w v _ c.args.c.size c.args.c c.args.x (X.k - 1) X.y _ c.requires.chain.among (omega arith) (subst (λ (k : ℕ). Walked w v c.args.c.size c.args.c c.args.x k X.y) (same X.k c.loop-k-test.true) X.invariant) c.next-y.ensures small long c.put_word-in-loop-k.ensures
     (aside_shown v _ (c.args.c.parts - (X.k - 1)) _ (omega arith) c.put_word-in-loop-k.ensures)
 
 pub returns : goal.returns
@@ -87,6 +87,6 @@ returns c =
     let A = aside_shown u _ 0 _ (omega arith) c.put_word.ensures in record {
       aside = aside_trans u _ (words X.scratch) A K.aside;
       parts_after = λ I C L.
-          walked_end _ (words X.scratch) c.args.size a c.args.x X.k X.y K (omega (arith, c.loop-k-test.false)) I (chained_kept u _ a A W I c.args.size C) (left_kept u _ a c.args.x A W (λ j _. shown_left u _ _ c.put_word.ensures j) I L)
+          walked_end _ (words X.scratch) c.args.c.size a c.args.x X.k X.y K (omega (arith, c.loop-k-test.false)) I (chained_kept u _ a A W I c.args.c.size C) (left_kept u _ a c.args.x A W (λ j _. shown_left u _ _ c.put_word.ensures j) I L)
           ∙ ap (λ (l : List Role). c.args.x ∷ walk_of I (role_of a.sup) c.args.x l c.args.x) (parts_kept u _ a A W);
     }
