@@ -42,12 +42,6 @@ flat_one : (x : Atom) → flat (x ∷ []) ≡ six x
 unfolding flat
 flat_one x = refl
 
-pub atoms_start : (w : List ℕ) (p n at name : ℕ) (a : List ℕ) → AtomsLeft w p n at name a a 0
-atoms_start w p n at name a = record {
-  within = omega arith;
-  left = λ l k e h. let z : 6 * at ≡ 6 * (at + 0) = omega arith in ap (λ (i : ℕ). sets a i (flat (l ++ (Class name 0 ∷ [])))) z;
-}
-
 module _ (w : List ℕ) (p n at name : ℕ) (a₀ a : List ℕ) (j : ℕ) (A : AtomsLeft w p n at name a₀ a j) where
   -- atom x is read of its word
   module _ (lt : j < n) (x : Atom) (is : (y : Atom) → Packable y → get_or w (p + j) 0 ≡ packed y → x ≡ y) where

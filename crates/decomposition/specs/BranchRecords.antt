@@ -47,16 +47,6 @@ run_put b m t a n e =
     let g : 6 * a + length r ≡ 6 * (a + (n + 1)) = omega (arith, e, flat_long (b.body ++ h), length-append b.body h) in
     sym (sets_append r (atom_records (map branch_clause m)) t (6 * a)) ∙ ap (λ (i : ℕ). sets (sets t (6 * a) r) i (atom_records (map branch_clause m))) g
 
-pub branches_start : (w : List ℕ) (s : Naming) (c to : ℕ) (k t : List ℕ) → BranchesLeft w s c to k t k t 0 to 0
-branches_start w s c to k t = record {
-  here = omega arith;
-  sum = omega arith;
-  words = λ z H. H.words;
-  room = λ z H. omega (arith, H.used);
-  clauses = λ z H. let e : c ≡ c + 0 = omega arith in ap (λ (i : ℕ). branches_at i to z.named k) e;
-  atoms = λ z H. refl;
-}
-
 module _ (w : List ℕ) (s : Naming) (c to : ℕ) (k₀ t₀ k t : List ℕ) (p a i : ℕ) (B : BranchesLeft w s c to k₀ t₀ k t p a i) where
   -- as the search for a body that is longer than the words
   search_for : Searching 0 w s (suc (length w)) p i
@@ -69,9 +59,6 @@ module _ (w : List ℕ) (s : Naming) (c to : ℕ) (k₀ t₀ k t : List ℕ) (p 
 
   branch_here : (z : Rules.Naming) → NamedHeld w s z → i < s.named → BranchAt w s z p i
   branch_here = branch_at 0 w s (suc (length w)) p i search_for
-
-  pub branch_get : NamedThere w s → i < s.named → p < most_named
-  branch_get T h = omega (arith, (branch_here T.state T.held h).room, T.held.few)
 
   -- room for the branch, whose n atoms are packed
   module _ (T : NamedThere w s) (h : i < s.named) (n : ℕ) (en : n ≡ get_or w p 0) where

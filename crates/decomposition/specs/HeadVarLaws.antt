@@ -92,15 +92,6 @@ pub record Heading (s w : List ℕ) (count : ℕ) (w' : List ℕ) (n i : ℕ) : 
   pub only : OnlyKeep w w'
   pub met : (l : List Atom) → Run s l → Kept w' n l (drop i l)
 
-pub heading_start : (s w : List ℕ) (count : ℕ) → count ≡ length s / 24 → Heading s w count w 0 0
-heading_start s w count e = record {
-  all = e;
-  here = omega arith;
-  few = omega arith;
-  only = only_none w;
-  met = λ l R. record { vars = []; keep = record { long = refl; few = omega arith; are = refl }; left = refl };
-}
-
 module _ (s w : List ℕ) (count : ℕ) (w' : List ℕ) (n i : ℕ) (H : Heading s w count w' n i) where
   -- words u and v of atom i, and the words after each
   module _ (h : i < count) (u v : ℕ) (eu : u ≡ get_or (words s) (6 * i + 4) 0) (ev : v ≡ get_or (words s) (6 * i + 5) 0) (w1 w2 : List ℕ) (n1 n2 : ℕ)

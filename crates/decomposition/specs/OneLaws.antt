@@ -1,9 +1,9 @@
 -- One clause's body: whether it stays whole, and what the names make of it. Assumes nothing.
-use Rattle.std.specs.Prelude.{Bool, true, false, not, ◌||◌, ◌≡◌, Some, None, Ok, Err, List, ℕ, length, ltb, leb}
+use Rattle.std.specs.Prelude.{Bool, true, false, ◌||◌, ◌≡◌, Some, None, Ok, Err, List, ℕ, length, ltb, leb}
 use Rattle.std.proofs.Math.Bool.{or-true}
 use Rattle.std.proofs.Common.{sym, ap, ap₂, subst, ◌∙◌, arith, ltb-true, ltb-false, le-leb}
 use Rattle.std.proofs.Math.Option.{Option, none, some}
-use Rattle.std.proofs.lemmas.Bool.{lt-leb, not-false}
+use Rattle.std.proofs.lemmas.Bool.{lt-leb}
 use Rattle.ir.specs.declared.atom.Atom.{Atom}
 use Rattle.rules.specs.Base.{Res, ok, refused}
 use Rattle.rules.specs.State.{Clause}
@@ -34,9 +34,6 @@ module _ (w : List ℕ) (s : Naming) (x : Clause) (z : Rules.Naming) where
 
   pub one_narrow : false ≡ ltb max_body_vars (body_var_count_from x.body 0) → NamedHeld w s z → OneBy w s x (reduced x z) (Ok None)
   one_narrow e H = whole (stays_narrow x.body (sym e)) H
-
-  pub one_other : false ≡ not (other x.body) → NamedHeld w s z → OneBy w s x (reduced x z) (Ok None)
-  one_other e H = whole (stays_other x.body (not-false (other x.body) (sym e))) H
 
   answer : (l : List Atom) (kept : List ℕ) (o : Res Rules.Naming (Option (List Atom))) (r : Reduced) → ReducedBy w body_at (length x.body) l kept s o r → OneBy w s x o r
   answer l kept (ok (some b) y) (Ok (Some m)) t = t

@@ -1,6 +1,6 @@
 -- A search for an atom that is neither a class nor a role atom, in a run of atoms, at atom i. Assumes nothing.
 use Rattle.std.specs.Prelude.{Bool, true, false, not, ◌≡◌, refl, List, ℕ, ◌+◌, ◌*◌, ◌/◌, ◌≤◌, ◌<◌, length, get_or, drop}
-use Rattle.std.proofs.Common.{sym, ap, ◌∙◌, arith, drop_of_length-le}
+use Rattle.std.proofs.Common.{sym, ap, ◌∙◌, arith}
 use Rattle.words.specs.Words.{words}
 use Rattle.ir.specs.Records.{words_of}
 use Rattle.ir.specs.declared.atom.Atom.{Atom}
@@ -37,9 +37,6 @@ pub record Plain (s : List ℕ) (count i : ℕ) : Type 0 where
   pub here : i ≤ count
   pub left : (l : List Atom) → Run s l → other l ≡ other (drop i l)
 
-pub plain_start : (s : List ℕ) (count : ℕ) → count ≡ length s / 24 → Plain s count 0
-plain_start s count e = record { all = e; here = omega arith; left = λ l R. refl }
-
 module _ (s : List ℕ) (count i : ℕ) (P : Plain s count i) where
   -- its kind is x
   module _ (h : i < count) (x : ℕ) (e : x ≡ get_or (words s) (6 * i) 0) where
@@ -58,9 +55,3 @@ module _ (s : List ℕ) (count i : ℕ) (P : Plain s count i) where
           let f : other (drop i l) ≡ other (drop (i + 1) l) = rw (a.split, is_tree a.atom (omega (arith, a.words.kind))) refl in
           P.left l R ∙ f;
     }
-
-  pub plain_end : count ≤ i → (l : List Atom) → Run s l → true ≡ not (other l)
-  plain_end h l R =
-      let z : length l ≤ i = omega (arith, R.long, P.all) in
-      let f : other (drop i l) ≡ false = rw (drop_of_length-le l z) refl in
-      sym (ap not (P.left l R ∙ f))

@@ -9,31 +9,13 @@ use Rattle.rules.specs.Branches.{head_vars}
 use Rattle.branches.specs.Layout.{work_words}
 use Rattle.naming.specs.AgreeLaws.{same_words_lem}
 use Rattle.decomposition.specs.PlainLaws.{other}
-use Rattle.decomposition.specs.OneLaws.{one_narrow, one_other, one_named}
+use Rattle.decomposition.specs.OneLaws.{one_narrow, one_named}
 use Rattle.decomposition.specs.CopiedLaws.{body_there, held_still, there_still, keep_still, tame_there}
 use Rattle.decomposition.proofs.one.decompose_one.Goals as goal
 
 pub returns-then-not-is_wide : goal.returns-then-not-is_wide
 returns-then-not-is_wide c =
     λ x z B H N. one_narrow (words c.args.scratch.now) c.args.s x z (sym (not-true _ c.if-not-is_wide.true-raw) ∙ c.is_wide.ensures x.body B) N
-
-pub returns-then-not-is_plain : goal.returns-then-not-is_plain
-returns-then-not-is_plain c =
-    λ x z B H N. one_other (words c.args.scratch.now) c.args.s x z (sym (not-true _ c.if-not-is_plain.true-raw) ∙ c.is_plain.ensures x.body B) N
-
-pub head_vars-keep-requires : goal.head_vars-keep-requires
-head_vars-keep-requires c =
-    (omega (arith, c.requires.0.head_is.long, c.requires.0.inside.head_short), c.requires.3)
-
-pub copy_words-requires : goal.copy_words-requires
-copy_words-requires c =
-    let P = c.requires.0 in
-    (omega (arith, P.body_is.long, P.inside.body_short, c.head_vars-keep.auto.scratch, c.requires.3), omega (arith, P.body_is.long))
-
-pub overflow_cast-count : goal.overflow_cast-count
-overflow_cast-count c =
-    let P = c.requires.0 in
-    omega (arith, c.atom_room-count.ensures, P.body_is.long, P.inside.body_short)
 
 pub name_branches-requires : goal.name_branches-requires
 name_branches-requires c =

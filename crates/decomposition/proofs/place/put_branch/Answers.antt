@@ -1,20 +1,8 @@
-use mathlib.Core.Path.{refl, ◌∙◌}
+use mathlib.Core.Path.{◌∙◌}
 use native.Mathlib.Omega.{arith}
 use Rattle.words.specs.Words.{words}
-use Rattle.decomposition.specs.BranchAtoms.{atoms_start, atom_fits, atoms_next, atoms_end}
+use Rattle.decomposition.specs.BranchAtoms.{atom_fits, atoms_next, atoms_end}
 use Rattle.decomposition.proofs.place.put_branch.Goals as goal
-
-pub loop-j-init : goal.loop-j-init
-loop-j-init c = let a = c.args in (atoms_start (words a.scratch.now) a.p a.n a.at a.name (words a.atoms.now), refl)
-
-pub overflow_add-at : goal.overflow_add-at
-overflow_add-at c = omega (arith, c.loop-j-test.true, c.requires.1, c.loop-j.invariant.1)
-
-pub overflow_add-p : goal.overflow_add-p
-overflow_add-p c = omega (arith, c.loop-j-test.true, c.requires.0)
-
-pub get_word-requires : goal.get_word-requires
-get_word-requires c = omega (arith, c.loop-j-test.true, c.requires.0)
 
 pub put_atom-requires : goal.put_atom-requires
 put_atom-requires c =
@@ -33,15 +21,6 @@ loop-j-preserved c =
       atoms_next (words a.scratch.now) a.p a.n a.at a.name (words a.atoms.now) (words L.atoms) L.j L.invariant.0 h c.unpack.result (λ y k e. c.unpack.ensures y k (c.get_word.ensures ∙ e)) (words c.put_atom.new.t) c.put_atom.ensures,
       c.put_atom.auto.t ∙ L.invariant.1,
     )
-
-pub overflow_add-at-2 : goal.overflow_add-at-2
-overflow_add-at-2 c = omega (arith, c.requires.1)
-
-pub put_atom-requires-2 : goal.put_atom-requires-2
-put_atom-requires-2 c = let L = c.loop-j in (omega (arith, c.requires.1, L.invariant.1), omega (arith, c.requires.3))
-
-pub shape_of-atoms : goal.shape_of-atoms
-shape_of-atoms c = c.put_atom-2.auto.t ∙ c.loop-j.invariant.1
 
 pub returns : goal.returns
 returns c =

@@ -1,33 +1,8 @@
-use mathlib.Core.Path.{refl, ◌∙◌}
+use mathlib.Core.Path.{◌∙◌}
 use native.Mathlib.Omega.{arith}
 use Rattle.words.specs.Words.{words}
-use Rattle.decomposition.specs.BranchRecords.{branches_start, branch_get, branch_room, branch_there, branches_next, clauses_are, atoms_are}
+use Rattle.decomposition.specs.BranchRecords.{branch_room, branch_there, branches_next, clauses_are, atoms_are}
 use Rattle.decomposition.proofs.place.put_named.Goals as goal
-
-pub loop-i-init : goal.loop-i-init
-loop-i-init c = let e = c.args in (branches_start (words e.scratch.now) e.s e.c e.to (words e.clauses.now) (words e.atoms.now), refl, refl)
-
-pub get_word-n-requires : goal.get_word-n-requires
-get_word-n-requires c =
-    let e = c.args in
-    let L = c.loop-i in
-    omega (arith, c.requires.2, branch_get (words e.scratch.now) e.s e.c e.to (words e.clauses.now) (words e.atoms.now) (words L.clauses) (words L.atoms) L.p L.a L.i L.invariant.0 c.requires.0 c.loop-i-test.true)
-
-pub overflow_add-p : goal.overflow_add-p
-overflow_add-p c =
-    let e = c.args in
-    let L = c.loop-i in
-    let g = c.get_word-n in
-    let r = branch_room (words e.scratch.now) e.s e.c e.to (words e.clauses.now) (words e.atoms.now) (words L.clauses) (words L.atoms) L.p L.a L.i L.invariant.0 c.requires.0 c.loop-i-test.true g.result g.ensures in
-    omega (arith, r.0, r.1)
-
-pub overflow_cast-a : goal.overflow_cast-a
-overflow_cast-a c =
-    let e = c.args in
-    let L = c.loop-i in
-    let g = c.get_word-n in
-    let r = branch_room (words e.scratch.now) e.s e.c e.to (words e.clauses.now) (words e.atoms.now) (words L.clauses) (words L.atoms) L.p L.a L.i L.invariant.0 c.requires.0 c.loop-i-test.true g.result g.ensures in
-    omega (arith, r.2, c.requires.4, c.requires.5.atoms)
 
 pub put_branch-requires : goal.put_branch-requires
 put_branch-requires c =
@@ -57,22 +32,6 @@ overflow_add-a-in-loop-i c =
     let r = branch_room (words e.scratch.now) e.s e.c e.to (words e.clauses.now) (words e.atoms.now) (words L.clauses) (words L.atoms) L.p L.a L.i L.invariant.0 c.requires.0 c.loop-i-test.true g.result g.ensures in
     omega (arith, r.2, c.requires.4, c.requires.5.atoms)
 
-pub overflow_add-p-in-loop-i : goal.overflow_add-p-in-loop-i
-overflow_add-p-in-loop-i c =
-    let e = c.args in
-    let L = c.loop-i in
-    let g = c.get_word-n in
-    let r = branch_room (words e.scratch.now) e.s e.c e.to (words e.clauses.now) (words e.atoms.now) (words L.clauses) (words L.atoms) L.p L.a L.i L.invariant.0 c.requires.0 c.loop-i-test.true g.result g.ensures in
-    omega (arith, r.0, r.1)
-
-pub overflow_add-p-in-loop-i-2 : goal.overflow_add-p-in-loop-i-2
-overflow_add-p-in-loop-i-2 c =
-    let e = c.args in
-    let L = c.loop-i in
-    let g = c.get_word-n in
-    let r = branch_room (words e.scratch.now) e.s e.c e.to (words e.clauses.now) (words e.atoms.now) (words L.clauses) (words L.atoms) L.p L.a L.i L.invariant.0 c.requires.0 c.loop-i-test.true g.result g.ensures in
-    omega (arith, r.0, r.1)
-
 pub loop-i-preserved : goal.loop-i-preserved
 loop-i-preserved c =
     let e = c.args in
@@ -82,17 +41,14 @@ loop-i-preserved c =
       c.put_branch.auto.atoms ∙ L.invariant.2,
     )
 
-pub shape_of-clauses : goal.shape_of-clauses
-shape_of-clauses c = c.loop-i.invariant.1
-
-pub shape_of-atoms : goal.shape_of-atoms
-shape_of-atoms c = c.loop-i.invariant.2
-
-pub returns : goal.returns
-returns c =
+pub returns-clause-clauses_after : goal.returns-clause-clauses_after
+returns-clause-clauses_after c =
     let e = c.args in
     let L = c.loop-i in
-    record {
-      clauses_after = clauses_are (words e.scratch.now) e.s e.c e.to (words e.clauses.now) (words e.atoms.now) (words L.clauses) (words L.atoms) L.p L.a L.i L.invariant.0 c.loop-i-test.false;
-      atoms_after = atoms_are (words e.scratch.now) e.s e.c e.to (words e.clauses.now) (words e.atoms.now) (words L.clauses) (words L.atoms) L.p L.a L.i L.invariant.0 c.loop-i-test.false;
-    }
+    clauses_are (words e.scratch.now) e.s e.c e.to (words e.clauses.now) (words e.atoms.now) (words L.clauses) (words L.atoms) L.p L.a L.i L.invariant.0 c.loop-i-test.false
+
+pub returns-clause-atoms_after : goal.returns-clause-atoms_after
+returns-clause-atoms_after c =
+    let e = c.args in
+    let L = c.loop-i in
+    atoms_are (words e.scratch.now) e.s e.c e.to (words e.clauses.now) (words e.atoms.now) (words L.clauses) (words L.atoms) L.p L.a L.i L.invariant.0 c.loop-i-test.false

@@ -30,16 +30,6 @@ decompose_one-requires c =
     let T = c.requires.0 in
     (there_parts T _ _ c.body_of-body.ensures c.head_of-head.ensures, record { state = T.passed.state; held = T.passed.held }, omega (arith, T.passed.first, T.listed.classes), c.requires.1)
 
-pub overflow_add-from : goal.overflow_add-from
-overflow_add-from c =
-    let h = c.head_count-nh in
-    let m = c.body_count-nb in
-    let f = c.first_atom-first in
-    let T = c.requires.0 in
-    let F = fits T f.ensures m.ensures h.ensures in
-    let la = length_words c.args.atoms.now in
-    omega (arith, F.room, la, c.requires.2.atoms)
-
 pub put_rewritten-requires : goal.put_rewritten-requires
 put_rewritten-requires c =
     let h = c.head_count-nh in
