@@ -9,6 +9,7 @@ ghost use Rattle.branches.specs.Wide.{AtomsAre};
 ghost use Rattle.branches.specs.Memo.{TameThere, NamedHeld, NamedThere};
 ghost use Rattle.branches.specs.Edges.{KeepIs};
 ghost use Rattle.branches.specs.Grouped.{all_of};
+ghost use Rattle.trees.specs.Grouping.{tops, counts};
 ghost use Rattle.naming.specs.Names.{ReducedBy, OnlyNames};
 ghost use Rattle.naming.specs.Splits.{SplitBy, CalledBy, TurnedBy, Standing, StandingThere, Laid, LaidThere, split_rule, group_rule, groups_rule, child_of};
 
@@ -18,7 +19,7 @@ use branches::{edges, memo, vars};
 use ir::atom::Atom;
 use ir::record;
 use ir::refusal::Refusal;
-use trees::group::Children;
+use trees::group::{Child, Children};
 use trees::{group, tree};
 
 // What the children so far have come to: the numbers, where the result ends, and whether a child is named.
@@ -124,8 +125,8 @@ fn name_groups(
     root: u32,
     keep: u32,
 ) -> Result<Option<(Naming, u32)>, Refusal>
-    requires { LaidThere (words scratch.old) children.now.tops children.now.counts atoms.base atoms.count children.now.len × (children.now.len ≤ 256) × (atoms.count ≤ 256) × (body_at ≤ atoms.base) × (atoms.base + atoms.count ≤ copy_at) × NamedThere (words scratch.old) s × (s.first ≤ 1100000) × (keep ≤ 512) × (4 * work_words ≤ length scratch.old) }
-    ensures reduced_by { (g : Groups) (z : Rules.Naming) (kept : List ℕ) (f : ℕ) → Laid (words scratch.old) children.now.tops children.now.counts atoms.base atoms.count g children.now.len → NamedHeld (words scratch.old) s z → KeepIs (words scratch.old) keep kept → atoms.count ≤ f → ReducedBy (words scratch.new) atoms.base atoms.count (g.root_atoms ++ all_of g.groups) kept s (groups_rule f root kept g z) result }
+    requires { LaidThere (words scratch.old) (tops children.now.each) (counts children.now.each) atoms.base atoms.count children.now.len × (children.now.len ≤ length children.now.each) × (atoms.count ≤ 256) × (body_at ≤ atoms.base) × (atoms.base + atoms.count ≤ copy_at) × NamedThere (words scratch.old) s × (s.first ≤ 1100000) × (keep ≤ 512) × (4 * work_words ≤ length scratch.old) }
+    ensures reduced_by { (g : Groups) (z : Rules.Naming) (kept : List ℕ) (f : ℕ) → Laid (words scratch.old) (tops children.now.each) (counts children.now.each) atoms.base atoms.count g children.now.len → NamedHeld (words scratch.old) s z → KeepIs (words scratch.old) keep kept → atoms.count ≤ f → ReducedBy (words scratch.new) atoms.base atoms.count (g.root_atoms ++ all_of g.groups) kept s (groups_rule f root kept g z) result }
     ensures only_names { OnlyNames atoms.base atoms.count (words scratch.old) (words scratch.new) }
 {
     let mut p = atoms.base + (atoms.count as usize - group::behind(children, 0));
@@ -135,9 +136,9 @@ fn name_groups(
         any: false,
     };
     for g in 0..children.len {
-        let count = children.counts[g];
+        let Child { top, count } = children.each[g];
         let child = Atoms { base: p, count };
-        reached = turn(scratch, reached, child, root, children.tops[g], keep)?;
+        reached = turn(scratch, reached, child, root, top, keep)?;
         p += count as usize;
     }
     if reached.any {

@@ -15,3 +15,4 @@ pub mod SortLaws
 pub mod StepLaws
 pub mod HomeTops
 pub mod Grouping
+pub mod ChildLaws

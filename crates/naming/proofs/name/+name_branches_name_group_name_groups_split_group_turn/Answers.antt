@@ -3,7 +3,7 @@ use mathlib.Core.Path.{◌≡◌, refl, sym, ap, ◌∙◌}
 use mathlib.Core.List.{[]}
 use Prim.Native.Nat.{◌+◌, ◌*◌, ◌-◌, ◌≤◌, ◌<◌}
 use native.Mathlib.Omega.{arith}
-use lib.ListN.{length, get_or, take}
+use lib.ListN.{length, take}
 use Rattle.words.specs.Words.{words}
 use Rattle.words.specs.Laws.{length_words}
 use Rattle.naming.specs.Splits.{split_rule, group_rule}
@@ -19,6 +19,8 @@ use Rattle.branches.specs.Grouped.{nothing}
 use Rattle.naming.specs.NameSteps.{tree_atoms, tree_none, connected, homeless_none, groups_for, laid_by, laid_few, step_answer, laid_held, laid_named, laid_keep}
 use Rattle.branches.specs.Layout.{work_words}
 use Prim.Native.Nat.{ℕ}
+use Rattle.trees.specs.Grouping.{tops as heads, counts as sizes}
+use Rattle.trees.specs.ChildLaws.{top_at, count_at, counts_long}
 use Rattle.naming.proofs.name.+name_branches_name_group_name_groups_split_group_turn.Goals as goal
 
 pub name_branches-returns-in_default-clause-reduced_by : goal.name_branches-returns-in_default-clause-reduced_by
@@ -71,8 +73,8 @@ name_branches-name_groups-requires t c =
     let root = c.args.root in
     let made = groups_for list (grouped (tree_of list root).parents root nothing list) in
     let w2 = words the-arrange.new.scratch in
-    let tops = c.in-Some-arrange.children.tops in
-    let counts = c.in-Some-arrange.children.counts in
+    let tops = heads c.in-Some-arrange.children.each in
+    let counts = sizes c.in-Some-arrange.children.each in
     let base = c.args.atoms.base in
     let groups = c.in-Some-arrange.children.len in
     let w0 = words c.args.scratch.now in
@@ -84,7 +86,7 @@ name_branches-name_groups-requires t c =
     let few = laid_few w2 tops counts base count groups made laid in
     let long2 = same_words_lem the-tree.new.scratch the-arrange.new.scratch the-arrange.auto.scratch in
     let mt : 5 * count + 4 ≡ t = c.decreases in
-    (omega (arith, mt), (record { groups = made; laid = laid }, omega (arith, few, c.requires.1), c.requires.1, c.requires.2, c.requires.3, laid_named w0 w1 w2 base count s long1 long2 c.requires.2 c.requires.3 the-tree.ensures.only_tree the-arrange.ensures.only_records c.requires.4, c.requires.5, c.requires.6, omega (arith, the-arrange.auto.scratch, the-tree.auto.scratch, c.requires.7)))
+    (omega (arith, mt), (record { groups = made; laid = laid }, rw c.in-Some-arrange.is at the-arrange.ensures.within, c.requires.1, c.requires.2, c.requires.3, laid_named w0 w1 w2 base count s long1 long2 c.requires.2 c.requires.3 the-tree.ensures.only_tree the-arrange.ensures.only_records c.requires.4, c.requires.5, c.requires.6, omega (arith, the-arrange.auto.scratch, the-tree.auto.scratch, c.requires.7)))
 
 pub name_branches-returns-clause-reduced_by : goal.name_branches-returns-clause-reduced_by
 name_branches-returns-clause-reduced_by t c =
@@ -98,8 +100,8 @@ name_branches-returns-clause-reduced_by t c =
     let s = c.args.s in
     let w1 = words the-tree.new.scratch in
     let w2 = words the-arrange.new.scratch in
-    let tops = c.in-Some-arrange.children.tops in
-    let counts = c.in-Some-arrange.children.counts in
+    let tops = heads c.in-Some-arrange.children.each in
+    let counts = sizes c.in-Some-arrange.children.each in
     let groups = c.in-Some-arrange.children.len in
     let w0 = words c.args.scratch.now in
     let long1 = same_words_lem c.args.scratch.now the-tree.new.scratch the-tree.auto.scratch in
@@ -149,45 +151,45 @@ name_group-returns-in_err-m-clause-called_by t c =
 pub name_groups-behind-requires : goal.name_groups-behind-requires
 name_groups-behind-requires t c =
     let w0 = words c.args.scratch.now in
-    let tops = c.args.children.now.tops in
-    let counts = c.args.children.now.counts in
+    let tops = heads c.args.children.now.each in
+    let counts = sizes c.args.children.now.each in
     let base = c.args.atoms.base in
     let count = c.args.atoms.count in
     let groups = c.args.children.now.len in
     let root = c.args.root in
     let keep = c.args.keep in
     let s = c.args.s in
-    let q : groups ≤ length counts = omega (arith, c.requires.1) in
+    let q : groups ≤ length counts = omega (arith, c.requires.1, counts_long c.args.children.now.each) in
     (c.requires.1, omega (arith, sum_fits w0 tops counts base count groups root keep s c.requires.0.groups c.requires.0.laid q, c.requires.2), omega arith)
 
 pub name_groups-overflow_sub-p : goal.name_groups-overflow_sub-p
 name_groups-overflow_sub-p t c =
     let the-behind = c.behind in
     let groups = c.args.children.now.len in
-    let counts = c.args.children.now.counts in
+    let counts = sizes c.args.children.now.each in
     let w0 = words c.args.scratch.now in
-    let tops = c.args.children.now.tops in
+    let tops = heads c.args.children.now.each in
     let base = c.args.atoms.base in
     let count = c.args.atoms.count in
     let root = c.args.root in
     let keep = c.args.keep in
     let s = c.args.s in
-    let q : groups ≤ length counts = omega (arith, c.requires.1) in
+    let q : groups ≤ length counts = omega (arith, c.requires.1, counts_long c.args.children.now.each) in
     let e : the-behind.result ≡ sum (take groups counts) = the-behind.ensures in omega (arith, e, sum_fits w0 tops counts base count groups root keep s c.requires.0.groups c.requires.0.laid q)
 
 pub name_groups-loop-g-init : goal.name_groups-loop-g-init
 name_groups-loop-g-init t c =
     let the-behind = c.behind in
     let w0 = words c.args.scratch.now in
-    let tops = c.args.children.now.tops in
-    let counts = c.args.children.now.counts in
+    let tops = heads c.args.children.now.each in
+    let counts = sizes c.args.children.now.each in
     let base = c.args.atoms.base in
     let count = c.args.atoms.count in
     let groups = c.args.children.now.len in
     let root = c.args.root in
     let keep = c.args.keep in
     let s = c.args.s in
-    let q : groups ≤ length counts = omega (arith, c.requires.1) in
+    let q : groups ≤ length counts = omega (arith, c.requires.1, counts_long c.args.children.now.each) in
     (refl, walk_start w0 tops counts base count groups root keep s _ q (ap (λ (x : ℕ). base + (count - x)) the-behind.ensures))
 
 pub name_groups-turn-requires : goal.name_groups-turn-requires
@@ -196,8 +198,8 @@ name_groups-turn-requires t c =
     let the-loop-test = c.loop-g-test in
     let count = c.args.atoms.count in
     let w0 = words c.args.scratch.now in
-    let tops = c.args.children.now.tops in
-    let counts = c.args.children.now.counts in
+    let tops = heads c.args.children.now.each in
+    let counts = sizes c.args.children.now.each in
     let base = c.args.atoms.base in
     let groups = c.args.children.now.len in
     let root = c.args.root in
@@ -206,7 +208,7 @@ name_groups-turn-requires t c =
     let room : work_words ≤ length w0 = omega (arith, c.requires.8, length_words c.args.scratch.now) in
     let w1 = words the-loop.scratch in
     let mt : 5 * count + 3 ≡ t = c.decreases in
-    (omega (arith, mt, child_most w0 tops counts base count groups root keep s c.requires.3 c.requires.4 c.requires.2 c.requires.6 c.requires.0 c.requires.5 c.requires.7 room w1 the-loop.reached.naming the-loop.reached.any the-loop.p the-loop.reached.end the-loop.g the-loop.invariant.1 the-loop-test.true (get_or counts the-loop.g 0) (get_or tops the-loop.g 0) refl refl), (walk_standing w0 tops counts base count groups root keep s c.requires.3 c.requires.4 c.requires.2 c.requires.6 c.requires.0 c.requires.5 c.requires.7 room w1 the-loop.reached.naming the-loop.reached.any the-loop.p the-loop.reached.end the-loop.g the-loop.invariant.1 the-loop-test.true (get_or counts the-loop.g 0) (get_or tops the-loop.g 0) refl refl, c.requires.7, omega (arith, the-loop.invariant.0, c.requires.8)))
+    (omega (arith, mt, child_most w0 tops counts base count groups root keep s c.requires.3 c.requires.4 c.requires.2 c.requires.6 c.requires.0 c.requires.5 c.requires.7 room w1 the-loop.reached.naming the-loop.reached.any the-loop.p the-loop.reached.end the-loop.g the-loop.invariant.1 the-loop-test.true _ _ (sym (count_at c.args.children.now.each the-loop.g)) (sym (top_at c.args.children.now.each the-loop.g))), (walk_standing w0 tops counts base count groups root keep s c.requires.3 c.requires.4 c.requires.2 c.requires.6 c.requires.0 c.requires.5 c.requires.7 room w1 the-loop.reached.naming the-loop.reached.any the-loop.p the-loop.reached.end the-loop.g the-loop.invariant.1 the-loop-test.true _ _ (sym (count_at c.args.children.now.each the-loop.g)) (sym (top_at c.args.children.now.each the-loop.g)), c.requires.7, omega (arith, the-loop.invariant.0, c.requires.8)))
 
 pub name_groups-returns-in_err-reached-clause-reduced_by : goal.name_groups-returns-in_err-reached-clause-reduced_by
 name_groups-returns-in_err-reached-clause-reduced_by t c =
@@ -214,8 +216,8 @@ name_groups-returns-in_err-reached-clause-reduced_by t c =
     let the-loop-test = c.loop-g-test in
     let the-turn = c.turn in
     let w0 = words c.args.scratch.now in
-    let tops = c.args.children.now.tops in
-    let counts = c.args.children.now.counts in
+    let tops = heads c.args.children.now.each in
+    let counts = sizes c.args.children.now.each in
     let base = c.args.atoms.base in
     let count = c.args.atoms.count in
     let groups = c.args.children.now.len in
@@ -226,7 +228,7 @@ name_groups-returns-in_err-reached-clause-reduced_by t c =
     let w1 = words the-loop.scratch in
     let w2 = words the-turn.new.scratch in
     let back = err_from_is_err_and c.from_residual.result c.from_residual.ensures.1 in
-    rw (back.1, back.2) (walk_stop w0 tops counts base count groups root keep s c.requires.3 c.requires.4 c.requires.2 c.requires.6 c.requires.0 c.requires.5 c.requires.7 room w1 the-loop.reached.naming the-loop.reached.any the-loop.p the-loop.reached.end the-loop.g the-loop.invariant.1 the-loop-test.true (get_or counts the-loop.g 0) (get_or tops the-loop.g 0) refl refl w2 (same_words_lem c.args.scratch.now the-loop.scratch the-loop.invariant.0) the-turn.result the-turn.ensures.fact the-turn.ensures.fact_2 _ c.in_err-reached.was)
+    rw (back.1, back.2) (walk_stop w0 tops counts base count groups root keep s c.requires.3 c.requires.4 c.requires.2 c.requires.6 c.requires.0 c.requires.5 c.requires.7 room w1 the-loop.reached.naming the-loop.reached.any the-loop.p the-loop.reached.end the-loop.g the-loop.invariant.1 the-loop-test.true _ _ (sym (count_at c.args.children.now.each the-loop.g)) (sym (top_at c.args.children.now.each the-loop.g)) w2 (same_words_lem c.args.scratch.now the-loop.scratch the-loop.invariant.0) the-turn.result the-turn.ensures.fact the-turn.ensures.fact_2 _ c.in_err-reached.was)
 
 pub name_groups-returns-in_err-reached-clause-only_names : goal.name_groups-returns-in_err-reached-clause-only_names
 name_groups-returns-in_err-reached-clause-only_names t c =
@@ -234,8 +236,8 @@ name_groups-returns-in_err-reached-clause-only_names t c =
     let the-loop-test = c.loop-g-test in
     let the-turn = c.turn in
     let w0 = words c.args.scratch.now in
-    let tops = c.args.children.now.tops in
-    let counts = c.args.children.now.counts in
+    let tops = heads c.args.children.now.each in
+    let counts = sizes c.args.children.now.each in
     let base = c.args.atoms.base in
     let count = c.args.atoms.count in
     let groups = c.args.children.now.len in
@@ -245,15 +247,15 @@ name_groups-returns-in_err-reached-clause-only_names t c =
     let room : work_words ≤ length w0 = omega (arith, c.requires.8, length_words c.args.scratch.now) in
     let w1 = words the-loop.scratch in
     let w2 = words the-turn.new.scratch in
-    walk_only w0 tops counts base count groups root keep s c.requires.3 c.requires.4 c.requires.2 c.requires.6 c.requires.0 c.requires.5 c.requires.7 room w1 the-loop.reached.naming the-loop.reached.any the-loop.p the-loop.reached.end the-loop.g the-loop.invariant.1 the-loop-test.true (get_or counts the-loop.g 0) (get_or tops the-loop.g 0) refl refl w2 (same_words_lem c.args.scratch.now the-loop.scratch the-loop.invariant.0) the-turn.result the-turn.ensures.fact the-turn.ensures.fact_2
+    walk_only w0 tops counts base count groups root keep s c.requires.3 c.requires.4 c.requires.2 c.requires.6 c.requires.0 c.requires.5 c.requires.7 room w1 the-loop.reached.naming the-loop.reached.any the-loop.p the-loop.reached.end the-loop.g the-loop.invariant.1 the-loop-test.true _ _ (sym (count_at c.args.children.now.each the-loop.g)) (sym (top_at c.args.children.now.each the-loop.g)) w2 (same_words_lem c.args.scratch.now the-loop.scratch the-loop.invariant.0) the-turn.result the-turn.ensures.fact the-turn.ensures.fact_2
 
 pub name_groups-overflow_add-p-in-loop-g : goal.name_groups-overflow_add-p-in-loop-g
 name_groups-overflow_add-p-in-loop-g t c =
     let the-loop = c.loop-g in
     let the-loop-test = c.loop-g-test in
     let w0 = words c.args.scratch.now in
-    let tops = c.args.children.now.tops in
-    let counts = c.args.children.now.counts in
+    let tops = heads c.args.children.now.each in
+    let counts = sizes c.args.children.now.each in
     let base = c.args.atoms.base in
     let count = c.args.atoms.count in
     let groups = c.args.children.now.len in
@@ -262,7 +264,7 @@ name_groups-overflow_add-p-in-loop-g t c =
     let s = c.args.s in
     let room : work_words ≤ length w0 = omega (arith, c.requires.8, length_words c.args.scratch.now) in
     let w1 = words the-loop.scratch in
-    omega (arith, walk_child w0 tops counts base count groups root keep s c.requires.3 c.requires.4 c.requires.2 c.requires.6 c.requires.0 c.requires.5 c.requires.7 room w1 the-loop.reached.naming the-loop.reached.any the-loop.p the-loop.reached.end the-loop.g the-loop.invariant.1 the-loop-test.true (get_or counts the-loop.g 0) (get_or tops the-loop.g 0) refl refl, c.requires.4)
+    omega (arith, walk_child w0 tops counts base count groups root keep s c.requires.3 c.requires.4 c.requires.2 c.requires.6 c.requires.0 c.requires.5 c.requires.7 room w1 the-loop.reached.naming the-loop.reached.any the-loop.p the-loop.reached.end the-loop.g the-loop.invariant.1 the-loop-test.true _ _ (sym (count_at c.args.children.now.each the-loop.g)) (sym (top_at c.args.children.now.each the-loop.g)), c.requires.4)
 
 pub name_groups-loop-g-preserved : goal.name_groups-loop-g-preserved
 name_groups-loop-g-preserved t c =
@@ -270,8 +272,8 @@ name_groups-loop-g-preserved t c =
     let the-loop-test = c.loop-g-test in
     let the-turn = c.turn in
     let w0 = words c.args.scratch.now in
-    let tops = c.args.children.now.tops in
-    let counts = c.args.children.now.counts in
+    let tops = heads c.args.children.now.each in
+    let counts = sizes c.args.children.now.each in
     let base = c.args.atoms.base in
     let count = c.args.atoms.count in
     let groups = c.args.children.now.len in
@@ -281,14 +283,14 @@ name_groups-loop-g-preserved t c =
     let room : work_words ≤ length w0 = omega (arith, c.requires.8, length_words c.args.scratch.now) in
     let w1 = words the-loop.scratch in
     let w2 = words the-turn.new.scratch in
-    (the-turn.auto.scratch ∙ the-loop.invariant.0, walk_next w0 tops counts base count groups root keep s c.requires.3 c.requires.4 c.requires.2 c.requires.6 c.requires.0 c.requires.5 c.requires.7 room w1 the-loop.reached.naming the-loop.reached.any the-loop.p the-loop.reached.end the-loop.g the-loop.invariant.1 the-loop-test.true (get_or counts the-loop.g 0) (get_or tops the-loop.g 0) refl refl w2 (same_words_lem c.args.scratch.now the-loop.scratch the-loop.invariant.0) the-turn.result the-turn.ensures.fact the-turn.ensures.fact_2 _ c.in_ok-reached.was)
+    (the-turn.auto.scratch ∙ the-loop.invariant.0, walk_next w0 tops counts base count groups root keep s c.requires.3 c.requires.4 c.requires.2 c.requires.6 c.requires.0 c.requires.5 c.requires.7 room w1 the-loop.reached.naming the-loop.reached.any the-loop.p the-loop.reached.end the-loop.g the-loop.invariant.1 the-loop-test.true _ _ (sym (count_at c.args.children.now.each the-loop.g)) (sym (top_at c.args.children.now.each the-loop.g)) w2 (same_words_lem c.args.scratch.now the-loop.scratch the-loop.invariant.0) the-turn.result the-turn.ensures.fact the-turn.ensures.fact_2 _ c.in_ok-reached.was)
 
 pub name_groups-overflow_sub-result : goal.name_groups-overflow_sub-result
 name_groups-overflow_sub-result t c =
     let the-loop = c.loop-g in
     let w0 = words c.args.scratch.now in
-    let tops = c.args.children.now.tops in
-    let counts = c.args.children.now.counts in
+    let tops = heads c.args.children.now.each in
+    let counts = sizes c.args.children.now.each in
     let base = c.args.atoms.base in
     let count = c.args.atoms.count in
     let groups = c.args.children.now.len in
@@ -303,8 +305,8 @@ pub name_groups-overflow_cast-result : goal.name_groups-overflow_cast-result
 name_groups-overflow_cast-result t c =
     let the-loop = c.loop-g in
     let w0 = words c.args.scratch.now in
-    let tops = c.args.children.now.tops in
-    let counts = c.args.children.now.counts in
+    let tops = heads c.args.children.now.each in
+    let counts = sizes c.args.children.now.each in
     let base = c.args.atoms.base in
     let count = c.args.atoms.count in
     let groups = c.args.children.now.len in
@@ -321,8 +323,8 @@ name_groups-returns-clause-reduced_by t c =
     let the-loop-test = c.loop-g-test in
     let the-if1 = c.if-reached in
     let w0 = words c.args.scratch.now in
-    let tops = c.args.children.now.tops in
-    let counts = c.args.children.now.counts in
+    let tops = heads c.args.children.now.each in
+    let counts = sizes c.args.children.now.each in
     let base = c.args.atoms.base in
     let count = c.args.atoms.count in
     let groups = c.args.children.now.len in
@@ -338,8 +340,8 @@ name_groups-returns-then-reached-clause-reduced_by t c =
     let the-loop-test = c.loop-g-test in
     let the-if1 = c.if-reached in
     let w0 = words c.args.scratch.now in
-    let tops = c.args.children.now.tops in
-    let counts = c.args.children.now.counts in
+    let tops = heads c.args.children.now.each in
+    let counts = sizes c.args.children.now.each in
     let base = c.args.atoms.base in
     let count = c.args.atoms.count in
     let groups = c.args.children.now.len in
@@ -559,3 +561,8 @@ turn-returns-clause-fact t c =
     let top = c.args.t in
     let any = c.args.reached.any in
     λ base count result group rest z kept f D K k. call_turned w0 w1 base count q p size result group rest s z D long1 the-name-group.ensures.only_names w2 room _ _ root the-put-atom.ensures f top any kept (sym (the-mentions-kept.ensures group kept (child_are w0 base count q p size result group rest s z D) K) ∙ the-if1.false) (c.in_ok-naming.ensures.called_by group z f (child_are w0 base count q p size result group rest s z D) D.held k)
+
+pub name_groups-offset_bounds-children-g : goal.name_groups-offset_bounds-children-g
+name_groups-offset_bounds-children-g t c =
+    let l = c.args.children.now in
+    omega (arith, laid_few (words c.args.scratch.now) (heads l.each) (sizes l.each) c.args.atoms.base c.args.atoms.count l.len c.requires.0.groups c.requires.0.laid, c.requires.2, c.loop-g-test.true)

@@ -1,5 +1,6 @@
 use Rattle.std.proofs.Common.{◌+◌, ◌*◌, ◌≡◌, length}
 use Rattle.words.specs.Words.{words}
+use Rattle.trees.specs.Grouping.{tops, counts}
 use Rattle.naming.specs.GroupTurns.{Walk}
 use Rattle.naming.proofs.name.+name_branches_name_group_name_groups_split_group_turn.Given as goal
 
@@ -19,4 +20,4 @@ abbrev pub decreases-turn : goal.decreases-turn
 decreases-turn l = 5 * l.child.count + 2
 
 abbrev pub invariant-name_groups-loop-g : goal.invariant-name_groups-loop-g
-invariant-name_groups-loop-g l = (length l.scratch ≡ length l.initial.scratch) × Walk (words l.initial.scratch) l.children.tops l.children.counts l.fn.atoms.base l.fn.atoms.count l.children.len l.root l.keep l.initial.reached.naming (words l.scratch) l.reached.naming l.reached.any l.p l.reached.end l.g
+invariant-name_groups-loop-g l = (length l.scratch ≡ length l.initial.scratch) × Walk (words l.initial.scratch) (tops l.children.each) (counts l.children.each) l.fn.atoms.base l.fn.atoms.count l.children.len l.root l.keep l.initial.reached.naming (words l.scratch) l.reached.naming l.reached.any l.p l.reached.end l.g
