@@ -19,7 +19,7 @@ use branches::{edges, memo, vars};
 use ir::atom::Atom;
 use ir::record;
 use ir::refusal::Refusal;
-use trees::group::{Child, Children};
+use trees::group::Children;
 use trees::{group, tree};
 
 // What the children so far have come to: the numbers, where the result ends, and whether a child is named.
@@ -135,11 +135,13 @@ fn name_groups(
         end: p,
         any: false,
     };
-    for g in 0..children.len {
-        let Child { top, count } = children.each[g];
-        let child = Atoms { base: p, count };
-        reached = turn(scratch, reached, child, root, top, keep)?;
-        p += count as usize;
+    for child in &children.each[..children.len] {
+        let group = Atoms {
+            base: p,
+            count: child.count,
+        };
+        reached = turn(scratch, reached, group, root, child.top, keep)?;
+        p += child.count as usize;
     }
     if reached.any {
         return Ok(Some((reached.naming, (reached.end - atoms.base) as u32)));

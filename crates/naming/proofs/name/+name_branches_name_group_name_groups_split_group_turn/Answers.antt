@@ -20,7 +20,8 @@ use Rattle.naming.specs.NameSteps.{tree_atoms, tree_none, connected, homeless_no
 use Rattle.branches.specs.Layout.{work_words}
 use Prim.Native.Nat.{ℕ}
 use Rattle.trees.specs.Grouping.{tops as heads, counts as sizes}
-use Rattle.trees.specs.ChildLaws.{top_at, count_at, counts_long}
+use Rattle.trees.specs.ChildLaws.{top_read, count_read, counts_long}
+use Rattle.std.proofs.Common.{length-take-le}
 use Rattle.naming.proofs.name.+name_branches_name_group_name_groups_split_group_turn.Goals as goal
 
 pub name_branches-returns-in_default-clause-reduced_by : goal.name_branches-returns-in_default-clause-reduced_by
@@ -177,8 +178,8 @@ name_groups-overflow_sub-p t c =
     let q : groups ≤ length counts = omega (arith, c.requires.1, counts_long c.args.children.now.each) in
     let e : the-behind.result ≡ sum (take groups counts) = the-behind.ensures in omega (arith, e, sum_fits w0 tops counts base count groups root keep s c.requires.0.groups c.requires.0.laid q)
 
-pub name_groups-loop-g-init : goal.name_groups-loop-g-init
-name_groups-loop-g-init t c =
+pub name_groups-loop-child-init : goal.name_groups-loop-child-init
+name_groups-loop-child-init t c =
     let the-behind = c.behind in
     let w0 = words c.args.scratch.now in
     let tops = heads c.args.children.now.each in
@@ -194,8 +195,8 @@ name_groups-loop-g-init t c =
 
 pub name_groups-turn-requires : goal.name_groups-turn-requires
 name_groups-turn-requires t c =
-    let the-loop = c.loop-g in
-    let the-loop-test = c.loop-g-test in
+    let the-loop = c.loop-child in
+    let h : c.loop-child.child-index < c.args.children.now.len = omega (arith, c.loop-child-test.true, length-take-le c.args.children.now.len c.args.children.now.each c.requires.1) in
     let count = c.args.atoms.count in
     let w0 = words c.args.scratch.now in
     let tops = heads c.args.children.now.each in
@@ -208,12 +209,12 @@ name_groups-turn-requires t c =
     let room : work_words ≤ length w0 = omega (arith, c.requires.8, length_words c.args.scratch.now) in
     let w1 = words the-loop.scratch in
     let mt : 5 * count + 3 ≡ t = c.decreases in
-    (omega (arith, mt, child_most w0 tops counts base count groups root keep s c.requires.3 c.requires.4 c.requires.2 c.requires.6 c.requires.0 c.requires.5 c.requires.7 room w1 the-loop.reached.naming the-loop.reached.any the-loop.p the-loop.reached.end the-loop.g the-loop.invariant.1 the-loop-test.true _ _ (sym (count_at c.args.children.now.each the-loop.g)) (sym (top_at c.args.children.now.each the-loop.g))), (walk_standing w0 tops counts base count groups root keep s c.requires.3 c.requires.4 c.requires.2 c.requires.6 c.requires.0 c.requires.5 c.requires.7 room w1 the-loop.reached.naming the-loop.reached.any the-loop.p the-loop.reached.end the-loop.g the-loop.invariant.1 the-loop-test.true _ _ (sym (count_at c.args.children.now.each the-loop.g)) (sym (top_at c.args.children.now.each the-loop.g)), c.requires.7, omega (arith, the-loop.invariant.0, c.requires.8)))
+    (omega (arith, mt, child_most w0 tops counts base count groups root keep s c.requires.3 c.requires.4 c.requires.2 c.requires.6 c.requires.0 c.requires.5 c.requires.7 room w1 the-loop.reached.naming the-loop.reached.any the-loop.p the-loop.reached.end the-loop.child-index the-loop.invariant.1 h _ _ (count_read c.args.children.now.each c.args.children.now.len the-loop.child-index h) (top_read c.args.children.now.each c.args.children.now.len the-loop.child-index h)), (walk_standing w0 tops counts base count groups root keep s c.requires.3 c.requires.4 c.requires.2 c.requires.6 c.requires.0 c.requires.5 c.requires.7 room w1 the-loop.reached.naming the-loop.reached.any the-loop.p the-loop.reached.end the-loop.child-index the-loop.invariant.1 h _ _ (count_read c.args.children.now.each c.args.children.now.len the-loop.child-index h) (top_read c.args.children.now.each c.args.children.now.len the-loop.child-index h), c.requires.7, omega (arith, the-loop.invariant.0, c.requires.8)))
 
 pub name_groups-returns-in_err-reached-clause-reduced_by : goal.name_groups-returns-in_err-reached-clause-reduced_by
 name_groups-returns-in_err-reached-clause-reduced_by t c =
-    let the-loop = c.loop-g in
-    let the-loop-test = c.loop-g-test in
+    let the-loop = c.loop-child in
+    let h : c.loop-child.child-index < c.args.children.now.len = omega (arith, c.loop-child-test.true, length-take-le c.args.children.now.len c.args.children.now.each c.requires.1) in
     let the-turn = c.turn in
     let w0 = words c.args.scratch.now in
     let tops = heads c.args.children.now.each in
@@ -228,12 +229,12 @@ name_groups-returns-in_err-reached-clause-reduced_by t c =
     let w1 = words the-loop.scratch in
     let w2 = words the-turn.new.scratch in
     let back = err_from_is_err_and c.from_residual.result c.from_residual.ensures.1 in
-    rw (back.1, back.2) (walk_stop w0 tops counts base count groups root keep s c.requires.3 c.requires.4 c.requires.2 c.requires.6 c.requires.0 c.requires.5 c.requires.7 room w1 the-loop.reached.naming the-loop.reached.any the-loop.p the-loop.reached.end the-loop.g the-loop.invariant.1 the-loop-test.true _ _ (sym (count_at c.args.children.now.each the-loop.g)) (sym (top_at c.args.children.now.each the-loop.g)) w2 (same_words_lem c.args.scratch.now the-loop.scratch the-loop.invariant.0) the-turn.result the-turn.ensures.fact the-turn.ensures.fact_2 _ c.in_err-reached.was)
+    rw (back.1, back.2) (walk_stop w0 tops counts base count groups root keep s c.requires.3 c.requires.4 c.requires.2 c.requires.6 c.requires.0 c.requires.5 c.requires.7 room w1 the-loop.reached.naming the-loop.reached.any the-loop.p the-loop.reached.end the-loop.child-index the-loop.invariant.1 h _ _ (count_read c.args.children.now.each c.args.children.now.len the-loop.child-index h) (top_read c.args.children.now.each c.args.children.now.len the-loop.child-index h) w2 (same_words_lem c.args.scratch.now the-loop.scratch the-loop.invariant.0) the-turn.result the-turn.ensures.fact the-turn.ensures.fact_2 _ c.in_err-reached.was)
 
 pub name_groups-returns-in_err-reached-clause-only_names : goal.name_groups-returns-in_err-reached-clause-only_names
 name_groups-returns-in_err-reached-clause-only_names t c =
-    let the-loop = c.loop-g in
-    let the-loop-test = c.loop-g-test in
+    let the-loop = c.loop-child in
+    let h : c.loop-child.child-index < c.args.children.now.len = omega (arith, c.loop-child-test.true, length-take-le c.args.children.now.len c.args.children.now.each c.requires.1) in
     let the-turn = c.turn in
     let w0 = words c.args.scratch.now in
     let tops = heads c.args.children.now.each in
@@ -247,12 +248,12 @@ name_groups-returns-in_err-reached-clause-only_names t c =
     let room : work_words ≤ length w0 = omega (arith, c.requires.8, length_words c.args.scratch.now) in
     let w1 = words the-loop.scratch in
     let w2 = words the-turn.new.scratch in
-    walk_only w0 tops counts base count groups root keep s c.requires.3 c.requires.4 c.requires.2 c.requires.6 c.requires.0 c.requires.5 c.requires.7 room w1 the-loop.reached.naming the-loop.reached.any the-loop.p the-loop.reached.end the-loop.g the-loop.invariant.1 the-loop-test.true _ _ (sym (count_at c.args.children.now.each the-loop.g)) (sym (top_at c.args.children.now.each the-loop.g)) w2 (same_words_lem c.args.scratch.now the-loop.scratch the-loop.invariant.0) the-turn.result the-turn.ensures.fact the-turn.ensures.fact_2
+    walk_only w0 tops counts base count groups root keep s c.requires.3 c.requires.4 c.requires.2 c.requires.6 c.requires.0 c.requires.5 c.requires.7 room w1 the-loop.reached.naming the-loop.reached.any the-loop.p the-loop.reached.end the-loop.child-index the-loop.invariant.1 h _ _ (count_read c.args.children.now.each c.args.children.now.len the-loop.child-index h) (top_read c.args.children.now.each c.args.children.now.len the-loop.child-index h) w2 (same_words_lem c.args.scratch.now the-loop.scratch the-loop.invariant.0) the-turn.result the-turn.ensures.fact the-turn.ensures.fact_2
 
-pub name_groups-overflow_add-p-in-loop-g : goal.name_groups-overflow_add-p-in-loop-g
-name_groups-overflow_add-p-in-loop-g t c =
-    let the-loop = c.loop-g in
-    let the-loop-test = c.loop-g-test in
+pub name_groups-overflow_add-p-in-loop-child : goal.name_groups-overflow_add-p-in-loop-child
+name_groups-overflow_add-p-in-loop-child t c =
+    let the-loop = c.loop-child in
+    let h : c.loop-child.child-index < c.args.children.now.len = omega (arith, c.loop-child-test.true, length-take-le c.args.children.now.len c.args.children.now.each c.requires.1) in
     let w0 = words c.args.scratch.now in
     let tops = heads c.args.children.now.each in
     let counts = sizes c.args.children.now.each in
@@ -264,12 +265,12 @@ name_groups-overflow_add-p-in-loop-g t c =
     let s = c.args.s in
     let room : work_words ≤ length w0 = omega (arith, c.requires.8, length_words c.args.scratch.now) in
     let w1 = words the-loop.scratch in
-    omega (arith, walk_child w0 tops counts base count groups root keep s c.requires.3 c.requires.4 c.requires.2 c.requires.6 c.requires.0 c.requires.5 c.requires.7 room w1 the-loop.reached.naming the-loop.reached.any the-loop.p the-loop.reached.end the-loop.g the-loop.invariant.1 the-loop-test.true _ _ (sym (count_at c.args.children.now.each the-loop.g)) (sym (top_at c.args.children.now.each the-loop.g)), c.requires.4)
+    omega (arith, walk_child w0 tops counts base count groups root keep s c.requires.3 c.requires.4 c.requires.2 c.requires.6 c.requires.0 c.requires.5 c.requires.7 room w1 the-loop.reached.naming the-loop.reached.any the-loop.p the-loop.reached.end the-loop.child-index the-loop.invariant.1 h _ _ (count_read c.args.children.now.each c.args.children.now.len the-loop.child-index h) (top_read c.args.children.now.each c.args.children.now.len the-loop.child-index h), c.requires.4)
 
-pub name_groups-loop-g-preserved : goal.name_groups-loop-g-preserved
-name_groups-loop-g-preserved t c =
-    let the-loop = c.loop-g in
-    let the-loop-test = c.loop-g-test in
+pub name_groups-loop-child-preserved : goal.name_groups-loop-child-preserved
+name_groups-loop-child-preserved t c =
+    let the-loop = c.loop-child in
+    let h : c.loop-child.child-index < c.args.children.now.len = omega (arith, c.loop-child-test.true, length-take-le c.args.children.now.len c.args.children.now.each c.requires.1) in
     let the-turn = c.turn in
     let w0 = words c.args.scratch.now in
     let tops = heads c.args.children.now.each in
@@ -283,11 +284,11 @@ name_groups-loop-g-preserved t c =
     let room : work_words ≤ length w0 = omega (arith, c.requires.8, length_words c.args.scratch.now) in
     let w1 = words the-loop.scratch in
     let w2 = words the-turn.new.scratch in
-    (the-turn.auto.scratch ∙ the-loop.invariant.0, walk_next w0 tops counts base count groups root keep s c.requires.3 c.requires.4 c.requires.2 c.requires.6 c.requires.0 c.requires.5 c.requires.7 room w1 the-loop.reached.naming the-loop.reached.any the-loop.p the-loop.reached.end the-loop.g the-loop.invariant.1 the-loop-test.true _ _ (sym (count_at c.args.children.now.each the-loop.g)) (sym (top_at c.args.children.now.each the-loop.g)) w2 (same_words_lem c.args.scratch.now the-loop.scratch the-loop.invariant.0) the-turn.result the-turn.ensures.fact the-turn.ensures.fact_2 _ c.in_ok-reached.was)
+    (the-turn.auto.scratch ∙ the-loop.invariant.0, walk_next w0 tops counts base count groups root keep s c.requires.3 c.requires.4 c.requires.2 c.requires.6 c.requires.0 c.requires.5 c.requires.7 room w1 the-loop.reached.naming the-loop.reached.any the-loop.p the-loop.reached.end the-loop.child-index the-loop.invariant.1 h _ _ (count_read c.args.children.now.each c.args.children.now.len the-loop.child-index h) (top_read c.args.children.now.each c.args.children.now.len the-loop.child-index h) w2 (same_words_lem c.args.scratch.now the-loop.scratch the-loop.invariant.0) the-turn.result the-turn.ensures.fact the-turn.ensures.fact_2 _ c.in_ok-reached.was)
 
 pub name_groups-overflow_sub-result : goal.name_groups-overflow_sub-result
 name_groups-overflow_sub-result t c =
-    let the-loop = c.loop-g in
+    let the-loop = c.loop-child in
     let w0 = words c.args.scratch.now in
     let tops = heads c.args.children.now.each in
     let counts = sizes c.args.children.now.each in
@@ -299,11 +300,11 @@ name_groups-overflow_sub-result t c =
     let s = c.args.s in
     let room : work_words ≤ length w0 = omega (arith, c.requires.8, length_words c.args.scratch.now) in
     let w1 = words the-loop.scratch in
-    omega (arith, walk_low w0 tops counts base count groups root keep s c.requires.3 c.requires.4 c.requires.2 c.requires.6 c.requires.0 c.requires.5 c.requires.7 room w1 the-loop.reached.naming the-loop.reached.any the-loop.p the-loop.reached.end the-loop.g the-loop.invariant.1)
+    omega (arith, walk_low w0 tops counts base count groups root keep s c.requires.3 c.requires.4 c.requires.2 c.requires.6 c.requires.0 c.requires.5 c.requires.7 room w1 the-loop.reached.naming the-loop.reached.any the-loop.p the-loop.reached.end the-loop.child-index the-loop.invariant.1)
 
 pub name_groups-overflow_cast-result : goal.name_groups-overflow_cast-result
 name_groups-overflow_cast-result t c =
-    let the-loop = c.loop-g in
+    let the-loop = c.loop-child in
     let w0 = words c.args.scratch.now in
     let tops = heads c.args.children.now.each in
     let counts = sizes c.args.children.now.each in
@@ -315,12 +316,12 @@ name_groups-overflow_cast-result t c =
     let s = c.args.s in
     let room : work_words ≤ length w0 = omega (arith, c.requires.8, length_words c.args.scratch.now) in
     let w1 = words the-loop.scratch in
-    omega (arith, walk_low w0 tops counts base count groups root keep s c.requires.3 c.requires.4 c.requires.2 c.requires.6 c.requires.0 c.requires.5 c.requires.7 room w1 the-loop.reached.naming the-loop.reached.any the-loop.p the-loop.reached.end the-loop.g the-loop.invariant.1, walk_high w0 tops counts base count groups root keep s c.requires.3 c.requires.4 c.requires.2 c.requires.6 c.requires.0 c.requires.5 c.requires.7 room w1 the-loop.reached.naming the-loop.reached.any the-loop.p the-loop.reached.end the-loop.g the-loop.invariant.1, the-loop.invariant.1.below, c.requires.2)
+    omega (arith, walk_low w0 tops counts base count groups root keep s c.requires.3 c.requires.4 c.requires.2 c.requires.6 c.requires.0 c.requires.5 c.requires.7 room w1 the-loop.reached.naming the-loop.reached.any the-loop.p the-loop.reached.end the-loop.child-index the-loop.invariant.1, walk_high w0 tops counts base count groups root keep s c.requires.3 c.requires.4 c.requires.2 c.requires.6 c.requires.0 c.requires.5 c.requires.7 room w1 the-loop.reached.naming the-loop.reached.any the-loop.p the-loop.reached.end the-loop.child-index the-loop.invariant.1, the-loop.invariant.1.below, c.requires.2)
 
 pub name_groups-returns-clause-reduced_by : goal.name_groups-returns-clause-reduced_by
 name_groups-returns-clause-reduced_by t c =
-    let the-loop = c.loop-g in
-    let the-loop-test = c.loop-g-test in
+    let the-loop = c.loop-child in
+    let over : c.args.children.now.len ≤ c.loop-child.child-index = omega (arith, c.loop-child-test.false, length-take-le c.args.children.now.len c.args.children.now.each c.requires.1) in
     let the-if1 = c.if-reached in
     let w0 = words c.args.scratch.now in
     let tops = heads c.args.children.now.each in
@@ -332,12 +333,12 @@ name_groups-returns-clause-reduced_by t c =
     let keep = c.args.keep in
     let s = c.args.s in
     let w1 = words the-loop.scratch in
-    λ g z kept f L H K k. left_none w0 tops counts base count groups root keep s w1 the-loop.reached.naming the-loop.reached.any the-loop.p the-loop.reached.end the-loop.g the-loop.invariant.1 g L the-loop-test.false z kept f (the-loop.invariant.1.left g z kept f L H K k) the-if1.false
+    λ g z kept f L H K k. left_none w0 tops counts base count groups root keep s w1 the-loop.reached.naming the-loop.reached.any the-loop.p the-loop.reached.end the-loop.child-index the-loop.invariant.1 g L over z kept f (the-loop.invariant.1.left g z kept f L H K k) the-if1.false
 
 pub name_groups-returns-then-reached-clause-reduced_by : goal.name_groups-returns-then-reached-clause-reduced_by
 name_groups-returns-then-reached-clause-reduced_by t c =
-    let the-loop = c.loop-g in
-    let the-loop-test = c.loop-g-test in
+    let the-loop = c.loop-child in
+    let over : c.args.children.now.len ≤ c.loop-child.child-index = omega (arith, c.loop-child-test.false, length-take-le c.args.children.now.len c.args.children.now.each c.requires.1) in
     let the-if1 = c.if-reached in
     let w0 = words c.args.scratch.now in
     let tops = heads c.args.children.now.each in
@@ -349,7 +350,7 @@ name_groups-returns-then-reached-clause-reduced_by t c =
     let keep = c.args.keep in
     let s = c.args.s in
     let w1 = words the-loop.scratch in
-    λ g z kept f L H K k. left_some w0 tops counts base count groups root keep s w1 the-loop.reached.naming the-loop.reached.any the-loop.p the-loop.reached.end the-loop.g the-loop.invariant.1 g L the-loop-test.false z kept f (the-loop.invariant.1.left g z kept f L H K k) the-if1.true
+    λ g z kept f L H K k. left_some w0 tops counts base count groups root keep s w1 the-loop.reached.naming the-loop.reached.any the-loop.p the-loop.reached.end the-loop.child-index the-loop.invariant.1 g L over z kept f (the-loop.invariant.1.left g z kept f L H K k) the-if1.true
 
 pub split_group-returns-then-not-is_wide-clause-split_by : goal.split_group-returns-then-not-is_wide-clause-split_by
 split_group-returns-then-not-is_wide-clause-split_by t c =
@@ -562,7 +563,12 @@ turn-returns-clause-fact t c =
     let any = c.args.reached.any in
     λ base count result group rest z kept f D K k. call_turned w0 w1 base count q p size result group rest s z D long1 the-name-group.ensures.only_names w2 room _ _ root the-put-atom.ensures f top any kept (sym (the-mentions-kept.ensures group kept (child_are w0 base count q p size result group rest s z D) K) ∙ the-if1.false) (c.in_ok-naming.ensures.called_by group z f (child_are w0 base count q p size result group rest s z D) D.held k)
 
-pub name_groups-offset_bounds-children-g : goal.name_groups-offset_bounds-children-g
-name_groups-offset_bounds-children-g t c =
+pub name_groups-shared_ref_as_front-child-items : goal.name_groups-shared_ref_as_front-child-items
+name_groups-shared_ref_as_front-child-items t c =
     let l = c.args.children.now in
-    omega (arith, laid_few (words c.args.scratch.now) (heads l.each) (sizes l.each) c.args.atoms.base c.args.atoms.count l.len c.requires.0.groups c.requires.0.laid, c.requires.2, c.loop-g-test.true)
+    omega (arith, laid_few (words c.args.scratch.now) (heads l.each) (sizes l.each) c.args.atoms.base c.args.atoms.count l.len c.requires.0.groups c.requires.0.laid, c.requires.2)
+
+pub name_groups-offset_bounds-child-items-child-index : goal.name_groups-offset_bounds-child-items-child-index
+name_groups-offset_bounds-child-items-child-index t c =
+    let l = c.args.children.now in
+    omega (arith, laid_few (words c.args.scratch.now) (heads l.each) (sizes l.each) c.args.atoms.base c.args.atoms.count l.len c.requires.0.groups c.requires.0.laid, c.requires.2, c.loop-child-test.true, length-take-le l.len l.each c.requires.1)

@@ -19,5 +19,5 @@ decreases-split_group l = 5 * l.atoms.count
 abbrev pub decreases-turn : goal.decreases-turn
 decreases-turn l = 5 * l.child.count + 2
 
-abbrev pub invariant-name_groups-loop-g : goal.invariant-name_groups-loop-g
-invariant-name_groups-loop-g l = (length l.scratch ≡ length l.initial.scratch) × Walk (words l.initial.scratch) (tops l.children.each) (counts l.children.each) l.fn.atoms.base l.fn.atoms.count l.children.len l.root l.keep l.initial.reached.naming (words l.scratch) l.reached.naming l.reached.any l.p l.reached.end l.g
+abbrev pub invariant-name_groups-loop-child : goal.invariant-name_groups-loop-child
+invariant-name_groups-loop-child l = (length l.scratch ≡ length l.initial.scratch) × Walk (words l.initial.scratch) (tops l.children.each) (counts l.children.each) l.fn.atoms.base l.fn.atoms.count l.children.len l.root l.keep l.initial.reached.naming (words l.scratch) l.reached.naming l.reached.any l.p l.reached.end l.child-index
