@@ -62,7 +62,7 @@ fn along(scratch: &mut [u8], a: u32, b: u32, size: u32) -> u32
     insert(scratch, b, size)
 }
 
-// The edges from role a to each other of the `count` role codes from `at` on.
+// The edges from role a to each other of the `count` role codes from `at` on, which are no slice: scratch is written meanwhile.
 fn edges_from(scratch: &mut [u8], a: u32, at: usize, count: u32, size: u32) -> u32
     requires { Ready scratch.old size × (a < most_roles) × Codes (words scratch.old) at count }
     ensures { Step (words scratch.old) (words scratch.new) size result (edges_to (words scratch.old) a at count) }

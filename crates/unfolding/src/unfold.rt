@@ -111,7 +111,7 @@ pub fn apply_reflexive_roles(lent: &mut Tables<'_>, scratch: &mut [u8]) -> Resul
     let mut left = originals;
     let mut queued: u32 = 0;
     // the queue grows while it is emptied
-    while 0 < left + queued {
+    'unfolding: while 0 < left + queued {
         let c = if 0 < queued {
             queued -= 1;
             words::get_word(scratch, QUEUE + queued as usize)
@@ -122,7 +122,7 @@ pub fn apply_reflexive_roles(lent: &mut Tables<'_>, scratch: &mut [u8]) -> Resul
         let clauses = &mut *lent.clauses;
         for i in 0..read::body_count(clauses, c) {
             let Some(more) = unfold_at(lent, scratch, originals, queued, c, i)? else {
-                return Ok(());
+                break 'unfolding;
             };
             queued = more;
         }
