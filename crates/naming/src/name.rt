@@ -100,11 +100,8 @@ fn turn(
     let q = reached.end;
     if edges::mentions_kept(scratch, child, keep) {
         words::move_words(scratch, 6 * child.base, 6 * q, 6 * (child.count as usize));
-        return Ok(Reached {
-            naming: reached.naming,
-            end: q + child.count as usize,
-            any: reached.any,
-        });
+        let end = q + child.count as usize;
+        return Ok(Reached { end, ..reached });
     }
     let (naming, e) = name_group(scratch, reached.naming, child, root, t)?;
     record::put_atom(scratch, q, Atom::Class(e, root));
