@@ -2,7 +2,7 @@
 ghost use Rattle.std.specs.Prelude.{◌≤◌, length};
 
 // The number behind what is written, where there is room; where it ends.
-pub fn put(out: &mut [u8], at: usize, number: u32) -> usize {
+fn put(out: &mut [u8], at: usize, number: u32) -> usize {
     if out.len() < 11 {
         return at;
     }
@@ -19,40 +19,34 @@ fn end(out: &mut [u8], at: usize) -> usize {
     rows::end_line(out, at)
 }
 
-fn two(out: &mut [u8], at: usize, a: u32, b: u32) -> usize {
-    let p = put(out, at, a);
-    let q = put(out, p, b);
-    end(out, q)
-}
-
-pub fn three(out: &mut [u8], at: usize, a: u32, b: u32, c: u32) -> usize {
-    let p = put(out, at, a);
-    two(out, p, b, c)
+// Numbers as a line, as far as there is room.
+pub fn line(out: &mut [u8], at: usize, numbers: &[u32]) -> usize {
+    let mut p = at;
+    for number in numbers {
+        p = put(out, p, *number);
+    }
+    end(out, p)
 }
 
 // No individuals.
 fn header(out: &mut [u8], classes: u32, roles: u32, options: u32) -> usize {
-    let p = put(out, 0, 0);
-    let q = put(out, p, classes);
-    three(out, q, 0, roles, options)
+    line(out, 0, &[0, classes, 0, roles, options])
 }
 
 // Class i; role 0 some concept i; concept i below b.
-fn line(out: &mut [u8], at: usize, kind: u32, i: u32, b: u32) -> usize {
+fn concept(out: &mut [u8], at: usize, kind: u32, i: u32, b: u32) -> usize {
     match kind {
-        3 => two(out, at, 3, i),
-        9 => three(out, at, 9, 0, i),
-        _ => three(out, at, 21, i, b),
+        3 => line(out, at, &[3, i]),
+        9 => line(out, at, &[9, 0, i]),
+        _ => line(out, at, &[21, i, b]),
     }
 }
 
 // Such lines for each i from `from` on, below `to`.
 fn lines(out: &mut [u8], at: usize, kind: u32, from: u32, to: u32, b: u32) -> usize {
     let mut p = at;
-    let mut i = from;
-    while i < to {
-        p = line(out, p, kind, i, b);
-        i += 1;
+    for i in from..to {
+        p = concept(out, p, kind, i, b);
     }
     p
 }
@@ -60,10 +54,8 @@ fn lines(out: &mut [u8], at: usize, kind: u32, from: u32, to: u32, b: u32) -> us
 // And (7) or Or (8) of the concepts from `from` on, below `to`.
 fn list(out: &mut [u8], at: usize, kind: u32, from: u32, to: u32) -> usize {
     let mut p = put(out, at, kind);
-    let mut i = from;
-    while i < to {
+    for i in from..to {
         p = put(out, p, i);
-        i += 1;
     }
     end(out, p)
 }
@@ -75,7 +67,7 @@ fn or_of(out: &mut [u8], n: u32) -> usize
     let p = header(out, n + 1, 0, 2);
     let q = lines(out, p, 3, 0, n + 1, 0);
     let r = list(out, q, 8, 0, n);
-    three(out, r, 21, n + 1, n)
+    line(out, r, &[21, n + 1, n])
 }
 
 // An And of two Ors of n classes below a class.
@@ -87,7 +79,7 @@ fn and_of_ors(out: &mut [u8], n: u32) -> usize
     let r = list(out, q, 8, 0, n);
     let s = list(out, r, 8, n, 2 * n);
     let t = list(out, s, 7, 2 * n + 1, 2 * n + 3);
-    three(out, t, 21, 2 * n + 3, 2 * n)
+    line(out, t, &[21, 2 * n + 3, 2 * n])
 }
 
 // n classes and one more, Some over each of the n, the And of the first m of these.
@@ -105,7 +97,7 @@ fn and_of_somes(out: &mut [u8], n: u32) -> usize
     requires { n ≤ 64 }
 {
     let p = somes(out, n, n, 3);
-    three(out, p, 21, 2 * n + 1, n)
+    line(out, p, &[21, 2 * n + 1, n])
 }
 
 // The same for twelve over a reflexive role, without option 1; behind that `more` Somes, each below the class, and `before` of
@@ -115,9 +107,9 @@ fn unfolding(out: &mut [u8], before: u32, more: u32) -> usize
 {
     let n = 12 + more;
     let p = somes(out, n, 12, 2);
-    let q = two(out, p, 35, 0);
+    let q = line(out, p, &[35, 0]);
     let r = lines(out, q, 21, n + 13, n + 13 + before, n);
-    let s = three(out, r, 21, 2 * n + 1, n);
+    let s = line(out, r, &[21, 2 * n + 1, n]);
     lines(out, s, 21, n + 13, n + 13 + more, n)
 }
 

@@ -3,9 +3,6 @@ ghost use Rattle.std.specs.Prelude.{◌≤◌, ◌<◌};
 
 use tables::read;
 
-// In place of a clause's number: it is none of those that are due.
-const OTHER: u32 = 5000;
-
 // Word i, 0 past the end.
 pub fn word(t: &[u8], i: usize) -> u32 {
     if i < t.len() / 4 {
@@ -45,21 +42,21 @@ fn is_some(atoms: &[u8], first: u32, j: u32, class: u32, variable: u32) -> bool
 
 // A clause's record: its first atom, and the numbers of body and head atoms; zeros past the end.
 #[derive(Clone, Copy)]
-struct Numbers {
+struct Record {
     first: u32,
     body: u32,
     head: u32,
 }
 
-fn clause(clauses: &[u8], c: u32) -> Numbers {
+fn clause(clauses: &[u8], c: u32) -> Record {
     if (c as usize) < read::clause_room(clauses) {
-        return Numbers {
+        return Record {
             first: read::first_atom(clauses, c),
             body: read::body_count(clauses, c),
             head: read::head_count(clauses, c),
         };
     }
-    Numbers {
+    Record {
         first: 0,
         body: 0,
         head: 0,
@@ -67,7 +64,7 @@ fn clause(clauses: &[u8], c: u32) -> Numbers {
 }
 
 // a(X) → b(X).
-fn is_plain(atoms: &[u8], k: Numbers, a: u32, b: u32) -> bool {
+fn is_plain(atoms: &[u8], k: Record, a: u32, b: u32) -> bool {
     k.body == 1
         && k.head == 1
         && is_class(atoms, k.first, 0, a, 0)
@@ -75,7 +72,7 @@ fn is_plain(atoms: &[u8], k: Numbers, a: u32, b: u32) -> bool {
 }
 
 // a(X) b(X) → c(X).
-fn is_double(atoms: &[u8], k: Numbers, a: u32, b: u32, c: u32) -> bool {
+fn is_double(atoms: &[u8], k: Record, a: u32, b: u32, c: u32) -> bool {
     k.body == 2
         && k.head == 1
         && is_class(atoms, k.first, 0, a, 0)
@@ -84,7 +81,7 @@ fn is_double(atoms: &[u8], k: Numbers, a: u32, b: u32, c: u32) -> bool {
 }
 
 // r(X,1) a(1) → b(X).
-fn is_named(atoms: &[u8], k: Numbers, a: u32, b: u32) -> bool {
+fn is_named(atoms: &[u8], k: Record, a: u32, b: u32) -> bool {
     k.body == 2
         && k.head == 1
         && is_some(atoms, k.first, 0, a, 1)
@@ -92,7 +89,7 @@ fn is_named(atoms: &[u8], k: Numbers, a: u32, b: u32) -> bool {
 }
 
 // a(X) b(X) → nothing.
-fn is_clash(atoms: &[u8], k: Numbers, a: u32, b: u32) -> bool {
+fn is_clash(atoms: &[u8], k: Record, a: u32, b: u32) -> bool {
     k.body == 2
         && k.head == 0
         && is_class(atoms, k.first, 0, a, 0)
@@ -100,7 +97,7 @@ fn is_clash(atoms: &[u8], k: Numbers, a: u32, b: u32) -> bool {
 }
 
 // Nothing → a(X) b(X).
-fn is_choice(atoms: &[u8], k: Numbers, a: u32, b: u32) -> bool {
+fn is_choice(atoms: &[u8], k: Record, a: u32, b: u32) -> bool {
     k.body == 0
         && k.head == 2
         && is_class(atoms, k.first, 0, a, 0)
@@ -115,112 +112,91 @@ struct Walk {
 }
 
 // Some number i over the class: r(X, i + 1) and the class of i + 1, or, unfolded, the class of X.
-fn step(atoms: &[u8], first: u32, i: u32, class: u32, w: Walk) -> Walk {
-    let other = Walk {
-        atoms: OTHER,
-        bits: OTHER,
-    };
-    if 2048 <= w.bits {
-        return other;
-    }
-    if 1000 <= w.atoms {
-        return other;
-    }
-    if 1000 <= i {
-        return other;
+fn step(atoms: &[u8], first: u32, i: u32, class: u32, w: Walk) -> Option<Walk> {
+    if 2048 <= w.bits || 1000 <= w.atoms || 1000 <= i {
+        return None;
     }
     if is_class(atoms, first, w.atoms, class, 0) {
-        return Walk {
+        return Some(Walk {
             atoms: w.atoms + 1,
             bits: 2 * w.bits + 1,
-        };
+        });
     }
     if is_some(atoms, first, w.atoms, class, i + 1) {
-        return Walk {
+        return Some(Walk {
             atoms: w.atoms + 2,
             bits: 2 * w.bits,
-        };
+        });
     }
-    other
+    None
 }
 
 // The bits of a body of n Somes over the classes from a on, with b(X) as head.
-fn bits(atoms: &[u8], k: Numbers, a: u32, n: u32, b: u32) -> u32
+fn bits(atoms: &[u8], k: Record, a: u32, n: u32, b: u32) -> Option<u32>
     requires { (a ≤ 1000) × (n ≤ 1000) }
 {
     let mut w = Walk { atoms: 0, bits: 0 };
-    let mut i: u32 = 0;
-    while i < n {
-        w = step(atoms, k.first, i, a + i, w);
-        i += 1;
+    for i in 0..n {
+        w = step(atoms, k.first, i, a + i, w)?;
     }
     if w.atoms == k.body && k.head == 1 && is_class(atoms, k.first, w.atoms, b, 0) {
-        return w.bits;
+        return Some(w.bits);
     }
-    OTHER
+    None
 }
 
 // Class i's own clause r(X,1) i(1) → b(X), or what it unfolds to, i(X) → b(X).
-fn single(atoms: &[u8], k: Numbers, i: u32, b: u32) -> u32
+fn single(atoms: &[u8], k: Record, i: u32, b: u32) -> Option<u32>
     requires { i ≤ 100 }
 {
     if i < b && is_named(atoms, k, i, b) {
-        return 4096 + 2 * i;
+        return Some(4096 + 2 * i);
     }
     if i < b && is_plain(atoms, k, i, b) {
-        return 4097 + 2 * i;
+        return Some(4097 + 2 * i);
     }
-    OTHER
+    None
 }
 
 // Of twelve Somes below b, unfolded or not, and of the single ones behind them: a number of its own for each clause.
-fn unfolded(atoms: &[u8], k: Numbers, b: u32) -> u32 {
-    let m = bits(atoms, k, 0, 12, b);
-    if m < 4096 {
-        return m;
+fn unfolded(atoms: &[u8], k: Record, b: u32) -> Option<u32> {
+    if let Some(m) = bits(atoms, k, 0, 12, b) {
+        return Some(m);
     }
-    let s = single(atoms, k, 12, b);
-    if s < OTHER {
-        return s;
+    for i in 12..15 {
+        if let Some(s) = single(atoms, k, i, b) {
+            return Some(s);
+        }
     }
-    let t = single(atoms, k, 13, b);
-    if t < OTHER {
-        return t;
-    }
-    single(atoms, k, 14, b)
+    None
 }
 
 // Clause c is what is due there.
-fn is_due(atoms: &[u8], k: Numbers, case: u32, c: u32) -> bool
+fn is_due(atoms: &[u8], k: Record, case: u32, c: u32) -> bool
     requires { c ≤ 65536 }
 {
     match case {
         1 => is_plain(atoms, k, c, 64),
         2 => (c < 65 && is_clash(atoms, k, 66, c)) || (c == 65 && is_choice(atoms, k, 65, 66)),
         3 => is_double(atoms, k, c / 8, 8 + c % 8, 16),
-        5 => bits(atoms, k, 0, 7, 7) == 0,
-        6 => (c == 0 && bits(atoms, k, 9, 8, 8) == 255)
+        5 => bits(atoms, k, 0, 7, 7) == Some(0),
+        6 => (c == 0 && bits(atoms, k, 9, 8, 8) == Some(255))
             || (0 < c && is_named(atoms, k, c - 1, c + 8)),
         _ => false,
     }
 }
 
 // Which of the clauses that are due clause c is.
-fn due(clauses: &[u8], atoms: &[u8], case: u32, c: u32) -> u32 {
+fn due(clauses: &[u8], atoms: &[u8], case: u32, c: u32) -> Option<u32> {
     if 65536 < c {
-        return OTHER;
+        return None;
     }
     let k = clause(clauses, c);
-    if case == 7 || case == 8 {
-        return unfolded(atoms, k, 13);
+    match case {
+        7 | 8 => unfolded(atoms, k, 13),
+        9 => unfolded(atoms, k, 15),
+        _ => is_due(atoms, k, case, c).then_some(c),
     }
-    if case == 9 {
-        return unfolded(atoms, k, 15);
-    }
-    if is_due(atoms, k, case, c) {
-        return c;
-    }
-    OTHER
 }
 
 // 1 where it was not met before.
@@ -238,10 +214,10 @@ fn mark(met: &mut [u8], i: u32) -> u32
 // How many different clauses that are due are among the first n.
 pub fn count(clauses: &[u8], atoms: &[u8], case: u32, n: u32, met: &mut [u8]) -> u32 {
     let mut sum: u32 = 0;
-    let mut c: u32 = 0;
-    while c < n {
-        sum += mark(met, due(clauses, atoms, case, c));
-        c += 1;
+    for c in 0..n {
+        if let Some(i) = due(clauses, atoms, case, c) {
+            sum += mark(met, i);
+        }
     }
     sum
 }

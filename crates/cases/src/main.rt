@@ -14,48 +14,10 @@
 mod decks;
 mod forms;
 
-ghost use Rattle.std.specs.Prelude.{◌≡◌, ◌≤◌, length};
+ghost use Rattle.std.specs.Prelude.{◌≤◌, length};
 
-use clausify::Reply;
-use statistics::ClauseStats;
+use clausify::numbers::Numbers;
 use std::io;
-
-fn deck_space() -> [u8; 4096]
-    ensures { 4096 ≡ length result }
-{
-    [0; 4096]
-}
-
-fn scratch_space() -> [u8; 1572864]
-    ensures { 1572864 ≡ length result }
-{
-    [0; 1572864]
-}
-
-// 4,200 clauses, 80,000 atoms, 16 deferrals.
-fn clause_space() -> [u8; 50400]
-    ensures { 50400 ≡ length result }
-{
-    [0; 50400]
-}
-
-fn atom_space() -> [u8; 1920000]
-    ensures { 1920000 ≡ length result }
-{
-    [0; 1920000]
-}
-
-fn deferral_space() -> [u8; 128]
-    ensures { 128 ≡ length result }
-{
-    [0; 128]
-}
-
-fn text_space() -> [u8; 1200]
-    ensures { 1200 ≡ length result }
-{
-    [0; 1200]
-}
 
 #[derive(Clone, Copy)]
 struct Row {
@@ -82,24 +44,17 @@ fn refused(number: u32) -> Row {
     }
 }
 
-fn accepted(
-    clauses: &[u8],
-    atoms: &[u8],
-    deferrals: &[u8],
-    case: u32,
-    s: ClauseStats,
-    fresh: u32,
-) -> Row {
+fn accepted(clauses: &[u8], atoms: &[u8], deferrals: &[u8], case: u32, n: Numbers) -> Row {
     let mut met = [0u8; 5000];
     Row {
         refused: 0,
-        clauses: s.total,
-        due: forms::count(clauses, atoms, case, s.total, &mut met),
-        fresh,
-        deferrals: s.deferred,
+        clauses: n.stats.total,
+        due: forms::count(clauses, atoms, case, n.stats.total, &mut met),
+        fresh: n.fresh_ids,
+        deferrals: n.stats.deferred,
         line: forms::word(deferrals, 0),
         kind: forms::word(deferrals, 1),
-        decomposed: s.decomposed,
+        decomposed: n.stats.decomposed,
     }
 }
 
@@ -112,20 +67,25 @@ fn run_case(
     scratch: &mut [u8],
 ) -> Row {
     match clausify::clausify_with_stats(deck, clauses, atoms, deferrals, scratch) {
-        Reply::Accepted(s, fresh, _) => accepted(clauses, atoms, deferrals, case, s, fresh),
-        Reply::Refused(number, _) => refused(number),
+        Ok(n) => accepted(clauses, atoms, deferrals, case, n),
+        Err(e) => refused(e.refusal.number()),
     }
 }
 
 // From byte `at` on; where it ends.
 fn put_row(out: &mut [u8], at: usize, case: u32, w: Row) -> usize {
-    let a = decks::put(out, at, case);
-    let b = decks::put(out, a, w.refused);
-    let c = decks::put(out, b, w.clauses);
-    let d = decks::put(out, c, w.due);
-    let e = decks::put(out, d, w.fresh);
-    let f = decks::put(out, e, w.deferrals);
-    decks::three(out, f, w.line, w.kind, w.decomposed)
+    let numbers = [
+        case,
+        w.refused,
+        w.clauses,
+        w.due,
+        w.fresh,
+        w.deferrals,
+        w.line,
+        w.kind,
+        w.decomposed,
+    ];
+    decks::line(out, at, &numbers)
 }
 
 // The rows' bytes.
@@ -140,12 +100,10 @@ fn run_cases(
     ensures { result ≤ length out.new }
 {
     let mut p: usize = 0;
-    let mut case: u32 = 1;
-    while case < 10 {
+    for case in 1..10 {
         let n = decks::deck(deck, case);
         let w = run_case(case, &deck[..n], clauses, atoms, deferrals, scratch);
         p = put_row(out, p, case, w);
-        case += 1;
     }
     if out.len() < p {
         return 0;
@@ -154,12 +112,13 @@ fn run_cases(
 }
 
 fn main(rt: HostRuntime) -> io::Result<()> {
-    let mut deck = deck_space();
-    let mut clauses = clause_space();
-    let mut atoms = atom_space();
-    let mut deferrals = deferral_space();
-    let mut scratch = scratch_space();
-    let mut out = text_space();
+    let mut deck = streams::zeros::<4096>();
+    // 4,200 clauses, 80,000 atoms, 16 deferrals
+    let mut clauses = streams::zeros::<50400>();
+    let mut atoms = streams::zeros::<1920000>();
+    let mut deferrals = streams::zeros::<128>();
+    let mut scratch = streams::zeros::<1572864>();
+    let mut out = streams::zeros::<1200>();
     let n = run_cases(
         &mut deck,
         &mut clauses,

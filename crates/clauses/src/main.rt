@@ -9,55 +9,19 @@
 mod lines;
 mod stage;
 
-ghost use Rattle.std.specs.Prelude.{◌≡◌, length, replicate};
-
 use std::io;
 
-// Standard input, up to one byte more than a deck may have.
-fn deck_space() -> [u8; 65537] {
-    [0; 65537]
-}
-
-fn scratch_space() -> [u8; 1572864]
-    ensures { 1572864 ≡ length result }
-{
-    [0; 1572864]
-}
-
-// 1,024 clauses, 2,048 atoms, 256 deferrals, as the lister lends.
-fn clause_space() -> [u8; 12288]
-    ensures { (12288 ≡ length result) × (result ≡ replicate (length result) 0) }
-{
-    [0; 12288]
-}
-
-fn atom_space() -> [u8; 49152]
-    ensures { (49152 ≡ length result) × (result ≡ replicate (length result) 0) }
-{
-    [0; 49152]
-}
-
-fn deferral_space() -> [u8; 2048]
-    ensures { (2048 ≡ length result) × (result ≡ replicate (length result) 0) }
-{
-    [0; 2048]
-}
-
-// The longest text.
-fn text_space() -> [u8; 214617]
-    ensures { 214617 ≡ length result }
-{
-    [0; 214617]
-}
-
 fn main(rt: HostRuntime) -> io::Result<()> {
-    let mut deck = deck_space();
+    // one byte more than a deck may have
+    let mut deck = streams::zeros::<65537>();
     let (n, _) = streams::fill(&mut rt.stdin(), &mut deck);
-    let mut scratch = scratch_space();
-    let mut clauses = clause_space();
-    let mut atoms = atom_space();
-    let mut deferrals = deferral_space();
-    let mut out = text_space();
+    let mut scratch = streams::zeros::<1572864>();
+    // 1,024 clauses, 2,048 atoms, 256 deferrals, as the lister lends
+    let mut clauses = streams::zeros::<12288>();
+    let mut atoms = streams::zeros::<49152>();
+    let mut deferrals = streams::zeros::<2048>();
+    // the longest text
+    let mut out = streams::zeros::<214617>();
     let m = stage::put_stage(
         &deck[..n],
         &mut scratch,

@@ -12,17 +12,23 @@ ghost use Rattle.clausifier.specs.Rows.{Row};
 ghost use Rattle.ir.specs.Answer.{done};
 ghost use Rattle.tables.specs.Lending.{SameReferences};
 
-use tables::lent::Tables;
-use ir::refusal::Refusal;
 use axioms::{domain, roles};
 use inclusions::gci;
 use ir::deferral::Deferral;
+use ir::refusal::Refusal;
 use ir::scratch::NUMBERS;
 use lists::{disjoints, equivalents, roles as role_lists, unions};
 use ontology::axiom;
+use tables::lent::Tables;
 
 // The arms over classes, 21 to 26: by number, as the rules' `row_axiom` has them.
-fn clausify_classes(lent: &mut Tables<'_>, scratch: &mut [u8], kind: u32, at: usize, count: u32) -> Result<(), Refusal>
+fn clausify_classes(
+    lent: &mut Tables<'_>,
+    scratch: &mut [u8],
+    kind: u32,
+    at: usize,
+    count: u32,
+) -> Result<(), Refusal>
     requires { Clausifying scratch.old lent.old.counters × Row (words scratch.old) lent.old.counters kind at count × (kind < 27) }
     ensures references { SameReferences lent.old lent.new }
     ensures fact { let old = four_of (words scratch.old) lent.old in
@@ -47,7 +53,12 @@ fn clausify_classes(lent: &mut Tables<'_>, scratch: &mut [u8], kind: u32, at: us
 }
 
 // A chain of two roles.
-fn clausify_chain(lent: &mut Tables<'_>, scratch: &mut [u8], at: usize, count: u32) -> Result<(), Refusal>
+fn clausify_chain(
+    lent: &mut Tables<'_>,
+    scratch: &mut [u8],
+    at: usize,
+    count: u32,
+) -> Result<(), Refusal>
     requires { Clausifying scratch.old lent.old.counters × Row (words scratch.old) lent.old.counters 27 at count }
     ensures references { SameReferences lent.old lent.new }
     ensures fact { let old = four_of (words scratch.old) lent.old in
@@ -69,7 +80,13 @@ fn clausify_chain(lent: &mut Tables<'_>, scratch: &mut [u8], at: usize, count: u
 }
 
 // The arms over roles, 27 to 31; the others make no clause.
-fn clausify_roles(lent: &mut Tables<'_>, scratch: &mut [u8], kind: u32, at: usize, count: u32) -> Result<(), Refusal>
+fn clausify_roles(
+    lent: &mut Tables<'_>,
+    scratch: &mut [u8],
+    kind: u32,
+    at: usize,
+    count: u32,
+) -> Result<(), Refusal>
     requires { Clausifying scratch.old lent.old.counters × Row (words scratch.old) lent.old.counters kind at count × (27 ≤ kind) }
     ensures references { SameReferences lent.old lent.new }
     ensures fact { let old = four_of (words scratch.old) lent.old in

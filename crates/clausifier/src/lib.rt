@@ -15,11 +15,16 @@ ghost use Rattle.clausifier.specs.All.{ReadyForAll, ClausifiedAll, ClausifyingLi
 ghost use Rattle.ir.specs.Lined.{lined};
 ghost use Rattle.tables.specs.Lending.{SameReferences};
 
-use tables::lent::Tables;
 use ir::answer::Refused;
+use tables::lent::Tables;
 
 // The first axiom is on line `line`.
-pub fn clausify_axioms(lent: &mut Tables<'_>, scratch: &mut [u8], n: u32, line: u32) -> Result<(), Refused>
+pub fn clausify_axioms(
+    lent: &mut Tables<'_>,
+    scratch: &mut [u8],
+    n: u32,
+    line: u32,
+) -> Result<(), Refused>
     requires { Clausifying scratch.old lent.old.counters × AxiomsOf (words scratch.old) lent.old.counters n × ReadyForAll n lent.old.counters (four_of (words scratch.old) lent.old) × (line ≤ 65536) }
     ensures references { SameReferences lent.old lent.new }
     ensures fact { let old = four_of (words scratch.old) lent.old in
@@ -31,7 +36,10 @@ pub fn clausify_axioms(lent: &mut Tables<'_>, scratch: &mut [u8], n: u32, line: 
         let here = line + i;
         lent.counters.at_line(here);
         if let Err(refusal) = whole::clausify_whole(lent, scratch, i) {
-            return Err(Refused { refusal, line: here });
+            return Err(Refused {
+                refusal,
+                line: here,
+            });
         }
     }
     Ok(())

@@ -2,8 +2,8 @@
 ghost use Rattle.clausifier.specs.Prepare.{Preparing, PreparedAs};
 ghost use Rattle.ir.specs.Lined.{lined};
 
-use ir::answer::Refused;
 use inverse::build;
+use ir::answer::Refused;
 use ir::counters::Counters;
 use normalize::forms;
 

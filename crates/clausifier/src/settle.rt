@@ -10,13 +10,18 @@ ghost use Rattle.clausifier.specs.Settles.{limit_of, Unsettled, Settled};
 ghost use Rattle.ir.specs.Answer.{done};
 ghost use Rattle.tables.specs.Lending.{SameReferences};
 
-use tables::lent::Tables;
-use ir::refusal::Refusal;
 use inclusions::gci;
+use ir::refusal::Refusal;
 use pool::make;
+use tables::lent::Tables;
 
 // The name enters the pool, and the filler is below it.
-fn settle_one(lent: &mut Tables<'_>, scratch: &mut [u8], filler: u32, name: u32) -> Result<(), Refusal>
+fn settle_one(
+    lent: &mut Tables<'_>,
+    scratch: &mut [u8],
+    filler: u32,
+    name: u32,
+) -> Result<(), Refusal>
     requires { Clausifying scratch.old lent.old.counters × (filler < lent.old.counters.concepts) × (name < most_names) }
     ensures references { SameReferences lent.old lent.new }
     ensures clausified { let old = four_of (words scratch.old) lent.old in

@@ -11,12 +11,12 @@ ghost use Rattle.clausifier.specs.Limited.{ReadyFor, Limited};
 ghost use Rattle.ir.specs.Answer.{done};
 ghost use Rattle.tables.specs.Lending.{SameReferences};
 
-use tables::lent::Tables;
-use ir::refusal::Refusal;
 use crate::{axiom, settle};
 use ir::counters::Counters;
 use ir::options;
+use ir::refusal::Refusal;
 use ontology::axiom as numbers;
+use tables::lent::Tables;
 
 // Whether axiom i may name limits: option 4 is on, and it makes heads.
 fn names_limits(scratch: &[u8], k: Counters, i: u32) -> bool

@@ -64,7 +64,7 @@ fn settled(
     }
 }
 
-// The reply and all but scratch; refusal 1 where the sizes do not fit.
+// The reply and all but scratch; refusal 1 where the sizes do not fit: whether they do is asked before a table is cleared.
 pub fn answer(
     fit: bool,
     deck: &[u8],

@@ -32,7 +32,7 @@ fn refuse_sizes(
     })
 }
 
-// The answer, or 1 where the further table does not fit.
+// The answer, or 1 where the further table does not fit: `fit` is the definition's own Bool (`run_if`).
 pub fn answer_if(
     fit: bool,
     deck: &[u8],

@@ -9,44 +9,36 @@ ghost use Rattle.listing.specs.Listing.{Listable};
 ghost use Rattle.clausify.specs.Entry.{lent};
 ghost use Rattle.lister.specs.Text.{numbers_line, most_rows, most_text};
 
-use clausify::Reply;
-use statistics::ClauseStats;
+use clausify::numbers::Numbers;
 
 // The statistics in the Rust's order, the fresh ids and the visits.
-fn put_numbers(out: &mut [u8], at: usize, s: ClauseStats, fresh: u32, visits: u32) -> usize
+fn put_numbers(out: &mut [u8], at: usize, n: Numbers) -> usize
     requires { at + 122 ≤ length out.old }
-    ensures { Put out.old at (fields_text (numbers_line s fresh visits)) out.new result }
+    ensures { Put out.old at (fields_text (numbers_line n.stats n.fresh_ids n.visits)) out.new result }
 {
     let numbers = [
         43,
-        s.total,
-        s.horn,
-        s.disjunctive,
-        s.bottom_headed,
-        s.with_exists_head,
-        s.deferred,
-        s.decomposed,
-        s.refused,
-        fresh,
-        visits,
+        n.stats.total,
+        n.stats.horn,
+        n.stats.disjunctive,
+        n.stats.bottom_headed,
+        n.stats.with_exists_head,
+        n.stats.deferred,
+        n.stats.decomposed,
+        n.stats.refused,
+        n.fresh_ids,
+        n.visits,
     ];
     rows::put_line(out, at, &numbers)
 }
 
 // The clauses, then the numbers.
-fn put_accepted(
-    clauses: &[u8],
-    atoms: &[u8],
-    s: ClauseStats,
-    fresh: u32,
-    visits: u32,
-    out: &mut [u8],
-) -> usize
-    requires { Listable (words clauses.now) (words atoms.now) s.total 0 most_rows × (most_text ≤ length out.old) }
-    ensures { (l : List Clause) → Tabled (words clauses.now) (words atoms.now) s.total l → Put out.old 0 (clauses_text 0 l ++ fields_text (numbers_line s fresh visits)) out.new result }
+fn put_accepted(clauses: &[u8], atoms: &[u8], n: Numbers, out: &mut [u8]) -> usize
+    requires { Listable (words clauses.now) (words atoms.now) n.stats.total 0 most_rows × (most_text ≤ length out.old) }
+    ensures { (l : List Clause) → Tabled (words clauses.now) (words atoms.now) n.stats.total l → Put out.old 0 (clauses_text 0 l ++ fields_text (numbers_line n.stats n.fresh_ids n.visits)) out.new result }
 {
-    let p = listing::put_clauses(clauses, atoms, s.total, out, 0);
-    put_numbers(out, p, s, fresh, visits)
+    let p = listing::put_clauses(clauses, atoms, n.stats.total, out, 0);
+    put_numbers(out, p, n)
 }
 
 // From byte 0 on; where it ends. The tables may hold anything.
@@ -62,7 +54,7 @@ pub fn put_listing(
     ensures { Put out.old 0 (listing deck.now) out.new result }
 {
     match clausify::clausify_with_stats(deck, clauses, atoms, deferrals, scratch) {
-        Reply::Accepted(s, fresh, visits) => put_accepted(clauses, atoms, s, fresh, visits, out),
-        Reply::Refused(number, line) => rows::put_line(out, 0, &[49, number, line]),
+        Ok(n) => put_accepted(clauses, atoms, n, out),
+        Err(e) => rows::put_line(out, 0, &[49, e.refusal.number(), e.line]),
     }
 }

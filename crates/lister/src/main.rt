@@ -8,60 +8,19 @@
 mod input;
 mod lines;
 
-ghost use Rattle.std.specs.Prelude.{◌≡◌, ◌+◌, length};
-ghost use Rattle.rules.specs.Deck.{most_bytes};
-ghost use Rattle.rules.specs.Run.{scratch_bytes};
-ghost use Rattle.lister.specs.Text.{most_text};
-
 use std::io;
 
-// Standard input, up to one byte more than a deck may have.
-fn deck_space() -> [u8; 65537]
-    ensures { most_bytes + 1 ≡ length result }
-{
-    [0; 65537]
-}
-
-// 1,024 clauses, 2,048 atoms, 256 deferrals.
-fn clause_space() -> [u8; 12288]
-    ensures { 12288 ≡ length result }
-{
-    [0; 12288]
-}
-
-fn atom_space() -> [u8; 49152]
-    ensures { 49152 ≡ length result }
-{
-    [0; 49152]
-}
-
-fn deferral_space() -> [u8; 2048]
-    ensures { 2048 ≡ length result }
-{
-    [0; 2048]
-}
-
-fn scratch_space() -> [u8; 1572864]
-    ensures { scratch_bytes ≡ length result }
-{
-    [0; 1572864]
-}
-
-// The longest listing.
-fn text_space() -> [u8; 205946]
-    ensures { most_text ≡ length result }
-{
-    [0; 205946]
-}
-
 fn main(rt: HostRuntime) -> io::Result<()> {
-    let mut deck = deck_space();
+    // one byte more than a deck may have
+    let mut deck = streams::zeros::<65537>();
     let (n, _) = streams::fill(&mut rt.stdin(), &mut deck);
-    let mut clauses = clause_space();
-    let mut atoms = atom_space();
-    let mut deferrals = deferral_space();
-    let mut scratch = scratch_space();
-    let mut out = text_space();
+    // 1,024 clauses, 2,048 atoms, 256 deferrals
+    let mut clauses = streams::zeros::<12288>();
+    let mut atoms = streams::zeros::<49152>();
+    let mut deferrals = streams::zeros::<2048>();
+    let mut scratch = streams::zeros::<1572864>();
+    // the longest listing
+    let mut out = streams::zeros::<205946>();
     let m = input::list_input(
         &deck,
         n,

@@ -10,34 +10,16 @@
 mod forms;
 mod lines;
 
-ghost use Rattle.std.specs.Prelude.{◌≡◌, length};
-
 use std::io;
 
-// Standard input, up to one byte more than a deck may have.
-fn deck_space() -> [u8; 65537] {
-    [0; 65537]
-}
-
-// Scratch up to the regions of the passes that come later.
-fn scratch_space() -> [u8; 324000]
-    ensures { 324000 ≡ length result }
-{
-    [0; 324000]
-}
-
-// The longest text.
-fn text_space() -> [u8; 341037]
-    ensures { 341037 ≡ length result }
-{
-    [0; 341037]
-}
-
 fn main(rt: HostRuntime) -> io::Result<()> {
-    let mut deck = deck_space();
+    // one byte more than a deck may have
+    let mut deck = streams::zeros::<65537>();
     let (n, _) = streams::fill(&mut rt.stdin(), &mut deck);
-    let mut scratch = scratch_space();
-    let mut out = text_space();
+    // scratch up to the regions of the passes that come later
+    let mut scratch = streams::zeros::<324000>();
+    // the longest text
+    let mut out = streams::zeros::<341037>();
     let m = forms::put_forms(&deck[..n], &mut scratch, &mut out);
     rt.write_all(&out[..m])
 }

@@ -41,10 +41,11 @@ fn put_number(data: &[u8], out: &mut [u8], p: Place) -> Place {
 // n numbers and a line feed.
 fn put_numbers(data: &[u8], n: u32, out: &mut [u8], from: Place) -> Place {
     let mut p = from;
-    let mut i: u32 = 0;
-    while i < n && p.at < data.len() {
+    for _ in 0..n {
+        if data.len() <= p.at {
+            break;
+        }
         p = put_number(data, out, p);
-        i += 1;
     }
     Place {
         at: p.at,
@@ -66,10 +67,11 @@ fn put_raw(data: &[u8], out: &mut [u8], p: Place) -> Place {
 // n of them.
 fn put_bytes(data: &[u8], n: u32, out: &mut [u8], from: Place) -> Place {
     let mut p = from;
-    let mut i: u32 = 0;
-    while i < n && p.at < data.len() {
+    for _ in 0..n {
+        if data.len() <= p.at {
+            break;
+        }
         p = put_raw(data, out, p);
-        i += 1;
     }
     p
 }
@@ -88,10 +90,11 @@ fn put_line(data: &[u8], out: &mut [u8], p: Place) -> Place {
 
 fn put_lines(data: &[u8], n: u32, out: &mut [u8], from: Place) -> Place {
     let mut p = from;
-    let mut i: u32 = 0;
-    while i < n && p.at < data.len() {
+    for _ in 0..n {
+        if data.len() <= p.at {
+            break;
+        }
         p = put_line(data, out, p);
-        i += 1;
     }
     p
 }

@@ -13,49 +13,7 @@ mod answer;
 mod data;
 mod decks;
 
-ghost use Rattle.std.specs.Prelude.{◌≡◌, length};
-
-use clausify::Reply;
 use std::{io, num};
-
-// Standard input.
-fn data_space() -> [u8; 1600000]
-    ensures { 1600000 ≡ length result }
-{
-    [0; 1600000]
-}
-
-// More than a deck may have.
-fn deck_space() -> [u8; 70000]
-    ensures { 70000 ≡ length result }
-{
-    [0; 70000]
-}
-
-fn scratch_space() -> [u8; 1572864]
-    ensures { 1572864 ≡ length result }
-{
-    [0; 1572864]
-}
-
-// 1,024 clauses, 2,048 atoms, 256 deferrals, as the lister lends.
-fn clause_space() -> [u8; 12288]
-    ensures { 12288 ≡ length result }
-{
-    [0; 12288]
-}
-
-fn atom_space() -> [u8; 49152]
-    ensures { 49152 ≡ length result }
-{
-    [0; 49152]
-}
-
-fn deferral_space() -> [u8; 2048]
-    ensures { 2048 ≡ length result }
-{
-    [0; 2048]
-}
 
 #[derive(Clone, Copy)]
 struct Sums {
@@ -65,22 +23,18 @@ struct Sums {
     differences: u32,
 }
 
-fn one(b: bool) -> u32 {
-    if b { 1 } else { 0 }
-}
-
 impl Sums {
     fn add(mut self, accepted: bool, same: bool) -> Sums {
         self.decks = num::wrapping_add_u32(self.decks, 1);
-        self.accepted = num::wrapping_add_u32(self.accepted, one(accepted));
-        self.refused = num::wrapping_add_u32(self.refused, one(!accepted));
-        self.differences = num::wrapping_add_u32(self.differences, one(!same));
+        self.accepted = num::wrapping_add_u32(self.accepted, u32::from(accepted));
+        self.refused = num::wrapping_add_u32(self.refused, u32::from(!accepted));
+        self.differences = num::wrapping_add_u32(self.differences, u32::from(!same));
         self
     }
 
     // The data and scratch are as they should be at the end.
     fn end(mut self, good: bool) -> Sums {
-        self.differences = num::wrapping_add_u32(self.differences, one(!good));
+        self.differences = num::wrapping_add_u32(self.differences, u32::from(!good));
         self
     }
 }
@@ -98,14 +52,14 @@ fn run_deck(
     scratch: &mut [u8],
 ) -> Sums {
     match clausify::clausify_with_stats(deck, clauses, atoms, deferrals, scratch) {
-        Reply::Accepted(s, fresh, visits) => sums.add(
-            true,
-            answer::is_accepted(data, at, end, s, fresh, visits, clauses, atoms, deferrals),
-        ),
-        Reply::Refused(number, line) => sums.add(
-            false,
-            answer::is_refused(data, at, end, number, line, clauses, atoms, deferrals),
-        ),
+        Ok(n) => {
+            let same = answer::is_accepted(data, at, end, n, clauses, atoms, deferrals);
+            sums.add(true, same)
+        }
+        Err(e) => {
+            let same = answer::is_refused(data, at, end, e, clauses, atoms, deferrals);
+            sums.add(false, same)
+        }
     }
 }
 
@@ -135,8 +89,10 @@ fn run_decks(
         differences: 0,
     };
     let mut at = from;
-    let mut i: u32 = 0;
-    while i < n && at < data.len() {
+    for _ in 0..n {
+        if data.len() <= at {
+            break;
+        }
         let x = data::number(data, at);
         let end = end_of(x.at, x.value);
         let p = decks::put_deck(data, x.at, deck);
@@ -153,7 +109,6 @@ fn run_decks(
             scratch,
         );
         at = end;
-        i += 1;
     }
     sums.end(at == data.len() && answer::is_clear(scratch, 0))
 }
@@ -173,13 +128,15 @@ fn run_data(
 }
 
 fn main(rt: HostRuntime) -> io::Result<()> {
-    let mut input = data_space();
+    let mut input = streams::zeros::<1600000>();
     let (n, _) = streams::fill(&mut rt.stdin(), &mut input);
-    let mut deck = deck_space();
-    let mut clauses = clause_space();
-    let mut atoms = atom_space();
-    let mut deferrals = deferral_space();
-    let mut scratch = scratch_space();
+    // more than a deck may have
+    let mut deck = streams::zeros::<70000>();
+    // 1,024 clauses, 2,048 atoms, 256 deferrals, as the lister lends
+    let mut clauses = streams::zeros::<12288>();
+    let mut atoms = streams::zeros::<49152>();
+    let mut deferrals = streams::zeros::<2048>();
+    let mut scratch = streams::zeros::<1572864>();
     let s = run_data(
         &input[..n],
         &mut deck,

@@ -1,7 +1,7 @@
 // Bytes read from a stream into lent space.
 #![tactic(auto)]
 
-ghost use Rattle.std.specs.Prelude.{◌≡◌, ◌+◌, ◌<◌, ◌≤◌, length, take, drop, IfOk, OnErr, OnOk};
+ghost use Rattle.std.specs.Prelude.{◌≡◌, ◌+◌, ◌<◌, ◌≤◌, length, replicate, take, drop, IfOk, OnErr, OnOk};
 ghost use Rattle.std.specs.Io.{ReadsAtMost};
 ghost use Rattle.std.specs.Io.KnownBytes.{Consumes, IsAtEnd, Keeps};
 
@@ -56,4 +56,12 @@ pub fn fill<R: Read>(reader: &mut R, space: &mut [u8]) -> (usize, io::Result<()>
         }
     }
     (done, Ok(()))
+}
+
+// Space of zeros, to be lent.
+pub fn zeros<const N: usize>() -> [u8; N]
+    ensures length { N ≡ length result }
+    ensures zeros { result ≡ replicate (length result) 0 }
+{
+    [0; N]
 }

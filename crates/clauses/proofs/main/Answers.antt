@@ -7,10 +7,10 @@ use Rattle.clauses.proofs.main.Goals as goal
 
 pub put_stage-m-requires : goal.put_stage-m-requires
 put_stage-m-requires c =
-    let x = c.clause_space-clauses in
-    let y = c.atom_space-atoms in
-    let z = c.deferral_space-deferrals in
-    (omega (arith, c.scratch_space-scratch.ensures), blank_zeros lent x.result y.result z.result (sym x.ensures.0) (sym y.ensures.0) (sym z.ensures.0) x.ensures.1 y.ensures.1 z.ensures.1, omega (arith, c.text_space-out.ensures))
+    let x = c.zeros-clauses in
+    let y = c.zeros-atoms in
+    let z = c.zeros-deferrals in
+    (omega (arith, c.zeros-scratch.ensures.length), blank_zeros lent x.result y.result z.result (sym x.ensures.length) (sym y.ensures.length) (sym z.ensures.length) x.ensures.zeros y.ensures.zeros z.ensures.zeros, omega (arith, c.zeros-out.ensures.length))
 
 pub slice_bounds-write_all-end : goal.slice_bounds-write_all-end
 slice_bounds-write_all-end c =

@@ -6,10 +6,6 @@ use Rattle.rows.specs.Rows.{Put}
 use Rattle.lister.specs.Cut.{read_listing}
 use Rattle.lister.proofs.input.list_input.Goals as goal
 
-pub slice_bounds-put_listing-end : goal.slice_bounds-put_listing-end
-slice_bounds-put_listing-end c =
-    sym (length-take-le c.args.n c.args.space.now c.requires.most_bytes_in_bounds.1)
-
 pub returns : goal.returns
 returns c =
     let p = c.put_listing in

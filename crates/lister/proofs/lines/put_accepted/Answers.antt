@@ -3,11 +3,6 @@ use Rattle.rows.specs.RowLaws.{put_then}
 use Rattle.listing.specs.ListingLaws.{clauses_long}
 use Rattle.lister.proofs.lines.put_accepted.Goals as goal
 
-pub put_clauses-p-requires : goal.put_clauses-p-requires
-put_clauses-p-requires c =
-    let L = c.requires.0 in
-    record { list = L.list; tabled = L.tabled; fits = omega (arith, L.fits, c.requires.1) }
-
 pub put_numbers-requires : goal.put_numbers-requires
 put_numbers-requires c =
     let L = c.requires.0 in

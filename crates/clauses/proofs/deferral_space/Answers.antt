@@ -1,7 +1,0 @@
-use mathlib.Core.Path.{sym, ap}
-use Prim.Native.Nat.{ℕ}
-use lib.ListN.{replicate, length-replicate}
-use Rattle.clauses.proofs.deferral_space.Goals as goal
-
-pub returns : goal.returns
-returns c = (sym (length-replicate {0} {A = ℕ} 2048 0), ap (λ (n : ℕ). replicate {A = ℕ} n 0) (sym (length-replicate {0} {A = ℕ} 2048 0)))

@@ -1,8 +1,0 @@
-use mathlib.Core.Path.{sym}
-use Prim.Native.Nat.{ℕ}
-use lib.ListN.{length-replicate}
-use Rattle.rules.specs.Run.{scratch_bytes}
-use Rattle.lister.proofs.scratch_space.Goals as goal
-
-pub returns : goal.returns
-returns c = sym (length-replicate {0} {A = ℕ} scratch_bytes 0)
