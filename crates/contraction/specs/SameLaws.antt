@@ -101,6 +101,10 @@ module _ (s t : List ℕ) (S : Bytes s) (T : Bytes t) (i j n : ℕ) (fit_s : 4 *
       let back : words a ≡ words b → a ≡ b = words_inj a b (la ∙ sym lb) (omega arith) (bytes_part s (4 * i) (4 * n) S) (bytes_part t (4 * j) (4 * n) T) in
       e ∙ same_from_decides (bytes_eq a b) (same_words (words a) (words b)) d ((λ h. back (w.0 h)), λ h. w.1 (ap words h)) ∙ ap₂ same_words wa wb
 
+  -- whatever says how long the two parts are
+  pub parts_same : (m k : ℕ) (r : Bool) → r ≡ bytes_eq (take m (drop (4 * i) s)) (take k (drop (4 * j) t)) → m ≡ 4 * n → k ≡ 4 * n → r ≡ same_runs (words s) i (words t) j n
+  parts_same m k r e f g = bytes_same r (rw (f, g) at e)
+
 -- ---- words of atoms
 same_both : (xs ys u v : List ℕ) → length xs ≡ length ys → same_words (xs ++ u) (ys ++ v) ≡ (same_words xs ys && same_words u v)
 same_both [] [] u v e = refl

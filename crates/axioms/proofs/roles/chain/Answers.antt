@@ -7,8 +7,10 @@ use Rattle.words.specs.Laws.{length_words}
 use Rattle.words.specs.Words.{words}
 use lib.ListN.{length}
 use native.Mathlib.Omega.{arith}
-use Prim.Native.Nat.{◌+◌, ◌*◌, ◌≤◌}
-use mathlib.Core.Path.{◌≡◌, ap}
+use Prim.Native.Nat.{ℕ, ◌+◌, ◌*◌, ◌≤◌}
+use lib.Seq.{sets}
+use Rattle.ir.specs.Records.{six}
+use mathlib.Core.Path.{◌≡◌, ap, subst}
 use Rattle.axioms.proofs.roles.chain.Goals as goal
 
 pub push_run-requires : goal.push_run-requires
@@ -28,7 +30,7 @@ returns-clause-did c = let A = c.args in
     let ez : c.fresh_var-z.result ≡ 2 = omega (arith, z.result_value, h, e) in
     let e1 = rw ey at c.put_atom.ensures in
     let e2 = rw (ey, ez) at c.put_atom-2.ensures in
-    let e3 = rw ez at c.put_atom-3.ensures in
+    let e3 = subst (λ (n : ℕ). words c.put_atom-3.new.t ≡ sets (words c.put_atom-2.new.t) (6 * (13500 + 2)) (six (RoleAtom c.canon-3.result 0 n))) ez c.put_atom-3.ensures in
     λ d. chain_did A.lent.now.counters _ _ _ 13500 (pool_of (words c.args.scratch.now) A.lent.now.counters.concepts) (words c.args.scratch.now) _ _ _ _ _ d _ _ _ (role_of A.r) (role_of A.s) (role_of A.t) _
     c.restart_vars.ensures y.self_after z.self_after
     c.canon.ensures.value c.canon-2.ensures.value c.canon-3.ensures.value
