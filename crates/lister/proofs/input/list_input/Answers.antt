@@ -1,7 +1,6 @@
-use mathlib.Core.Path.{sym, subst}
+use mathlib.Core.Path.{subst}
 use mathlib.Core.List.{List}
 use Prim.Native.Nat.{ℕ}
-use lib.Seq.{length-take-le}
 use Rattle.rows.specs.Rows.{Put}
 use Rattle.lister.specs.Cut.{read_listing}
 use Rattle.lister.proofs.input.list_input.Goals as goal
