@@ -19,7 +19,7 @@ use branches::{edges, memo, vars};
 use ir::atom::Atom;
 use ir::record;
 use ir::refusal::Refusal;
-use trees::group::Children;
+use trees::group::{Child, Children};
 use trees::{group, tree};
 
 // What the children so far have come to: the numbers, where the result ends, and whether a child is named.
@@ -162,8 +162,12 @@ pub fn name_branches(
     let Some(n) = tree::tree(scratch, atoms, root) else {
         return Ok(None);
     };
-    let Some(children) = group::arrange(scratch, atoms, n) else {
-        return Ok(None);
+    let mut children = Children {
+        each: [Child { top: 0, count: 0 }; 256],
+        len: 0,
     };
-    name_groups(scratch, &children, s, atoms, root, keep)
+    if group::arrange(scratch, &mut children, atoms, n) {
+        return name_groups(scratch, &children, s, atoms, root, keep);
+    }
+    Ok(None)
 }

@@ -50,8 +50,8 @@ name_branches-arrange-requires t c =
     let joined = connected w1 root list c.in-Some.n (rw c.in-Some.is at (the-tree.ensures.tree_is list c.requires.0.are)) in
     (record { list = list; are = tree_atoms w0 w1 base count root s long1 c.requires.2 c.requires.3 the-tree.ensures.only_tree list c.requires.0.are }, record { root = root; tree = tree_of list root; treed = joined.1 }, c.requires.1, c.requires.3, omega (arith, the-tree.auto.scratch, c.requires.7))
 
-pub name_branches-returns-in_default-arrange-clause-reduced_by : goal.name_branches-returns-in_default-arrange-clause-reduced_by
-name_branches-returns-in_default-arrange-clause-reduced_by t c =
+pub name_branches-returns-clause-reduced_by : goal.name_branches-returns-clause-reduced_by
+name_branches-returns-clause-reduced_by t c =
     let the-tree = c.tree in
     let the-arrange = c.arrange in
     let base = c.args.atoms.base in
@@ -63,7 +63,7 @@ name_branches-returns-in_default-arrange-clause-reduced_by t c =
     let w2 = words the-arrange.new.scratch in
     let long1 = same_words_lem c.args.scratch.now the-tree.new.scratch the-tree.auto.scratch in
     let long2 = same_words_lem the-tree.new.scratch the-arrange.new.scratch the-arrange.auto.scratch in
-    λ l z kept f A H K k. let joined = connected w1 root l c.in-Some.n (rw c.in-Some.is at (the-tree.ensures.tree_is l A)) in homeless_none w2 [] [] base count root s l kept f z joined.0 k (rw c.in_default-arrange.is at (the-arrange.ensures.arranged_by l root (tree_of l root) (tree_atoms w0 w1 base count root s long1 c.requires.2 c.requires.3 the-tree.ensures.only_tree l A) joined.1)) (laid_held w0 w1 w2 base count s long1 long2 c.requires.2 c.requires.3 the-tree.ensures.only_tree the-arrange.ensures.only_records z H)
+    λ l z kept f A H K k. let joined = connected w1 root l c.in-Some.n (rw c.in-Some.is at (the-tree.ensures.tree_is l A)) in homeless_none w2 [] [] base count root s l kept f z joined.0 k (rw c.if-arrange.false at (the-arrange.ensures.arranged_by l root (tree_of l root) (tree_atoms w0 w1 base count root s long1 c.requires.2 c.requires.3 the-tree.ensures.only_tree l A) joined.1)) (laid_held w0 w1 w2 base count s long1 long2 c.requires.2 c.requires.3 the-tree.ensures.only_tree the-arrange.ensures.only_records z H)
 
 pub name_branches-name_groups-requires : goal.name_branches-name_groups-requires
 name_branches-name_groups-requires t c =
@@ -74,23 +74,23 @@ name_branches-name_groups-requires t c =
     let root = c.args.root in
     let made = groups_for list (grouped (tree_of list root).parents root nothing list) in
     let w2 = words the-arrange.new.scratch in
-    let tops = heads c.in-Some-arrange.children.each in
-    let counts = sizes c.in-Some-arrange.children.each in
+    let tops = heads the-arrange.new.children.each in
+    let counts = sizes the-arrange.new.children.each in
     let base = c.args.atoms.base in
-    let groups = c.in-Some-arrange.children.len in
+    let groups = the-arrange.new.children.len in
     let w0 = words c.args.scratch.now in
     let w1 = words the-tree.new.scratch in
     let s = c.args.s in
     let long1 = same_words_lem c.args.scratch.now the-tree.new.scratch the-tree.auto.scratch in
     let joined = connected w1 root list c.in-Some.n (rw c.in-Some.is at (the-tree.ensures.tree_is list c.requires.0.are)) in
-    let laid = laid_by w2 tops counts base count groups list c.requires.0.tame root (tree_of list root).parents (rw c.in-Some-arrange.is at (the-arrange.ensures.arranged_by list root (tree_of list root) (tree_atoms w0 w1 base count root s long1 c.requires.2 c.requires.3 the-tree.ensures.only_tree list c.requires.0.are) joined.1)) in
+    let laid = laid_by w2 tops counts base count groups list c.requires.0.tame root (tree_of list root).parents (rw c.if-arrange.true at (the-arrange.ensures.arranged_by list root (tree_of list root) (tree_atoms w0 w1 base count root s long1 c.requires.2 c.requires.3 the-tree.ensures.only_tree list c.requires.0.are) joined.1)) in
     let few = laid_few w2 tops counts base count groups made laid in
     let long2 = same_words_lem the-tree.new.scratch the-arrange.new.scratch the-arrange.auto.scratch in
     let mt : 5 * count + 4 ≡ t = c.decreases in
-    (omega (arith, mt), (record { groups = made; laid = laid }, rw c.in-Some-arrange.is at the-arrange.ensures.within, c.requires.1, c.requires.2, c.requires.3, laid_named w0 w1 w2 base count s long1 long2 c.requires.2 c.requires.3 the-tree.ensures.only_tree the-arrange.ensures.only_records c.requires.4, c.requires.5, c.requires.6, omega (arith, the-arrange.auto.scratch, the-tree.auto.scratch, c.requires.7)))
+    (omega (arith, mt), (record { groups = made; laid = laid }, rw c.if-arrange.true at the-arrange.ensures.within, c.requires.1, c.requires.2, c.requires.3, laid_named w0 w1 w2 base count s long1 long2 c.requires.2 c.requires.3 the-tree.ensures.only_tree the-arrange.ensures.only_records c.requires.4, c.requires.5, c.requires.6, omega (arith, the-arrange.auto.scratch, the-tree.auto.scratch, c.requires.7)))
 
-pub name_branches-returns-clause-reduced_by : goal.name_branches-returns-clause-reduced_by
-name_branches-returns-clause-reduced_by t c =
+pub name_branches-returns-then-arrange-clause-reduced_by : goal.name_branches-returns-then-arrange-clause-reduced_by
+name_branches-returns-then-arrange-clause-reduced_by t c =
     let the-tree = c.tree in
     let the-arrange = c.arrange in
     let the-name-groups = c.name_groups in
@@ -101,14 +101,14 @@ name_branches-returns-clause-reduced_by t c =
     let s = c.args.s in
     let w1 = words the-tree.new.scratch in
     let w2 = words the-arrange.new.scratch in
-    let tops = heads c.in-Some-arrange.children.each in
-    let counts = sizes c.in-Some-arrange.children.each in
-    let groups = c.in-Some-arrange.children.len in
+    let tops = heads the-arrange.new.children.each in
+    let counts = sizes the-arrange.new.children.each in
+    let groups = the-arrange.new.children.len in
     let w0 = words c.args.scratch.now in
     let long1 = same_words_lem c.args.scratch.now the-tree.new.scratch the-tree.auto.scratch in
     let long2 = same_words_lem the-tree.new.scratch the-arrange.new.scratch the-arrange.auto.scratch in
     let keep = c.args.keep in
-    λ l z kept f A H K k. step_answer w3 base count root s l kept f z the-name-groups.result (connected w1 root l c.in-Some.n (rw c.in-Some.is at (the-tree.ensures.tree_is l A))).0 k (λ g h. the-name-groups.ensures.reduced_by (groups_for l (grouped (tree_of l root).parents root nothing l)) z kept g (laid_by w2 tops counts base count groups l (tame_of w0 base count l c.requires.0 A) root (tree_of l root).parents (rw c.in-Some-arrange.is at (the-arrange.ensures.arranged_by l root (tree_of l root) (tree_atoms w0 w1 base count root s long1 c.requires.2 c.requires.3 the-tree.ensures.only_tree l A) (connected w1 root l c.in-Some.n (rw c.in-Some.is at (the-tree.ensures.tree_is l A))).1))) (laid_held w0 w1 w2 base count s long1 long2 c.requires.2 c.requires.3 the-tree.ensures.only_tree the-arrange.ensures.only_records z H) (laid_keep w0 w1 w2 base count s long1 long2 c.requires.2 c.requires.3 the-tree.ensures.only_tree the-arrange.ensures.only_records keep kept K) h)
+    λ l z kept f A H K k. step_answer w3 base count root s l kept f z the-name-groups.result (connected w1 root l c.in-Some.n (rw c.in-Some.is at (the-tree.ensures.tree_is l A))).0 k (λ g h. the-name-groups.ensures.reduced_by (groups_for l (grouped (tree_of l root).parents root nothing l)) z kept g (laid_by w2 tops counts base count groups l (tame_of w0 base count l c.requires.0 A) root (tree_of l root).parents (rw c.if-arrange.true at (the-arrange.ensures.arranged_by l root (tree_of l root) (tree_atoms w0 w1 base count root s long1 c.requires.2 c.requires.3 the-tree.ensures.only_tree l A) (connected w1 root l c.in-Some.n (rw c.in-Some.is at (the-tree.ensures.tree_is l A))).1))) (laid_held w0 w1 w2 base count s long1 long2 c.requires.2 c.requires.3 the-tree.ensures.only_tree the-arrange.ensures.only_records z H) (laid_keep w0 w1 w2 base count s long1 long2 c.requires.2 c.requires.3 the-tree.ensures.only_tree the-arrange.ensures.only_records keep kept K) h)
 
 pub name_group-name_of-requires : goal.name_group-name_of-requires
 name_group-name_of-requires t c =
