@@ -5,6 +5,7 @@ ghost use Rattle.ir.specs.Scratch.{limits_at, limits_words};
 ghost use Rattle.rules.specs.State.{Env, E};
 ghost use Rattle.rules.specs.Heads.{emit_head};
 ghost use Rattle.pool.specs.Layout.{pool_of};
+ghost use Rattle.tables.specs.Drawn.{Sized};
 ghost use Rattle.tables.specs.Good.{Good};
 ghost use Rattle.hands.specs.Hands.{four, four_of};
 ghost use Rattle.axioms.specs.RoleAxioms.{in_hand_bytes};
@@ -14,6 +15,7 @@ ghost use Rattle.tables.specs.Lending.{SameReferences};
 
 use heads::emit;
 use ir::atom::Atom;
+use ir::counters::Counters;
 use ir::refusal::Refusal;
 use tables::lent::Tables;
 
@@ -23,24 +25,24 @@ pub const HAND: usize = 13500;
 // Each alternative of `sub` gives the class. Beside emit_bodies, and no closure for both: what the steps ask (room in scratch) and
 // promise (the deferrals stay, the limits that wait) differs, and each loop is three lines.
 pub fn push_bodies(
-    lent: &mut Tables<'_>,
+    clauses: &mut [u8],
+    atoms: &mut [u8],
+    k: &mut Counters,
     scratch: &mut [u8],
     sub: u32,
     count: u32,
     y: u32,
     class: u32,
 ) -> Result<(), Refusal>
-    requires { Encoding scratch.old lent.old.counters × (sub < lent.old.counters.concepts) × (in_hand_bytes ≤ length scratch.old) × (class + 1 < 2 ^ 32) × Good lent.old.counters × Sourced (words scratch.old) lent.old.counters sub y count }
-    ensures references { SameReferences lent.old lent.new }
-    ensures deferrals { lent.new.deferrals.now ≡ lent.old.deferrals.now }
-    ensures did { let old = four (words scratch.old) (words lent.old.clauses.now) (words lent.old.atoms.now) in
-        let new = four (words scratch.new) (words lent.new.clauses.now) (words lent.new.atoms.now) in
-        ((d : List ℕ) → Bodied (gives_class class) lent.old.counters sub y count (old d) (new d) (done lent.new.counters result)) }
+    requires { Encoding scratch.old k.old × (sub < k.old.concepts) × (in_hand_bytes ≤ length scratch.old) × (class + 1 < 2 ^ 32) × Good k.old × Sourced (words scratch.old) k.old sub y count × Sized (length clauses.old) (length atoms.old) 0 }
+    ensures { let old = four (words scratch.old) (words clauses.old) (words atoms.old) in
+        let new = four (words scratch.new) (words clauses.new) (words atoms.new) in
+        ((d : List ℕ) → Bodied (gives_class class) k.old sub y count (old d) (new d) (done k.new result)) }
 {
     for i in 0..count {
-        let end = antecedents::write_alternative(scratch, lent.counters, HAND, sub, 0, y, i);
+        let end = antecedents::write_alternative(scratch, *k, HAND, sub, 0, y, i);
         let n = (end - HAND) as u32;
-        hands::push_one(lent, scratch, HAND, n, Atom::Class(class, 0))?;
+        hands::push_one(clauses, atoms, k, scratch, HAND, n, Atom::Class(class, 0))?;
     }
     Ok(())
 }

@@ -6,12 +6,12 @@ ghost use Rattle.rules.specs.Deck.{most_roles};
 ghost use Rattle.rules.specs.State.{Env, canon};
 ghost use Rattle.rules.specs.Axioms.{chain};
 ghost use Rattle.pool.specs.Layout.{pool_of};
+ghost use Rattle.tables.specs.Drawn.{Sized};
 ghost use Rattle.tables.specs.Good.{Good};
 ghost use Rattle.hands.specs.Hands.{EnvIn, four, Did};
 ghost use Rattle.ir.specs.Records.{Fits};
 ghost use Rattle.axioms.specs.RoleAxioms.{hand_at, in_hand_bytes, irreflexive, second_atom, not_both};
 ghost use Rattle.ir.specs.Answer.{done};
-ghost use Rattle.tables.specs.Lending.{SameReferences};
 
 use crate::bodies::HAND;
 use ir::atom::Atom;
@@ -19,7 +19,6 @@ use ir::counters::Counters;
 use ir::record;
 use ir::refusal::Refusal;
 use ir::role::Role;
-use tables::lent::Tables;
 
 // The canonical form of a role's code.
 pub fn canon(scratch: &[u8], code: u32) -> Role
@@ -32,44 +31,48 @@ pub fn canon(scratch: &[u8], code: u32) -> Role
 
 // r(X, y) and s(y, z) give t(X, z).
 pub fn chain(
-    lent: &mut Tables<'_>,
+    clauses: &mut [u8],
+    atoms: &mut [u8],
+    k: &mut Counters,
     scratch: &mut [u8],
     r: u32,
     s: u32,
     t: u32,
 ) -> Result<(), Refusal>
-    requires { (r < 2 * most_roles) × (s < 2 * most_roles) × (t < 2 * most_roles) × (in_hand_bytes ≤ length scratch.old) × Good lent.old.counters }
-    ensures references { SameReferences lent.old lent.new }
-    ensures deferrals { lent.new.deferrals.now ≡ lent.old.deferrals.now }
-    ensures did { let w = words scratch.old in
-        let old = four w (words lent.old.clauses.now) (words lent.old.atoms.now) in
-        let new = four (words scratch.new) (words lent.new.clauses.now) (words lent.new.atoms.now) in
-        ((d : List ℕ) → Did (λ _. 0) 0 (λ env f b u. chain env (role_of r) (role_of s) (role_of t) (pool_of w lent.old.counters.concepts) u) lent.old.counters hand_at 0 (old d) (new d) (done lent.new.counters result)) }
+    requires { (r < 2 * most_roles) × (s < 2 * most_roles) × (t < 2 * most_roles) × (in_hand_bytes ≤ length scratch.old) × Good k.old × Sized (length clauses.old) (length atoms.old) 0 }
+    ensures { let w = words scratch.old in
+        let old = four w (words clauses.old) (words atoms.old) in
+        let new = four (words scratch.new) (words clauses.new) (words atoms.new) in
+        ((d : List ℕ) → Did (λ _. 0) 0 (λ env f b u. chain env (role_of r) (role_of s) (role_of t) (pool_of w k.old.concepts) u) k.old hand_at 0 (old d) (new d) (done k.new result)) }
 {
-    lent.counters.restart_vars();
-    let y = lent.counters.fresh_var();
-    let z = lent.counters.fresh_var();
+    k.restart_vars();
+    let y = k.fresh_var();
+    let z = k.fresh_var();
     let a = Atom::Role(canon(scratch, r), 0, y);
     let b = Atom::Role(canon(scratch, s), y, z);
     let c = Atom::Role(canon(scratch, t), 0, z);
     record::put_atom(scratch, HAND, a);
     record::put_atom(scratch, HAND + 1, b);
     record::put_atom(scratch, HAND + 2, c);
-    hands::push_run(lent, scratch, HAND, 2, 1)
+    hands::push_run(clauses, atoms, k, scratch, HAND, 2, 1)
 }
 
 // No X has itself for r.
-pub fn irreflexive(lent: &mut Tables<'_>, scratch: &mut [u8], r: u32) -> Result<(), Refusal>
-    requires { (r < 2 * most_roles) × (in_hand_bytes ≤ length scratch.old) × Good lent.old.counters }
-    ensures references { SameReferences lent.old lent.new }
-    ensures deferrals { lent.new.deferrals.now ≡ lent.old.deferrals.now }
-    ensures did { let old = four (words scratch.old) (words lent.old.clauses.now) (words lent.old.atoms.now) in
-        let new = four (words scratch.new) (words lent.new.clauses.now) (words lent.new.atoms.now) in
-        ((d : List ℕ) → Did (λ _. 0) 0 (λ env f b u. irreflexive env (role_of r) u) lent.old.counters hand_at 0 (old d) (new d) (done lent.new.counters result)) }
+pub fn irreflexive(
+    clauses: &mut [u8],
+    atoms: &mut [u8],
+    k: &mut Counters,
+    scratch: &mut [u8],
+    r: u32,
+) -> Result<(), Refusal>
+    requires { (r < 2 * most_roles) × (in_hand_bytes ≤ length scratch.old) × Good k.old × Sized (length clauses.old) (length atoms.old) 0 }
+    ensures { let old = four (words scratch.old) (words clauses.old) (words atoms.old) in
+        let new = four (words scratch.new) (words clauses.new) (words atoms.new) in
+        ((d : List ℕ) → Did (λ _. 0) 0 (λ env f b u. irreflexive env (role_of r) u) k.old hand_at 0 (old d) (new d) (done k.new result)) }
 {
     let a = Atom::Role(canon(scratch, r), 0, 0);
     record::put_atom(scratch, HAND, a);
-    hands::push_none(lent, scratch, HAND, 1)
+    hands::push_none(clauses, atoms, k, scratch, HAND, 1)
 }
 
 // The atom s(y, X), or s(X, y).
@@ -87,24 +90,24 @@ fn second(role: Role, y: u32, back: bool) -> Atom
 
 // Not both r(X, y) and s(y, X), or s(X, y): `back` is the rule's own Bool.
 pub fn not_both(
-    lent: &mut Tables<'_>,
+    clauses: &mut [u8],
+    atoms: &mut [u8],
+    k: &mut Counters,
     scratch: &mut [u8],
     r: u32,
     s: u32,
     back: bool,
 ) -> Result<(), Refusal>
-    requires { (r < 2 * most_roles) × (s < 2 * most_roles) × (in_hand_bytes ≤ length scratch.old) × Good lent.old.counters }
-    ensures references { SameReferences lent.old lent.new }
-    ensures deferrals { lent.new.deferrals.now ≡ lent.old.deferrals.now }
-    ensures did { let old = four (words scratch.old) (words lent.old.clauses.now) (words lent.old.atoms.now) in
-        let new = four (words scratch.new) (words lent.new.clauses.now) (words lent.new.atoms.now) in
-        ((d : List ℕ) → Did (λ _. 0) 0 (λ env f b u. not_both env (role_of r) (role_of s) back u) lent.old.counters hand_at 0 (old d) (new d) (done lent.new.counters result)) }
+    requires { (r < 2 * most_roles) × (s < 2 * most_roles) × (in_hand_bytes ≤ length scratch.old) × Good k.old × Sized (length clauses.old) (length atoms.old) 0 }
+    ensures { let old = four (words scratch.old) (words clauses.old) (words atoms.old) in
+        let new = four (words scratch.new) (words clauses.new) (words atoms.new) in
+        ((d : List ℕ) → Did (λ _. 0) 0 (λ env f b u. not_both env (role_of r) (role_of s) back u) k.old hand_at 0 (old d) (new d) (done k.new result)) }
 {
-    lent.counters.restart_vars();
-    let y = lent.counters.fresh_var();
+    k.restart_vars();
+    let y = k.fresh_var();
     let a = Atom::Role(canon(scratch, r), 0, y);
     let b = second(canon(scratch, s), y, back);
     record::put_atom(scratch, HAND, a);
     record::put_atom(scratch, HAND + 1, b);
-    hands::push_none(lent, scratch, HAND, 2)
+    hands::push_none(clauses, atoms, k, scratch, HAND, 2)
 }

@@ -76,7 +76,15 @@ fn clausify_chain(
     let r = words::get_word(scratch, at + 1);
     let a = words::get_word(scratch, at + 2);
     let b = words::get_word(scratch, at + 3);
-    roles::chain(lent, scratch, a, b, r)
+    roles::chain(
+        lent.clauses,
+        lent.atoms,
+        &mut lent.counters,
+        scratch,
+        a,
+        b,
+        r,
+    )
 }
 
 // The arms over roles, 27 to 31; the others make no clause.
@@ -97,10 +105,33 @@ fn clausify_roles(
     let r = words::get_word(scratch, at + 1);
     match kind {
         27 => clausify_chain(lent, scratch, at, count),
-        28 => roles::chain(lent, scratch, r, r, r),
-        29 => roles::irreflexive(lent, scratch, r),
-        30 => roles::not_both(lent, scratch, r, r, true),
-        31 => role_lists::disjoint_roles(lent, scratch, at + 1, count - 1),
+        28 => roles::chain(
+            lent.clauses,
+            lent.atoms,
+            &mut lent.counters,
+            scratch,
+            r,
+            r,
+            r,
+        ),
+        29 => roles::irreflexive(lent.clauses, lent.atoms, &mut lent.counters, scratch, r),
+        30 => roles::not_both(
+            lent.clauses,
+            lent.atoms,
+            &mut lent.counters,
+            scratch,
+            r,
+            r,
+            true,
+        ),
+        31 => role_lists::disjoint_roles(
+            lent.clauses,
+            lent.atoms,
+            &mut lent.counters,
+            scratch,
+            at + 1,
+            count - 1,
+        ),
         _ => Ok(()),
     }
 }

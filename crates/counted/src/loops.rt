@@ -6,6 +6,7 @@ ghost use Rattle.ir.specs.declared.atom.Atom.{Atom};
 ghost use Rattle.ir.specs.declared.atom.Atom.TheVariants.{Role as RoleAtom};
 ghost use Rattle.rules.specs.Deck.{most_roles};
 ghost use Rattle.rules.specs.Reflexive.{max_var, atoms_vars, add_counted_self_loops};
+ghost use Rattle.tables.specs.Drawn.{Sized};
 ghost use Rattle.tables.specs.Good.{Good};
 ghost use Rattle.hands.specs.Hands.{InHand, four};
 ghost use Rattle.tables.specs.Tabled.{head_count, Run, RunThere};
@@ -14,15 +15,14 @@ ghost use Rattle.contraction.specs.Passes.{Standing, StandingBelowAfter, Drawn, 
 ghost use Rattle.counted.specs.SelfLoops.{loop_at, loops_at, Looping, LoopedAfter};
 ghost use Rattle.counted.specs.VarLaws.{VarsThere};
 ghost use Rattle.ir.specs.Answer.{done};
-ghost use Rattle.tables.specs.Lending.{SameReferences};
 
 use contraction::clause;
 use contraction::clause::HAND;
 use ir::atom::Atom;
+use ir::counters::Counters;
 use ir::record;
 use ir::refusal::Refusal;
 use ir::role::Role;
-use tables::lent::Tables;
 use tables::read;
 
 // One more than the greatest variable of the run's atoms.
@@ -54,22 +54,20 @@ fn put_loop(scratch: &mut [u8], body: &[u8], role: Role, v: u32, fresh: u32)
 
 // Head atom j of clause c; the loops so far are the clauses from `from` on.
 fn loop_of(
-    lent: &mut Tables<'_>,
+    clauses: &mut [u8],
+    atoms: &mut [u8],
+    k: &mut Counters,
     scratch: &mut [u8],
     c: u32,
     j: u32,
     from: u32,
 ) -> Result<(), Refusal>
-    requires { Looping lent.old.counters (words lent.old.clauses.now) (words lent.old.atoms.now) from × (c < from) × (j < head_count (words lent.old.clauses.now) c) × Good lent.old.counters × (in_hand_bytes ≤ length scratch.old) }
-    ensures references { SameReferences lent.old lent.new }
-    ensures deferrals { lent.new.deferrals.now ≡ lent.old.deferrals.now }
-    ensures fact { let old = four (words scratch.old) (words lent.old.clauses.now) (words lent.old.atoms.now) in
-        let new = four (words scratch.new) (words lent.new.clauses.now) (words lent.new.atoms.now) in
-        ((d : List ℕ) → Passed (loop_at from c j) lent.old.counters (old d) (new d) (done lent.new.counters result)) }
-    ensures looped_after { LoopedAfter from (words lent.old.clauses.now) (words lent.new.clauses.now) (words lent.new.atoms.now) (done lent.new.counters result) }
+    requires { Looping k.old (words clauses.old) (words atoms.old) from × (c < from) × (j < head_count (words clauses.old) c) × Good k.old × (in_hand_bytes ≤ length scratch.old) × Sized (length clauses.old) (length atoms.old) 0 }
+    ensures fact { let old = four (words scratch.old) (words clauses.old) (words atoms.old) in
+        let new = four (words scratch.new) (words clauses.new) (words atoms.new) in
+        ((d : List ℕ) → Passed (loop_at from c j) k.old (old d) (new d) (done k.new result)) }
+    ensures looped_after { LoopedAfter from (words clauses.old) (words clauses.new) (words atoms.new) (done k.new result) }
 {
-    let clauses = &mut *lent.clauses;
-    let atoms = &mut *lent.atoms;
     let Some(a) = record::get_atom(read::head_of(clauses, atoms, c), j as usize) else {
         return Ok(());
     };
@@ -85,47 +83,49 @@ fn loop_of(
     }
     let fresh = next_var_of(read::atoms_of(clauses, atoms, c));
     put_loop(scratch, read::body_of(clauses, atoms, c), role, v, fresh);
-    let end = lent.counters.clauses;
+    let end = k.clauses;
     if clause::is_among(scratch, clauses, atoms, nb + 1, 1, from, end) {
         return Ok(());
     }
-    hands::push_run(lent, scratch, HAND, nb + 1, 1)
+    hands::push_run(clauses, atoms, k, scratch, HAND, nb + 1, 1)
 }
 
 // The head atoms of clause c.
 fn loops_of_head(
-    lent: &mut Tables<'_>,
+    clauses: &mut [u8],
+    atoms: &mut [u8],
+    k: &mut Counters,
     scratch: &mut [u8],
     c: u32,
     from: u32,
 ) -> Result<(), Refusal>
-    requires { Looping lent.old.counters (words lent.old.clauses.now) (words lent.old.atoms.now) from × (c < from) × Good lent.old.counters × (in_hand_bytes ≤ length scratch.old) }
-    ensures references { SameReferences lent.old lent.new }
-    ensures deferrals { lent.new.deferrals.now ≡ lent.old.deferrals.now }
-    ensures fact { let old = four (words scratch.old) (words lent.old.clauses.now) (words lent.old.atoms.now) in
-        let new = four (words scratch.new) (words lent.new.clauses.now) (words lent.new.atoms.now) in
-        ((d : List ℕ) → Passed (loops_at from c) lent.old.counters (old d) (new d) (done lent.new.counters result)) }
-    ensures looped_after { LoopedAfter from (words lent.old.clauses.now) (words lent.new.clauses.now) (words lent.new.atoms.now) (done lent.new.counters result) }
+    requires { Looping k.old (words clauses.old) (words atoms.old) from × (c < from) × Good k.old × (in_hand_bytes ≤ length scratch.old) × Sized (length clauses.old) (length atoms.old) 0 }
+    ensures fact { let old = four (words scratch.old) (words clauses.old) (words atoms.old) in
+        let new = four (words scratch.new) (words clauses.new) (words atoms.new) in
+        ((d : List ℕ) → Passed (loops_at from c) k.old (old d) (new d) (done k.new result)) }
+    ensures looped_after { LoopedAfter from (words clauses.old) (words clauses.new) (words atoms.new) (done k.new result) }
 {
-    let clauses = &mut *lent.clauses;
     for j in 0..read::head_count(clauses, c) {
-        loop_of(lent, scratch, c, j, from)?;
+        loop_of(clauses, atoms, k, scratch, c, j, from)?;
     }
     Ok(())
 }
 
-pub fn add_counted_self_loops(lent: &mut Tables<'_>, scratch: &mut [u8]) -> Result<(), Refusal>
-    requires { Standing lent.old.counters (words lent.old.clauses.now) (words lent.old.atoms.now) × ((d : List ℕ) × Drawn lent.old.counters (words lent.old.clauses.now) (words lent.old.atoms.now) d) × Good lent.old.counters × (338400 ≤ length scratch.old) }
-    ensures references { SameReferences lent.old lent.new }
-    ensures deferrals { lent.new.deferrals.now ≡ lent.old.deferrals.now }
-    ensures fact { let old = four (words scratch.old) (words lent.old.clauses.now) (words lent.old.atoms.now) in
-        let new = four (words scratch.new) (words lent.new.clauses.now) (words lent.new.atoms.now) in
-        ((d : List ℕ) → Passed (λ env set. add_counted_self_loops env set) lent.old.counters (old d) (new d) (done lent.new.counters result)) }
-    ensures standing_below_after { StandingBelowAfter (2 ^ 31 + 1) (words lent.new.clauses.now) (words lent.new.atoms.now) (done lent.new.counters result) }
+pub fn add_counted_self_loops(
+    clauses: &mut [u8],
+    atoms: &mut [u8],
+    k: &mut Counters,
+    scratch: &mut [u8],
+) -> Result<(), Refusal>
+    requires { Standing k.old (words clauses.old) (words atoms.old) × ((d : List ℕ) × Drawn k.old (words clauses.old) (words atoms.old) d) × Good k.old × (338400 ≤ length scratch.old) × Sized (length clauses.old) (length atoms.old) 0 }
+    ensures fact { let old = four (words scratch.old) (words clauses.old) (words atoms.old) in
+        let new = four (words scratch.new) (words clauses.new) (words atoms.new) in
+        ((d : List ℕ) → Passed (λ env set. add_counted_self_loops env set) k.old (old d) (new d) (done k.new result)) }
+    ensures standing_below_after { StandingBelowAfter (2 ^ 31 + 1) (words clauses.new) (words atoms.new) (done k.new result) }
 {
-    let from = lent.counters.clauses;
+    let from = k.clauses;
     for c in 0..from {
-        loops_of_head(lent, scratch, c, from)?;
+        loops_of_head(clauses, atoms, k, scratch, c, from)?;
     }
     Ok(())
 }

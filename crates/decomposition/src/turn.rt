@@ -5,15 +5,14 @@ ghost use Rattle.rules.specs.State.{Clause};
 ghost use Rattle.rules.specs.Branches.{decompose_wide_bodies};
 ghost use Rattle.ir.specs.Answer.{answer};
 ghost use Rattle.tables.specs.Drawn.{shown, after, Sized};
-ghost use Rattle.tables.specs.Lending.{SameReferences};
 ghost use Rattle.branches.specs.Layout.{work_words};
 ghost use Rattle.decomposition.specs.Decomposing.{Decomposing};
 ghost use Rattle.decomposition.specs.Turning.{Listed, Passed, TurnThere, TurnedBy, AllPassed, EndThere};
 
 use crate::{one, place};
 use branches::memo::Naming;
+use ir::counters::Counters;
 use ir::refusal::Refusal;
-use tables::lent::Tables;
 use tables::read;
 
 // After some clauses: the branches, the atoms so far, and how many bodies are new.
@@ -64,19 +63,20 @@ pub fn turn(
 }
 
 // The branches behind the clauses, and zeros behind them; how many bodies are new.
-pub fn finish(lent: &mut Tables<'_>, scratch: &[u8], p: Progress) -> Result<u32, Refusal>
-    requires { EndThere lent.old.counters (words scratch.now) (words lent.old.clauses.now) (words lent.old.atoms.now) p.naming p.atoms p.rewritten × (4 * work_words ≤ length scratch.now) }
-    ensures references { SameReferences lent.old lent.new }
-    ensures deferrals { lent.new.deferrals.now ≡ lent.old.deferrals.now }
-    ensures did { (c₀ a₀ : List ℕ) (D : Decomposing lent.old.counters c₀ a₀) → AllPassed lent.old.counters c₀ a₀ D (words scratch.now) (words lent.old.clauses.now) (words lent.old.atoms.now) p.naming p.atoms p.rewritten → after (answer lent.new.counters result) (words lent.new.clauses.now) (words lent.new.atoms.now) D.deferrals ≡ shown (λ n. n) lent.old.counters D.env.rooms (decompose_wide_bodies D.env D.state) }
+pub fn finish(
+    clauses: &mut [u8],
+    atoms: &mut [u8],
+    k: &mut Counters,
+    scratch: &[u8],
+    p: Progress,
+) -> Result<u32, Refusal>
+    requires { EndThere k.old (words scratch.now) (words clauses.old) (words atoms.old) p.naming p.atoms p.rewritten × (4 * work_words ≤ length scratch.now) × Sized (length clauses.old) (length atoms.old) 0 }
+    ensures { (c₀ a₀ : List ℕ) (D : Decomposing k.old c₀ a₀) → AllPassed k.old c₀ a₀ D (words scratch.now) (words clauses.old) (words atoms.old) p.naming p.atoms p.rewritten → after (answer k.new result) (words clauses.new) (words atoms.new) D.deferrals ≡ shown (λ n. n) k.old D.env.rooms (decompose_wide_bodies D.env D.state) }
 {
     let s = p.naming;
     let to = p.atoms;
-    let k = lent.counters;
     let last = k.clauses + s.named;
     let end = to + s.used;
-    let clauses = &mut *lent.clauses;
-    let atoms = &mut *lent.atoms;
     if read::clause_room(clauses) < last as usize {
         return Err(Refusal::NoRoom);
     }
@@ -86,8 +86,8 @@ pub fn finish(lent: &mut Tables<'_>, scratch: &[u8], p: Progress) -> Result<u32,
     place::put_named(scratch, clauses, atoms, s, k.clauses, to);
     let left = k.atoms.saturating_sub(end);
     words::clear_words(atoms, 6 * (end as usize), 6 * (left as usize));
-    lent.counters.clauses = last;
-    lent.counters.atoms = end;
-    lent.counters.next_class = s.first + s.named;
+    k.clauses = last;
+    k.atoms = end;
+    k.next_class = s.first + s.named;
     Ok(p.rewritten)
 }

@@ -28,7 +28,16 @@ pub fn union_member(
 {
     lent.counters.restart_vars();
     match antecedents::encode_antecedent(scratch, &mut lent.counters, m)? {
-        Some(alternatives) => bodies::push_bodies(lent, scratch, m, alternatives.count, 1, class),
+        Some(alternatives) => bodies::push_bodies(
+            lent.clauses,
+            lent.atoms,
+            &mut lent.counters,
+            scratch,
+            m,
+            alternatives.count,
+            1,
+            class,
+        ),
         None => tables::defer(
             lent.deferrals,
             &mut lent.counters,

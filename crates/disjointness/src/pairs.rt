@@ -20,34 +20,36 @@ use tables::lent::Tables;
 
 // What stands from HAND up to `top`, with each of the `count` alternatives of b behind it.
 fn push_with(
-    lent: &mut Tables<'_>,
+    clauses: &mut [u8],
+    atoms: &mut [u8],
+    k: &mut Counters,
     scratch: &mut [u8],
     top: usize,
     b: u32,
     count: u32,
     y: u32,
 ) -> Result<(), Refusal>
-    requires { Encoding scratch.old lent.old.counters × (b < lent.old.counters.concepts) × (in_hand_bytes ≤ length scratch.old) × (hand_at ≤ top) × (top ≤ hand_at + 256) × Good lent.old.counters × Sourced (words scratch.old) lent.old.counters b y count }
-    ensures references { SameReferences lent.old lent.new }
-    ensures deferrals { lent.new.deferrals.now ≡ lent.old.deferrals.now }
-    ensures did { let old = four (words scratch.old) (words lent.old.clauses.now) (words lent.old.atoms.now) in
-        let new = four (words scratch.new) (words lent.new.clauses.now) (words lent.new.atoms.now) in
-        ((d : List ℕ) → PushedWith lent.old.counters top b count y (old d) (new d) (done lent.new.counters result)) }
+    requires { Encoding scratch.old k.old × (b < k.old.concepts) × (in_hand_bytes ≤ length scratch.old) × (hand_at ≤ top) × (top ≤ hand_at + 256) × Good k.old × Sourced (words scratch.old) k.old b y count × Sized (length clauses.old) (length atoms.old) 0 }
+    ensures { let old = four (words scratch.old) (words clauses.old) (words atoms.old) in
+        let new = four (words scratch.new) (words clauses.new) (words atoms.new) in
+        ((d : List ℕ) → PushedWith k.old top b count y (old d) (new d) (done k.new result)) }
 {
     for j in 0..count {
-        let end = antecedents::write_alternative(scratch, lent.counters, top, b, 0, y, j);
+        let end = antecedents::write_alternative(scratch, *k, top, b, 0, y, j);
         if HAND + 256 < end {
             return Err(Refusal::NoRoom);
         }
         let n = (end - HAND) as u32;
-        hands::push_none(lent, scratch, HAND, n)?;
+        hands::push_none(clauses, atoms, k, scratch, HAND, n)?;
     }
     Ok(())
 }
 
 // Each of the alternatives of a, whose variables begin with 1, with each of those of b, whose variables begin with y.
 fn push_pairs(
-    lent: &mut Tables<'_>,
+    clauses: &mut [u8],
+    atoms: &mut [u8],
+    k: &mut Counters,
     scratch: &mut [u8],
     a: u32,
     count: u32,
@@ -55,16 +57,14 @@ fn push_pairs(
     others: u32,
     y: u32,
 ) -> Result<(), Refusal>
-    requires { Encoding scratch.old lent.old.counters × (a < lent.old.counters.concepts) × (b < lent.old.counters.concepts) × (in_hand_bytes ≤ length scratch.old) × Good lent.old.counters × Sourced (words scratch.old) lent.old.counters a 1 count × Sourced (words scratch.old) lent.old.counters b y others }
-    ensures references { SameReferences lent.old lent.new }
-    ensures deferrals { lent.new.deferrals.now ≡ lent.old.deferrals.now }
-    ensures did { let old = four (words scratch.old) (words lent.old.clauses.now) (words lent.old.atoms.now) in
-        let new = four (words scratch.new) (words lent.new.clauses.now) (words lent.new.atoms.now) in
-        ((d : List ℕ) → PushedPairs lent.old.counters a count b others y (old d) (new d) (done lent.new.counters result)) }
+    requires { Encoding scratch.old k.old × (a < k.old.concepts) × (b < k.old.concepts) × (in_hand_bytes ≤ length scratch.old) × Good k.old × Sourced (words scratch.old) k.old a 1 count × Sourced (words scratch.old) k.old b y others × Sized (length clauses.old) (length atoms.old) 0 }
+    ensures { let old = four (words scratch.old) (words clauses.old) (words atoms.old) in
+        let new = four (words scratch.new) (words clauses.new) (words atoms.new) in
+        ((d : List ℕ) → PushedPairs k.old a count b others y (old d) (new d) (done k.new result)) }
 {
     for i in 0..count {
-        let top = antecedents::write_alternative(scratch, lent.counters, HAND, a, 0, 1, i);
-        push_with(lent, scratch, top, b, others, y)?;
+        let top = antecedents::write_alternative(scratch, *k, HAND, a, 0, 1, i);
+        push_with(clauses, atoms, k, scratch, top, b, others, y)?;
     }
     Ok(())
 }
@@ -101,5 +101,15 @@ pub fn disjoint_pair(
     let (Some(alts_a), Some(alts_b)) = (first, second) else {
         return give_up(lent.deferrals, &mut lent.counters, deferred);
     };
-    push_pairs(lent, scratch, a, alts_a.count, b, alts_b.count, y)
+    push_pairs(
+        lent.clauses,
+        lent.atoms,
+        &mut lent.counters,
+        scratch,
+        a,
+        alts_a.count,
+        b,
+        alts_b.count,
+        y,
+    )
 }

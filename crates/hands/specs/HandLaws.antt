@@ -1,9 +1,9 @@
 -- Bodies in hand: the part that is handed on, one atom more, and what a call above leaves alone. Assumes nothing.
 use Rattle.std.specs.Prelude.{◌≡◌, refl, get_or, drop}
 use Rattle.std.proofs.Math.Path.{sym, ap}
-use Rattle.std.proofs.Common.{subst, ◌∙◌, take-add, drop_at}
+use Rattle.std.proofs.Common.{◌∙◌, take-add, drop_at}
 use mathlib.Core.List.{List, [], ◌∷◌, ◌++◌, append-nil, append_assoc}
-use Prim.Native.Nat.{ℕ, zero, suc, ◌+◌, ◌*◌, ◌-◌, ◌≤◌, ◌<◌}
+use Prim.Native.Nat.{ℕ, ◌+◌, ◌*◌, ◌-◌, ◌≤◌}
 use native.Mathlib.Omega.{arith}
 use Rattle.std.proofs.Math.ListN.{length, take, length-append}
 use Rattle.std.proofs.lemmas.List.Edits.{sets}
@@ -17,10 +17,15 @@ use Rattle.ir.specs.Scratch.{limits_at}
 use Rattle.ir.specs.declared.atom.Atom.{Atom}
 use Rattle.rules.specs.Run.{flat}
 use Rattle.rules.specs.DecodeLaws.{flat_append, flat_long}
+use Rattle.tables.specs.Drawn.{Sized}
 use Rattle.tables.specs.Tabled.{At, Run}
 use Rattle.tables.specs.AtomLaws.{part_run}
 use Rattle.waiting.specs.Limits.{Behind}
 use Rattle.hands.specs.Hands.{InHand}
+
+-- two of the tables that fit, by themselves
+pub sized_two : {c a d : ℕ} → Sized c a d → Sized c a 0
+sized_two s = record { clauses = s.clauses; atoms = s.atoms; deferrals = omega arith }
 
 -- a run below the limits
 pub put_behind : (w w' vs : List ℕ) (p : ℕ) → w' ≡ sets w p vs → p + length vs ≤ limits_at → Behind w w'

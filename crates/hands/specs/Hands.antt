@@ -1,5 +1,5 @@
 -- Bodies and heads in hand, and what a call that emits does to the lent tables.
-use Rattle.std.specs.Prelude.{◌≡◌, false, List, ◌++◌, ℕ, ◌+◌, ◌*◌, ◌<◌, ◌≤◌, length, take}
+use Rattle.std.specs.Prelude.{◌≡◌, false, List, ◌++◌, ℕ, ◌+◌, ◌*◌, ◌≤◌, length, take}
 use Rattle.words.specs.Words.{words}
 use Rattle.ir.specs.Options.{card_disjunct_atoms, equal_names}
 use Rattle.ir.specs.declared.counters.Counters.{Counters}

@@ -1,5 +1,5 @@
 -- The limits that wait in scratch: rules that let them be, refusals, and what goes on after an answer. Assumes nothing.
-use Rattle.std.specs.Prelude.{◌≡◌, refl, List, ◌++◌, ℕ, ◌+◌}
+use Rattle.std.specs.Prelude.{◌≡◌, refl, List, ◌++◌, ℕ}
 use Rattle.std.proofs.Common.{sym, subst, ◌∙◌, arith}
 use Rattle.ir.specs.declared.counters.Counters.{Counters}
 use Rattle.ir.specs.Answer.{Answer}

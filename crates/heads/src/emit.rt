@@ -55,7 +55,17 @@ pub fn emit_head(
         Form::All => emit_under(lent, scratch, base, n, c, v),
         Form::Named => {
             let q = name_filler(lent, scratch, base + n as usize, c)?;
-            after::emit_named(lent, scratch, base, n, c, v, q)
+            after::emit_named(
+                lent.clauses,
+                lent.atoms,
+                &mut lent.counters,
+                scratch,
+                base,
+                n,
+                c,
+                v,
+                q,
+            )
         }
     }
 }
@@ -146,7 +156,15 @@ fn emit_or(
         }
         record::put_atom(scratch, top, a);
     }
-    hands::push_run(lent, scratch, base, n, count)
+    hands::push_run(
+        lent.clauses,
+        lent.atoms,
+        &mut lent.counters,
+        scratch,
+        base,
+        n,
+        count,
+    )
 }
 
 // One atom for a disjunct; what it names stands from `base` on.
@@ -169,7 +187,15 @@ pub fn head_atom_for(
     lent.counters.visit()?;
     match disjunct::disjunct_of(scratch, lent.counters, c, v) {
         Disjunct::Ready(a) => Ok(Some(a)),
-        Disjunct::Negated(a) => disjunct::name_negated(lent, scratch, base, a, v),
+        Disjunct::Negated(a) => disjunct::name_negated(
+            lent.clauses,
+            lent.atoms,
+            &mut lent.counters,
+            scratch,
+            base,
+            a,
+            v,
+        ),
         Disjunct::Absent => Ok(None),
         Disjunct::Whole => {
             let q = atomic_name_of(lent, scratch, base, c)?;

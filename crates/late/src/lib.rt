@@ -5,7 +5,7 @@ ghost use Rattle.std.specs.Prelude.{◌≡◌, ◌*◌, ◌≤◌, length};
 ghost use Rattle.words.specs.Words.{words};
 ghost use Rattle.ir.specs.Options.{body_decompose};
 ghost use Rattle.rules.specs.Run.{reflexive_passes, decomposition, late_passes};
-ghost use Rattle.tables.specs.Drawn.{shown, after};
+ghost use Rattle.tables.specs.Drawn.{shown, after, Sized};
 ghost use Rattle.branches.specs.Layout.{work_words};
 ghost use Rattle.decomposition.specs.Decomposing.{Decomposing};
 ghost use Rattle.late.specs.Flagged.{Flagged};
@@ -14,6 +14,7 @@ ghost use Rattle.ir.specs.Answer.{answer, done};
 ghost use Rattle.tables.specs.Lending.{SameReferences};
 
 use counted::loops;
+use ir::counters::Counters;
 use ir::options;
 use ir::refusal::Refusal;
 use reflexive::ids;
@@ -30,20 +31,23 @@ fn reflexive_passes(lent: &mut Tables<'_>, scratch: &mut [u8], size: u32) -> Res
         return Ok(());
     }
     unfold::apply_reflexive_roles(lent, scratch)?;
-    loops::add_counted_self_loops(lent, scratch)
+    loops::add_counted_self_loops(lent.clauses, lent.atoms, &mut lent.counters, scratch)
 }
 
 // Only with its option; answers how many bodies were decomposed.
-fn decomposed(lent: &mut Tables<'_>, scratch: &mut [u8]) -> Result<u32, Refusal>
-    requires { Decomposing lent.old.counters (words lent.old.clauses.now) (words lent.old.atoms.now) × (4 * work_words ≤ length scratch.old) }
-    ensures references { SameReferences lent.old lent.new }
-    ensures deferrals { lent.new.deferrals.now ≡ lent.old.deferrals.now }
-    ensures did { (D : Decomposing lent.old.counters (words lent.old.clauses.now) (words lent.old.atoms.now)) → after (answer lent.new.counters result) (words lent.new.clauses.now) (words lent.new.atoms.now) D.deferrals ≡ shown (λ n. n) lent.old.counters D.env.rooms (decomposition D.env (body_decompose lent.old.counters.options) D.state) }
+fn decomposed(
+    clauses: &mut [u8],
+    atoms: &mut [u8],
+    k: &mut Counters,
+    scratch: &mut [u8],
+) -> Result<u32, Refusal>
+    requires { Decomposing k.old (words clauses.old) (words atoms.old) × (4 * work_words ≤ length scratch.old) × Sized (length clauses.old) (length atoms.old) 0 }
+    ensures { (D : Decomposing k.old (words clauses.old) (words atoms.old)) → after (answer k.new result) (words clauses.new) (words atoms.new) D.deferrals ≡ shown (λ n. n) k.old D.env.rooms (decomposition D.env (body_decompose k.old.options) D.state) }
 {
-    if !options::body_decompose(lent.counters.options) {
+    if !options::body_decompose(k.options) {
         return Ok(0);
     }
-    decomposition::decompose_wide_bodies(lent, scratch)
+    decomposition::decompose_wide_bodies(clauses, atoms, k, scratch)
 }
 
 // Of the n axioms in scratch; answers how many bodies were decomposed.
@@ -54,5 +58,5 @@ pub fn late_passes(lent: &mut Tables<'_>, scratch: &mut [u8], n: u32) -> Result<
 {
     let size = ids::reflexive_role_ids(scratch, n);
     reflexive_passes(lent, scratch, size)?;
-    decomposed(lent, scratch)
+    decomposed(lent.clauses, lent.atoms, &mut lent.counters, scratch)
 }

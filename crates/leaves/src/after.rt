@@ -5,8 +5,8 @@ ghost use Rattle.words.specs.Words.{words};
 ghost use Rattle.ir.specs.Answer.{done};
 ghost use Rattle.rules.specs.State.{Env};
 ghost use Rattle.pool.specs.Layout.{concept_at, pool_of};
+ghost use Rattle.tables.specs.Drawn.{Sized};
 ghost use Rattle.tables.specs.Good.{Good};
-ghost use Rattle.tables.specs.Lending.{SameReferences};
 ghost use Rattle.hands.specs.Hands.{EnvIn, Did, four};
 ghost use Rattle.leaves.specs.Leaves.{emit_named, drops_head};
 ghost use Rattle.leaves.specs.Classes.{Restricts};
@@ -16,11 +16,12 @@ use crate::{disjunct, read};
 use ir::counters::Counters;
 use ir::refusal::Refusal;
 use pool::record as concept;
-use tables::lent::Tables;
 
 // The head of restriction c over the class q: none over a data key of Min and Max.
 pub fn emit_named(
-    lent: &mut Tables<'_>,
+    clauses: &mut [u8],
+    atoms: &mut [u8],
+    k: &mut Counters,
     scratch: &[u8],
     base: usize,
     n: u32,
@@ -28,19 +29,17 @@ pub fn emit_named(
     v: u32,
     q: u32,
 ) -> Result<(), Refusal>
-    requires { Reading scratch.now lent.old.counters × (c < lent.old.counters.concepts) × Restricts (concept_at (words scratch.now) c) × Good lent.old.counters × (q + 1 < 2 ^ 32) × (n ≤ 256) × (24 * (base + n + 1) ≤ length scratch.now) }
-    ensures references { SameReferences lent.old lent.new }
-    ensures deferrals { lent.new.deferrals.now ≡ lent.old.deferrals.now }
-    ensures did { let w = words scratch.now in
-        let old = four w (words lent.old.clauses.now) (words lent.old.atoms.now) in
-        let new = four w (words lent.new.clauses.now) (words lent.new.atoms.now) in
-        ((d : List ℕ) → Did (λ _. 0) 0 (λ env f b s. emit_named env (pool_of w lent.old.counters.concepts) v (concept_at w c) b q s) lent.old.counters base n (old d) (new d) (done lent.new.counters result)) }
+    requires { Reading scratch.now k.old × (c < k.old.concepts) × Restricts (concept_at (words scratch.now) c) × Good k.old × (q + 1 < 2 ^ 32) × (n ≤ 256) × (24 * (base + n + 1) ≤ length scratch.now) × Sized (length clauses.old) (length atoms.old) 0 }
+    ensures { let w = words scratch.now in
+        let old = four w (words clauses.old) (words atoms.old) in
+        let new = four w (words clauses.new) (words atoms.new) in
+        ((d : List ℕ) → Did (λ _. 0) 0 (λ env f b s. emit_named env (pool_of w k.old.concepts) v (concept_at w c) b q s) k.old base n (old d) (new d) (done k.new result)) }
 {
-    if drops_head(scratch, lent.counters, c, q) {
+    if drops_head(scratch, *k, c, q) {
         return Ok(());
     }
-    let head = disjunct::filler_atom(scratch, lent.counters, c, v, q);
-    hands::push_one(lent, scratch, base, n, head)
+    let head = disjunct::filler_atom(scratch, *k, c, v, q);
+    hands::push_one(clauses, atoms, k, scratch, base, n, head)
 }
 
 // Whether the head of restriction c over class q is dropped: Min and Max over a data key.

@@ -7,6 +7,7 @@ ghost use Rattle.rules.specs.Concept.{Concept};
 ghost use Rattle.rules.specs.Pool.{Pool};
 ghost use Rattle.rules.specs.State.{Env, class_id_of, is_dkey};
 ghost use Rattle.pool.specs.Layout.{field, concept_at, pool_of};
+ghost use Rattle.tables.specs.Drawn.{Sized};
 ghost use Rattle.tables.specs.Good.{Good};
 ghost use Rattle.waiting.specs.Limits.{Behind};
 ghost use Rattle.hands.specs.Hands.{EnvIn, four};
@@ -15,7 +16,6 @@ ghost use Rattle.leaves.specs.Classes.{option_in, Restricts};
 ghost use Rattle.leaves.specs.Reading.{Reading, DisjunctFits};
 ghost use Rattle.leaves.specs.Made.{DidAtom};
 ghost use Rattle.ir.specs.Headed.{headed};
-ghost use Rattle.tables.specs.Lending.{SameReferences};
 
 use crate::{leaf, read};
 use ir::atom::Atom;
@@ -23,7 +23,6 @@ use ir::counters::Counters;
 use ir::refusal::Refusal;
 use ir::{options, record};
 use pool::record as concept;
-use tables::lent::Tables;
 
 // Of a disjunct: its atom, the atom that a fresh name excludes, none, the disjunct to be named, or its filler.
 #[derive(Clone, Copy)]
@@ -117,23 +116,23 @@ pub fn disjunct_of(scratch: &[u8], k: Counters, c: u32, v: u32) -> Disjunct
 
 // A fresh name for what atom a excludes: on X, since it says something of the name everywhere. Its body stands from `base` on.
 pub fn name_negated(
-    lent: &mut Tables<'_>,
+    clauses: &mut [u8],
+    atoms: &mut [u8],
+    k: &mut Counters,
     scratch: &mut [u8],
     base: usize,
     a: Atom,
     v: u32,
 ) -> Result<Option<Atom>, Refusal>
-    requires { (hands_at ≤ 6 * base) × (24 * (base + 2) ≤ length scratch.old) × Good lent.old.counters × (lent.old.counters.next_class ≤ lent.old.counters.visits + 8191) × Fits a × (6 * (base + 2) ≤ limits_at) }
-    ensures references { SameReferences lent.old lent.new }
-    ensures deferrals { lent.new.deferrals.now ≡ lent.old.deferrals.now }
-    ensures did { let old = four (words scratch.old) (words lent.old.clauses.now) (words lent.old.atoms.now) in
-        let new = four (words scratch.new) (words lent.new.clauses.now) (words lent.new.atoms.now) in
-        ((d : List ℕ) → DidAtom 0 (λ env f s. name_negated env [] v a s) lent.old.counters base (old d) (new d) (headed lent.new.counters result)) × Behind (words scratch.old) (words scratch.new) }
+    requires { (hands_at ≤ 6 * base) × (24 * (base + 2) ≤ length scratch.old) × Good k.old × (k.old.next_class ≤ k.old.visits + 8191) × Fits a × (6 * (base + 2) ≤ limits_at) × Sized (length clauses.old) (length atoms.old) 0 }
+    ensures { let old = four (words scratch.old) (words clauses.old) (words atoms.old) in
+        let new = four (words scratch.new) (words clauses.new) (words atoms.new) in
+        ((d : List ℕ) → DidAtom 0 (λ env f s. name_negated env [] v a s) k.old base (old d) (new d) (headed k.new result)) × Behind (words scratch.old) (words scratch.new) }
 {
-    let q = lent.counters.fresh_class();
+    let q = k.fresh_class();
     record::put_atom(scratch, base, Atom::Class(q, 0));
     record::put_atom(scratch, base + 1, a);
-    hands::push_none(lent, scratch, base, 2)?;
+    hands::push_none(clauses, atoms, k, scratch, base, 2)?;
     Ok(Some(Atom::Class(q, v)))
 }
 

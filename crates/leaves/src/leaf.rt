@@ -110,14 +110,36 @@ pub fn emit_leaf(
 {
     match leaf {
         Leaf::Nothing => Ok(()),
-        Leaf::Empty => hands::push_none(lent, scratch, base, n),
-        Leaf::Head(a) => hands::push_one(lent, scratch, base, n, a),
+        Leaf::Empty => hands::push_none(
+            lent.clauses,
+            lent.atoms,
+            &mut lent.counters,
+            scratch,
+            base,
+            n,
+        ),
+        Leaf::Head(a) => hands::push_one(
+            lent.clauses,
+            lent.atoms,
+            &mut lent.counters,
+            scratch,
+            base,
+            n,
+            a,
+        ),
         Leaf::Body(a) => {
             if 256 <= n {
                 return Err(Refusal::NoRoom);
             }
             record::put_atom(scratch, base + n as usize, a);
-            hands::push_none(lent, scratch, base, n + 1)
+            hands::push_none(
+                lent.clauses,
+                lent.atoms,
+                &mut lent.counters,
+                scratch,
+                base,
+                n + 1,
+            )
         }
         Leaf::Deferred => tables::defer(
             lent.deferrals,

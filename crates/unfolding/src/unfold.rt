@@ -55,7 +55,15 @@ fn derive(
         )?;
         return Ok(None);
     }
-    hands::push_run(lent, scratch, HAND, nb, nh)?;
+    hands::push_run(
+        lent.clauses,
+        lent.atoms,
+        &mut lent.counters,
+        scratch,
+        HAND,
+        nb,
+        nh,
+    )?;
     words::put_word(scratch, QUEUE + queued as usize, number);
     Ok(Some(queued + 1))
 }

@@ -5,8 +5,8 @@ use lib.ListN.{length}
 use Rattle.hands.specs.HandLaws.{hand_run}
 use Rattle.hands.proofs.push_one.Goals as goal
 
-pub returns-clause-did : goal.returns-clause-did
-returns-clause-did c =
+pub returns : goal.returns
+returns c =
     let q = c.push_headed.ensures in
     let fits : 24 * (c.args.base + c.args.n) ≤ length c.args.scratch.now = omega (arith, c.requires.1) in
     λ d. record {
