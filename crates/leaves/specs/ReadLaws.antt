@@ -1,6 +1,6 @@
 -- What a concept is, by the words of its record. Assumes nothing.
 use Rattle.std.specs.Prelude.{◌≡◌, refl, Bool, true, false, not, ◌||◌, List, ℕ, zero, suc, ◌+◌, ◌*◌, ◌%◌, ◌<◌, ◌≤◌, ◌^◌, eqb, ltb}
-use Rattle.std.proofs.Common.{sym, ap, subst, ◌∙◌, arith, eqb-true, ltb-true, ltb-false}
+use Rattle.std.proofs.Common.{ap, subst, ◌∙◌, arith, eqb-true, ltb-true, ltb-false}
 use Rattle.std.proofs.Math.Option.{none, some}
 use Prim.{tt}
 use Rattle.std.proofs.lemmas.Bool.{eqb-false}
@@ -27,7 +27,7 @@ use Rattle.leaves.specs.declared.leaf.Leaf.TheVariants as LeafIs
 use Rattle.leaves.specs.declared.disjunct.Disjunct.TheVariants as DisjunctIs
 use Rattle.leaves.specs.declared.form.Form.TheVariants as FormIs
 use Rattle.leaves.specs.Classes.{HasRole, Restricts, at_least_none, is_max, anew}
-use Rattle.leaves.specs.Leaves.{negated_atom, leaf_of, counted_or, disjunct_of, no_atom, over_top, drops_head}
+use Rattle.leaves.specs.Leaves.{negated_atom, leaf_of, counted_or, disjunct_of, no_atom, over_top}
 use Rattle.leaves.specs.Reading.{Reading, form_of}
 
 -- ---- the concept, where its record's kind is known
