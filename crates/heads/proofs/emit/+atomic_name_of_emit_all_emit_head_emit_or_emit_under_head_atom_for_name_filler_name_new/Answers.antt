@@ -23,7 +23,7 @@ use Rattle.rules.specs.State.{Env, class_id_of}
 use Rattle.pool.specs.Layout.{members_at, field, concept_at, pool_of, plain, run}
 use Rattle.pool.specs.HeldLaws.{pool_at}
 use Rattle.hands.specs.Hands.{EnvIn}
-use Rattle.hands.specs.HandLaws.{put_frame}
+use Rattle.hands.specs.HandLaws.{put_frame, sized_two}
 use Rattle.hands.specs.QueueLaws.{queues_no, both_no}
 use Rattle.leaves.specs.declared.form.Form.TheVariants as FormIs
 use Rattle.leaves.specs.Classes.{Restricts, is_max, anew}
@@ -255,7 +255,7 @@ emit_head-emit_named-requires t c =
     let q = c.in_ok-q-in-Named.ensures.did in
     let l1 = f.new.lent.counters in
     let fr = q.0.frame in
-    (reading_alike s1 l l1 q.0.kept (reading_kept A.scratch.now s1 l top M.reading at fr f.auto.scratch), rw q.0.kept.concepts M.held, subst Restricts (sym (concept_on A.scratch.now s1 l top M.reading at fr A.c M.held)) (named_restricts Q e (sym c.in-Named.is ∙ c.form_of.ensures)), q.0.good, q.1, M.room.short, omega (arith, M.room.fits, f.auto.scratch))
+    (reading_alike s1 l l1 q.0.kept (reading_kept A.scratch.now s1 l top M.reading at fr f.auto.scratch), rw q.0.kept.concepts M.held, subst Restricts (sym (concept_on A.scratch.now s1 l top M.reading at fr A.c M.held)) (named_restricts Q e (sym c.in-Named.is ∙ c.form_of.ensures)), q.0.good, q.1, M.room.short, omega (arith, M.room.fits, f.auto.scratch), sized_two f.new.lent.sized)
 
 pub emit_head-returns-in-Leaf-clause-did : goal.emit_head-returns-in-Leaf-clause-did
 emit_head-returns-in-Leaf-clause-did t c =
@@ -336,10 +336,10 @@ emit_head-returns-in_ok-q-in-Named-clause-did t c =
     let form : FormIs.Named ≡ form_of Q e = sym c.in-Named.is ∙ c.form_of.ensures in
     let Q2 = pool_of (words s1) l1.concepts in
     let e2 = concept_at (words s1) A.c in
-    rw c.emit_named.ensures.deferrals (
+    (
       head_step k l A.base A.n A.c A.v _ _ _ P Q e H.begun H.pool H.before
           (named_step l A.base A.n A.c A.v _ _ _ Q e _ _ Q2 e2 form (pool_alike (words s1) l l1 q.0.kept ∙ pool_on A.scratch.now s1 l top M.reading at fr) (concept_on A.scratch.now s1 l top M.reading at fr A.c M.held) M.room.above (words_long _ _ R.3) (words_long _ _ R.4) (words_long _ _ R.5) q.0
-          (did_after (λ env b i s. emit_named env Q2 A.v e2 b i s) l A.base A.n l1 i _ _ _ q.0.kept (c.emit_named.ensures.did _))),
+          (did_after (λ env b i s. emit_named env Q2 A.v e2 b i s) l A.base A.n l1 i _ _ _ q.0.kept (c.emit_named.ensures _))),
       head_queues k l A.base A.n A.c A.v _ _ P Q e H.begun H.pool H.before (named_queues l A.base A.n A.c A.v _ _ Q e _ form refl q.2),
     )
 
@@ -543,7 +543,7 @@ emit_or-returns-clause-did t c =
     let list : e ≡ Or (run w (members_at + start) count) = concept_8 w A.c c.requires.1 ∙ rw (c.child-start.ensures, c.number-count.ensures) refl in
     let S = sizes_of w (words l.scratch) A.lent.now l.lent l.invariant.2 in
     let q = c.push_run.ensures in
-    rw q.deferrals (
+    (
       or_end P w a count k A.base A.n A.c A.v _ e list _ l.lent.counters l.i T M.room.above S _ _ _ c.loop-i-test.false q.good_answer q.kept_answer q.d_after,
       or_queues_end P w a count k A.base A.n A.c A.v _ e list _ l.lent.counters l.i l.invariant.3 _ refl c.loop-i-test.false,
     )
@@ -698,9 +698,9 @@ head_atom_for-returns-in-Negated-clause-did t c =
     let Q = pool_of w l.concepts in
     let dj = c.disjunct_of in
     let q = c.name_negated.ensures in
-    rw q.deferrals (
-      atom_step k l A.base A.c A.v _ _ _ P Q e dj.result H.begun H.pool H.here dj.ensures.value (atom_negated l A.base A.c A.v Q e dj.result _ _ _ c.in-Negated.a c.in-Negated.is (q.did.0 _)),
-      atom_queues k l A.base A.c A.v _ _ P Q e dj.result H.begun H.pool H.here dj.ensures.value (negated_queues l A.base A.c A.v Q e dj.result _ _ c.in-Negated.a c.in-Negated.is q.did.1),
+    (
+      atom_step k l A.base A.c A.v _ _ _ P Q e dj.result H.begun H.pool H.here dj.ensures.value (atom_negated l A.base A.c A.v Q e dj.result _ _ _ c.in-Negated.a c.in-Negated.is (q.0 _)),
+      atom_queues k l A.base A.c A.v _ _ P Q e dj.result H.begun H.pool H.here dj.ensures.value (negated_queues l A.base A.c A.v Q e dj.result _ _ c.in-Negated.a c.in-Negated.is q.1),
     )
 
 pub head_atom_for-returns-in-Absent-clause-did : goal.head_atom_for-returns-in-Absent-clause-did
