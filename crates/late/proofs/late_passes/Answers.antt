@@ -4,6 +4,7 @@ use Rattle.std.proofs.lemmas.Result.{err_from_is_err_and}
 use Rattle.words.specs.Words.{words}
 use Rattle.ir.specs.Answer.{Done, Refused, answer}
 use Rattle.ir.specs.Refusals.{refusal_number}
+use Rattle.hands.specs.HandLaws.{sized_two}
 use Rattle.leaves.specs.StepLaws.{words_long}
 use Rattle.late.specs.LaterLaws.{later_flagged, late_decomposing, late_done, late_refused}
 use Rattle.late.proofs.late_passes.Goals as goal
@@ -51,7 +52,7 @@ decomposed-requires c =
     let R = m.ensures.references in
     let L = c.requires in
     let F = later_flagged c.args.scratch.now t.counters c.args.n C A D L i.new.scratch i.result i.auto.scratch (i.ensures.flags_held L.env L.map) in
-    (late_decomposing c.args.scratch.now t.counters c.args.n C A D L (Done n.counters 0) C' A' D' (c.in_ok-reflexive_passes.ensures.did F) n.counters 0 refl (words_long t.clauses.now n.clauses.now R.3) (words_long t.atoms.now n.atoms.now R.4) (words_long t.deferrals.now n.deferrals.now R.5), omega (arith, L.space, i.auto.scratch, m.auto.scratch))
+    (late_decomposing c.args.scratch.now t.counters c.args.n C A D L (Done n.counters 0) C' A' D' (c.in_ok-reflexive_passes.ensures.did F) n.counters 0 refl (words_long t.clauses.now n.clauses.now R.3) (words_long t.atoms.now n.atoms.now R.4) (words_long t.deferrals.now n.deferrals.now R.5), omega (arith, L.space, i.auto.scratch, m.auto.scratch), sized_two n.sized)
 
 pub returns-clause-did : goal.returns-clause-did
 returns-clause-did c =
@@ -67,7 +68,7 @@ returns-clause-did c =
     let D' = words n.deferrals.now in
     let R = m.ensures.references in
     let q = c.decomposed in
-    rw q.ensures.deferrals (λ L.
+    (λ L.
     let F = later_flagged c.args.scratch.now t.counters c.args.n C A D L i.new.scratch i.result i.auto.scratch (i.ensures.flags_held L.env L.map) in
     let X = late_decomposing c.args.scratch.now t.counters c.args.n C A D L (Done n.counters 0) C' A' D' (c.in_ok-reflexive_passes.ensures.did F) n.counters 0 refl (words_long t.clauses.now n.clauses.now R.3) (words_long t.atoms.now n.atoms.now R.4) (words_long t.deferrals.now n.deferrals.now R.5) in
-    late_done c.args.scratch.now t.counters c.args.n C A D L (Done n.counters 0) C' A' D' (c.in_ok-reflexive_passes.ensures.did F) n.counters 0 refl (words_long t.clauses.now n.clauses.now R.3) (words_long t.atoms.now n.atoms.now R.4) (words_long t.deferrals.now n.deferrals.now R.5) (words q.new.lent.clauses.now) (words q.new.lent.atoms.now) (answer q.new.lent.counters q.result) (q.ensures.did X))
+    late_done c.args.scratch.now t.counters c.args.n C A D L (Done n.counters 0) C' A' D' (c.in_ok-reflexive_passes.ensures.did F) n.counters 0 refl (words_long t.clauses.now n.clauses.now R.3) (words_long t.atoms.now n.atoms.now R.4) (words_long t.deferrals.now n.deferrals.now R.5) (words q.new.clauses) (words q.new.atoms) (answer q.new.k q.result) (q.ensures X))

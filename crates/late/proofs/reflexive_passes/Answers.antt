@@ -3,6 +3,7 @@ use native.Mathlib.Omega.{arith}
 use Rattle.std.proofs.lemmas.Result.{err_from_is_err_and}
 use Rattle.words.specs.Words.{words}
 use Rattle.ir.specs.Answer.{Done, done}
+use Rattle.hands.specs.HandLaws.{sized_two}
 use Rattle.leaves.specs.StepLaws.{words_long}
 use Rattle.late.specs.FlaggedLaws.{flagged_standing, flagged_drawn, flagged_none, unfolded_refused, unfolded_good, unfolded_standing, unfolded_drawn, looped}
 use Rattle.late.proofs.reflexive_passes.Goals as goal
@@ -60,6 +61,7 @@ add_counted_self_loops-requires c =
       (D', unfolded_drawn c.args.scratch.now t.counters c.args.size C A D F some w C' A' D' (Done n.counters 0) c.in_ok-apply_reflexive_roles.ensures.fact n.counters 0 refl (words_long t.clauses.now n.clauses.now R.3) (words_long t.atoms.now n.atoms.now R.4) (words_long t.deferrals.now n.deferrals.now R.5)),
       unfolded_good c.args.scratch.now t.counters c.args.size C A D F some w C' A' D' (Done n.counters 0) c.in_ok-apply_reflexive_roles.ensures.fact n.counters 0 refl,
       omega (arith, F.space, m.auto.scratch),
+      sized_two n.sized,
     )
 
 pub returns-clause-did : goal.returns-clause-did
@@ -77,4 +79,4 @@ returns-clause-did c =
     let some = c.if-size-eq0.false in
     let R = m.ensures.references in
     let q = c.add_counted_self_loops in
-    rw q.ensures.deferrals (λ F. looped c.args.scratch.now t.counters c.args.size C A D F some w C' A' D' (Done n.counters 0) c.in_ok-apply_reflexive_roles.ensures.fact n.counters 0 refl (words_long t.clauses.now n.clauses.now R.3) (words_long t.atoms.now n.atoms.now R.4) (words_long t.deferrals.now n.deferrals.now R.5) (words q.new.scratch) (words q.new.lent.clauses.now) (words q.new.lent.atoms.now) (done q.new.lent.counters q.result) (q.ensures.fact D'))
+    (λ F. looped c.args.scratch.now t.counters c.args.size C A D F some w C' A' D' (Done n.counters 0) c.in_ok-apply_reflexive_roles.ensures.fact n.counters 0 refl (words_long t.clauses.now n.clauses.now R.3) (words_long t.atoms.now n.atoms.now R.4) (words_long t.deferrals.now n.deferrals.now R.5) (words q.new.scratch) (words q.new.clauses) (words q.new.atoms) (done q.new.k q.result) (q.ensures.fact D'))

@@ -15,10 +15,10 @@ use Rattle.axioms.proofs.roles.chain.Goals as goal
 
 pub push_run-requires : goal.push_run-requires
 push_run-requires c = let room = c.requires.3 in
-    (omega arith, omega arith, omega (arith, room), (good_vars c.args.lent.now.counters _ _ _ c.restart_vars.ensures c.fresh_var-y.ensures.self_after c.fresh_var-z.ensures.self_after c.requires.4).1)
+    (omega arith, omega arith, omega (arith, room), (good_vars c.args.k.now _ _ _ c.restart_vars.ensures c.fresh_var-y.ensures.self_after c.fresh_var-z.ensures.self_after c.requires.4).1, c.requires.5)
 
-pub returns-clause-did : goal.returns-clause-did
-returns-clause-did c = let A = c.args in
+pub returns : goal.returns
+returns c = let A = c.args in
     let w = words c.args.scratch.now in
     let room : 6 * 13500 + 18 ≤ length (words c.args.scratch.now) = omega (arith, length_words c.args.scratch.now, c.requires.3) in
     let p = c.push_run.ensures in
@@ -31,7 +31,7 @@ returns-clause-did c = let A = c.args in
     let e1 = rw ey at c.put_atom.ensures in
     let e2 = rw (ey, ez) at c.put_atom-2.ensures in
     let e3 = subst (λ (n : ℕ). words c.put_atom-3.new.t ≡ sets (words c.put_atom-2.new.t) (6 * (13500 + 2)) (six (RoleAtom c.canon-3.result 0 n))) ez c.put_atom-3.ensures in
-    λ d. chain_did A.lent.now.counters _ _ _ 13500 (pool_of (words c.args.scratch.now) A.lent.now.counters.concepts) (words c.args.scratch.now) _ _ _ _ _ d _ _ _ (role_of A.r) (role_of A.s) (role_of A.t) _
+    λ d. chain_did A.k.now _ _ _ 13500 (pool_of (words c.args.scratch.now) A.k.now.concepts) (words c.args.scratch.now) _ _ _ _ _ d _ _ _ (role_of A.r) (role_of A.s) (role_of A.t) _
     c.restart_vars.ensures y.self_after z.self_after
     c.canon.ensures.value c.canon-2.ensures.value c.canon-3.ensures.value
     (frame_three 13500 (words c.args.scratch.now) _ (RoleAtom c.canon.result 0 1) e1 _ (RoleAtom c.canon-2.result 1 2) e2 _ (RoleAtom c.canon-3.result 0 2) e3 room)

@@ -8,10 +8,10 @@ use native.Mathlib.Omega.{arith}
 use Prim.Native.Nat.{◌+◌, ◌*◌, ◌≤◌}
 use Rattle.axioms.proofs.roles.irreflexive.Goals as goal
 
-pub returns-clause-did : goal.returns-clause-did
-returns-clause-did c = let w = words c.args.scratch.now in
+pub returns : goal.returns
+returns c = let w = words c.args.scratch.now in
     let room : 6 * 13500 + 6 ≤ length (words c.args.scratch.now) = omega (arith, length_words c.args.scratch.now, c.requires.1) in
     let e1 = c.put_atom.ensures in
     let x = c.canon in
-    λ d. irreflexive_did c.args.lent.now.counters 13500 w _ _ _ d _ x.result (role_of c.args.r) _ (omega arith) x.ensures.value (frame_one 13500 w _ (RoleAtom x.result 0 0) e1 room) (hand_one 13500 w _ (RoleAtom x.result 0 0) e1 room)
-    (c.push_none.ensures.did d)
+    λ d. irreflexive_did c.args.k.now 13500 w _ _ _ d _ x.result (role_of c.args.r) _ (omega arith) x.ensures.value (frame_one 13500 w _ (RoleAtom x.result 0 0) e1 room) (hand_one 13500 w _ (RoleAtom x.result 0 0) e1 room)
+    (c.push_none.ensures d)

@@ -1,6 +1,7 @@
 use Rattle.clausifier.specs.RoleArmLaws.{row_chain, chained, transitive_asks, transitive_arm, irreflexive_asks, irreflexive_arm, asymmetric_asks, asymmetric_arm, roles_fit, roles_asks, roles_arm, idle_arm}
 use Rattle.axioms.specs.WholeLaws.{clausifying_after}
 use Rattle.hands.specs.Hands.{four_of}
+use Rattle.hands.specs.HandLaws.{sized_two}
 use Rattle.ir.specs.Answer.{done}
 use Rattle.words.specs.Words.{words}
 use mathlib.Core.Path.{refl}
@@ -14,17 +15,17 @@ clausify_chain-requires c =
 pub chain-requires : goal.chain-requires
 chain-requires c =
     let q = transitive_asks (words c.args.scratch.now) c.args.lent.now.counters c.args.kind c.args.at c.args.count c.requires.1 c.get_word-r.result c.get_word-r.ensures c.in-28.is in
-    (q, q, q, omega (arith, c.requires.0.space), c.requires.0.good)
+    (q, q, q, omega (arith, c.requires.0.space), c.requires.0.good, sized_two c.args.lent.now.sized)
 
 pub irreflexive-requires : goal.irreflexive-requires
 irreflexive-requires c =
     let q = irreflexive_asks (words c.args.scratch.now) c.args.lent.now.counters c.args.kind c.args.at c.args.count c.requires.1 c.get_word-r.result c.get_word-r.ensures c.in-29.is in
-    (q, omega (arith, c.requires.0.space), c.requires.0.good)
+    (q, omega (arith, c.requires.0.space), c.requires.0.good, sized_two c.args.lent.now.sized)
 
 pub not_both-requires : goal.not_both-requires
 not_both-requires c =
     let q = asymmetric_asks (words c.args.scratch.now) c.args.lent.now.counters c.args.kind c.args.at c.args.count c.requires.1 c.get_word-r.result c.get_word-r.ensures c.in-30.is in
-    (q, q, omega (arith, c.requires.0.space), c.requires.0.good)
+    (q, q, omega (arith, c.requires.0.space), c.requires.0.good, sized_two c.args.lent.now.sized)
 
 pub overflow_sub-count : goal.overflow_sub-count
 overflow_sub-count c =
@@ -32,7 +33,7 @@ overflow_sub-count c =
 
 pub disjoint_roles-requires : goal.disjoint_roles-requires
 disjoint_roles-requires c =
-    (c.requires.0, roles_asks (words c.args.scratch.now) c.args.lent.now.counters c.args.kind c.args.at c.args.count c.requires.1 c.in-31.is)
+    (c.requires.0, roles_asks (words c.args.scratch.now) c.args.lent.now.counters c.args.kind c.args.at c.args.count c.requires.1 c.in-31.is, sized_two c.args.lent.now.sized)
 
 pub returns-in-27 : goal.returns-in-27
 returns-in-27 c =
@@ -46,40 +47,40 @@ returns-in-27 c =
 pub returns-in-28-clause-fact : goal.returns-in-28-clause-fact
 returns-in-28-clause-fact c =
     let r = c.chain in
-    rw r.ensures.deferrals (transitive_arm (words c.args.scratch.now) c.args.lent.now.counters c.args.kind c.args.at c.args.count c.requires.1 c.get_word-r.result c.get_word-r.ensures c.in-28.is _ _ (done r.new.lent.counters r.result) c.requires.0.encoding.reading.ready.held (r.ensures.did (words c.args.lent.now.deferrals.now)))
+    (transitive_arm (words c.args.scratch.now) c.args.lent.now.counters c.args.kind c.args.at c.args.count c.requires.1 c.get_word-r.result c.get_word-r.ensures c.in-28.is _ _ (done r.new.k r.result) c.requires.0.encoding.reading.ready.held (r.ensures (words c.args.lent.now.deferrals.now)))
 
 pub returns-in-28-clause-clausifying_after : goal.returns-in-28-clause-clausifying_after
 returns-in-28-clause-clausifying_after c =
     let r = c.chain in
-    let D = r.ensures.did (words c.args.lent.now.deferrals.now) in
-    clausifying_after c.args.scratch.now _ c.args.lent.now.counters (done r.new.lent.counters r.result) c.requires.0 r.auto.scratch D.frame D.good D.kept
+    let D = r.ensures (words c.args.lent.now.deferrals.now) in
+    clausifying_after c.args.scratch.now _ c.args.lent.now.counters (done r.new.k r.result) c.requires.0 r.auto.scratch D.frame D.good D.kept
 
 pub returns-in-29-clause-fact : goal.returns-in-29-clause-fact
 returns-in-29-clause-fact c =
     let r = c.irreflexive in
-    rw r.ensures.deferrals (irreflexive_arm (words c.args.scratch.now) c.args.lent.now.counters c.args.kind c.args.at c.args.count c.requires.1 c.get_word-r.result c.get_word-r.ensures c.in-29.is _ _ (done r.new.lent.counters r.result) c.requires.0.encoding.reading.ready.held (r.ensures.did (words c.args.lent.now.deferrals.now)))
+    (irreflexive_arm (words c.args.scratch.now) c.args.lent.now.counters c.args.kind c.args.at c.args.count c.requires.1 c.get_word-r.result c.get_word-r.ensures c.in-29.is _ _ (done r.new.k r.result) c.requires.0.encoding.reading.ready.held (r.ensures (words c.args.lent.now.deferrals.now)))
 
 pub returns-in-29-clause-clausifying_after : goal.returns-in-29-clause-clausifying_after
 returns-in-29-clause-clausifying_after c =
     let r = c.irreflexive in
-    let D = r.ensures.did (words c.args.lent.now.deferrals.now) in
-    clausifying_after c.args.scratch.now _ c.args.lent.now.counters (done r.new.lent.counters r.result) c.requires.0 r.auto.scratch D.frame D.good D.kept
+    let D = r.ensures (words c.args.lent.now.deferrals.now) in
+    clausifying_after c.args.scratch.now _ c.args.lent.now.counters (done r.new.k r.result) c.requires.0 r.auto.scratch D.frame D.good D.kept
 
 pub returns-in-30-clause-fact : goal.returns-in-30-clause-fact
 returns-in-30-clause-fact c =
     let r = c.not_both in
-    rw r.ensures.deferrals (asymmetric_arm (words c.args.scratch.now) c.args.lent.now.counters c.args.kind c.args.at c.args.count c.requires.1 c.get_word-r.result c.get_word-r.ensures c.in-30.is _ _ (done r.new.lent.counters r.result) c.requires.0.encoding.reading.ready.held (r.ensures.did (words c.args.lent.now.deferrals.now)))
+    (asymmetric_arm (words c.args.scratch.now) c.args.lent.now.counters c.args.kind c.args.at c.args.count c.requires.1 c.get_word-r.result c.get_word-r.ensures c.in-30.is _ _ (done r.new.k r.result) c.requires.0.encoding.reading.ready.held (r.ensures (words c.args.lent.now.deferrals.now)))
 
 pub returns-in-30-clause-clausifying_after : goal.returns-in-30-clause-clausifying_after
 returns-in-30-clause-clausifying_after c =
     let r = c.not_both in
-    let D = r.ensures.did (words c.args.lent.now.deferrals.now) in
-    clausifying_after c.args.scratch.now _ c.args.lent.now.counters (done r.new.lent.counters r.result) c.requires.0 r.auto.scratch D.frame D.good D.kept
+    let D = r.ensures (words c.args.lent.now.deferrals.now) in
+    clausifying_after c.args.scratch.now _ c.args.lent.now.counters (done r.new.k r.result) c.requires.0 r.auto.scratch D.frame D.good D.kept
 
 pub returns-in-31-clause-fact : goal.returns-in-31-clause-fact
 returns-in-31-clause-fact c =
     let r = c.disjoint_roles in
-    rw r.ensures.deferrals (roles_arm (words c.args.scratch.now) c.args.lent.now.counters c.args.kind c.args.at c.args.count c.requires.1 c.in-31.is _ _ _ (r.ensures.fact (words c.args.lent.now.deferrals.now)))
+    (roles_arm (words c.args.scratch.now) c.args.lent.now.counters c.args.kind c.args.at c.args.count c.requires.1 c.in-31.is _ _ _ (r.ensures.fact (words c.args.lent.now.deferrals.now)))
 
 pub returns-in_default : goal.returns-in_default
 returns-in_default c =

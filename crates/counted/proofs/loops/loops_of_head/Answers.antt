@@ -11,33 +11,34 @@ use Rattle.counted.proofs.loops.loops_of_head.Goals as goal
 
 pub head_count-j-end-requires : goal.head_count-j-end-requires
 head_count-j-end-requires c =
-    let A = c.args.lent.now in
-    omega (arith, length_words A.clauses.now, (looping_there A.counters (words A.clauses.now) (words A.atoms.now) c.args.from c.requires.0 c.args.c c.requires.1).is.row)
+    let A = c.args in
+    omega (arith, length_words A.clauses.now, (looping_there A.k.now (words A.clauses.now) (words A.atoms.now) c.args.from c.requires.0 c.args.c c.requires.1).is.row)
 
 pub loop-j-init : goal.loop-j-init
 loop-j-init c =
-    let A = c.args.lent.now in
-    (heads_start c.args.from c.args.c c.head_count-j-end.result A.counters (words c.args.scratch.now) (words A.clauses.now) (words A.atoms.now) c.requires.0 c.requires.1 c.head_count-j-end.ensures c.requires.2, refl, (refl, refl, refl, refl, refl, refl), refl)
+    let A = c.args in
+    (heads_start c.args.from c.args.c c.head_count-j-end.result A.k.now (words c.args.scratch.now) (words A.clauses.now) (words A.atoms.now) c.requires.0 c.requires.1 c.head_count-j-end.ensures c.requires.2, refl, refl, refl)
 
 pub loop_of-requires : goal.loop_of-requires
 loop_of-requires c =
     let L = c.loop-j in
-    let A = c.args.lent.now in
+    let A = c.args in
     let I = L.invariant in (
       I.0.looped.looping,
       c.requires.1,
-      heads_there c.args.from c.args.c c.head_count-j-end.result A.counters (words c.args.scratch.now) (words A.clauses.now) (words A.atoms.now) c.requires.0 c.requires.1 c.head_count-j-end.ensures (words L.scratch) (words L.lent.clauses.now) (words L.lent.atoms.now) L.lent.counters L.j I.0 c.loop-j-test.true,
+      heads_there c.args.from c.args.c c.head_count-j-end.result A.k.now (words c.args.scratch.now) (words A.clauses.now) (words A.atoms.now) c.requires.0 c.requires.1 c.head_count-j-end.ensures (words L.scratch) (words L.clauses) (words L.atoms) L.k L.j I.0 c.loop-j-test.true,
       I.0.good,
       omega (arith, c.requires.3, I.1),
+      rw (I.2, I.3) c.requires.4,
     )
 
 pub returns-in_err-loop_of-clause-fact : goal.returns-in_err-loop_of-clause-fact
 returns-in_err-loop_of-clause-fact c =
     let p = err_from_is_err_and c.from_residual.result c.from_residual.ensures.1 in
     let L = c.loop-j in
-    let A = c.args.lent.now in
+    let A = c.args in
     let I = L.invariant in
-    rw (p.1, p.2) (λ d. heads_stop c.args.from c.args.c c.head_count-j-end.result A.counters (words c.args.scratch.now) (words A.clauses.now) (words A.atoms.now) c.requires.0 c.requires.1 c.head_count-j-end.ensures (words L.scratch) (words L.lent.clauses.now) (words L.lent.atoms.now) L.lent.counters L.j I.0 c.loop-j-test.true (words_long A.clauses.now L.lent.clauses.now I.2.3) (words_long A.atoms.now L.lent.atoms.now I.2.4) _ _ _ _ c.in_err-loop_of.ensures.fact _ refl d)
+    rw (p.1, p.2) (λ d. heads_stop c.args.from c.args.c c.head_count-j-end.result A.k.now (words c.args.scratch.now) (words A.clauses.now) (words A.atoms.now) c.requires.0 c.requires.1 c.head_count-j-end.ensures (words L.scratch) (words L.clauses) (words L.atoms) L.k L.j I.0 c.loop-j-test.true (words_long A.clauses.now L.clauses I.2) (words_long A.atoms.now L.atoms I.3) _ _ _ _ c.in_err-loop_of.ensures.fact _ refl d)
 
 pub returns-in_err-loop_of-clause-looped_after : goal.returns-in_err-loop_of-clause-looped_after
 returns-in_err-loop_of-clause-looped_after c =
@@ -47,22 +48,20 @@ returns-in_err-loop_of-clause-looped_after c =
 pub loop-j-preserved : goal.loop-j-preserved
 loop-j-preserved c =
     let L = c.loop-j in
-    let A = c.args.lent.now in
+    let A = c.args in
     let I = L.invariant in
-    let S = I.2 in
-    let P = c.loop_of in
-    let R = P.ensures.references in (
-      heads_next c.args.from c.args.c c.head_count-j-end.result A.counters (words c.args.scratch.now) (words A.clauses.now) (words A.atoms.now) c.requires.0 c.requires.1 c.head_count-j-end.ensures (words L.scratch) (words L.lent.clauses.now) (words L.lent.atoms.now) L.lent.counters L.j I.0 c.loop-j-test.true (words_long A.clauses.now L.lent.clauses.now S.3) (words_long A.atoms.now L.lent.atoms.now S.4) _ _ _ _ c.in_ok-loop_of.ensures.fact c.in_ok-loop_of.ensures.looped_after _ 0 refl,
+    let P = c.loop_of in (
+      heads_next c.args.from c.args.c c.head_count-j-end.result A.k.now (words c.args.scratch.now) (words A.clauses.now) (words A.atoms.now) c.requires.0 c.requires.1 c.head_count-j-end.ensures (words L.scratch) (words L.clauses) (words L.atoms) L.k L.j I.0 c.loop-j-test.true (words_long A.clauses.now L.clauses I.2) (words_long A.atoms.now L.atoms I.3) _ _ _ _ c.in_ok-loop_of.ensures.fact c.in_ok-loop_of.ensures.looped_after _ 0 refl,
       P.auto.scratch ∙ I.1,
-      (R.0 ∙ S.0, R.1 ∙ S.1, R.2 ∙ S.2, R.3 ∙ S.3, R.4 ∙ S.4, R.5 ∙ S.5),
-      P.ensures.deferrals ∙ I.3,
+      P.auto.clauses ∙ I.2,
+      P.auto.atoms ∙ I.3,
     )
 
 pub returns-clause-fact : goal.returns-clause-fact
 returns-clause-fact c =
     let L = c.loop-j in
-    let A = c.args.lent.now in
-    heads_end c.args.from c.args.c c.head_count-j-end.result A.counters (words c.args.scratch.now) (words A.clauses.now) (words A.atoms.now) c.requires.0 c.requires.1 c.head_count-j-end.ensures (words L.scratch) (words L.lent.clauses.now) (words L.lent.atoms.now) L.lent.counters L.j L.invariant.0 c.loop-j-test.false
+    let A = c.args in
+    heads_end c.args.from c.args.c c.head_count-j-end.result A.k.now (words c.args.scratch.now) (words A.clauses.now) (words A.atoms.now) c.requires.0 c.requires.1 c.head_count-j-end.ensures (words L.scratch) (words L.clauses) (words L.atoms) L.k L.j L.invariant.0 c.loop-j-test.false
 
 pub returns-clause-looped_after : goal.returns-clause-looped_after
 returns-clause-looped_after c = c.loop-j.invariant.0.looped

@@ -19,7 +19,7 @@ put_heads-requires c = let A = c.args.lent.now.counters in let room : 6 * 13500 
 pub returns-then-branch-clause-did : goal.returns-then-branch-clause-did
 returns-then-branch-clause-did c = let t = c.args.lent.now in let room : 6 * 13500 + 6 ≤ length (words c.args.scratch.now) = omega (arith, length_words c.args.scratch.now, c.requires.2) in
     let p = c.push_run.ensures in
-    rw p.deferrals (cover_all t.counters c.args.class c.args.at c.args.count (words c.args.scratch.now) _ _ c.put_atom.ensures room c.requires.0.ready.held c.requires.1
+    (cover_all t.counters c.args.class c.args.at c.args.count (words c.args.scratch.now) _ _ c.put_atom.ensures room c.requires.0.ready.held c.requires.1
     _ c.put_heads.ensures (words t.clauses.now) (words t.atoms.now) (words t.deferrals.now) _ _ (words t.deferrals.now) _ p.good_answer p.kept_answer (c.in_ok-put_heads.was ∙ ap Ok c.if-branch.true) p.d_after)
 
 pub returns-else-branch-clause-did : goal.returns-else-branch-clause-did

@@ -6,6 +6,7 @@ use Rattle.words.specs.Words.{words}
 use Rattle.ir.specs.Encoded.{encoded}
 use Rattle.rules.specs.Axioms.{member_with}
 use Rattle.antecedents.specs.Counts.{GoodEncoded}
+use Rattle.hands.specs.HandLaws.{sized_two}
 use Rattle.axioms.specs.RoleLaws.{good_restart}
 use Rattle.axioms.specs.Bodies.{gives_class}
 use Rattle.axioms.specs.BodyLaws.{encoding_kept}
@@ -24,13 +25,14 @@ push_bodies-requires c = let v = c.restart_vars in let r = c.encode_antecedent i
       c.requires.3,
       subst GoodEncoded is r.ensures.1,
       found_sourced k v.new.self c.args.m w (encoded r.new.k r.result) v.ensures r.ensures.0 c.requires.0.canon c.requires.0.roles (good_restart k v.new.self v.ensures c.requires.4) r.new.k x.count x.longest is,
+      sized_two c.args.lent.now.sized,
     )
 
 pub returns-in-Some-clause-did : goal.returns-in-Some-clause-did
 returns-in-Some-clause-did c = let v = c.restart_vars in let r = c.encode_antecedent in let t = c.args.lent.now in let x = c.in-Some.alternatives in
     let is = ap (encoded r.new.k) (c.in_ok-alternatives.was ∙ ap Ok c.in-Some.is) in
-    rw c.push_bodies.ensures.deferrals (encoded_found t.counters v.new.self c.args.m (words c.args.scratch.now) (encoded r.new.k r.result) v.ensures r.ensures.0 (words t.clauses.now) (words t.atoms.now) (words t.deferrals.now) (λ env. member_with env c.args.class)
-    (gives_class c.args.class) (λ env l s. refl) r.new.k x.count x.longest _ _ is (good_restart t.counters v.new.self v.ensures c.requires.4) (c.push_bodies.ensures.did (words t.deferrals.now)))
+    (encoded_found t.counters v.new.self c.args.m (words c.args.scratch.now) (encoded r.new.k r.result) v.ensures r.ensures.0 (words t.clauses.now) (words t.atoms.now) (words t.deferrals.now) (λ env. member_with env c.args.class)
+    (gives_class c.args.class) (λ env l s. refl) r.new.k x.count x.longest _ _ is (good_restart t.counters v.new.self v.ensures c.requires.4) (c.push_bodies.ensures (words t.deferrals.now)))
 
 pub returns-in-None-clause-did : goal.returns-in-None-clause-did
 returns-in-None-clause-did c = let v = c.restart_vars in let r = c.encode_antecedent in let p = c.defer.ensures in let t = c.args.lent.now in

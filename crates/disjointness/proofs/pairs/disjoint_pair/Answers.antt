@@ -6,6 +6,7 @@ use Rattle.words.specs.Words.{words}
 use Rattle.ir.specs.Encoded.{Found, encoded}
 use Rattle.ir.specs.declared.answer.Alternatives.{Alternatives}
 use Rattle.hands.specs.Hands.{four}
+use Rattle.hands.specs.HandLaws.{sized_two}
 use Rattle.leaves.specs.StepLaws.{alike_then}
 use Rattle.axioms.specs.MemberLaws.{encoded_alike, found_source}
 use Rattle.disjointness.specs.EncodedLaws.{ended_ok, alike_ok, good_ok}
@@ -40,6 +41,7 @@ push_pairs-requires c =
       good_ok q.new.k c.in_ok-second.second c.in_ok-second.ensures.1,
       first_source w c.args.a c.args.b (encoded r.new.k (Ok c.in_ok-first.first)) F r.new.k q.new.k x.count x.longest is B,
       found_source (words w) r.new.k q.new.k c.args.b y.count y.longest F.encoding.canon (encoded q.new.k (Ok c.in_ok-second.second)) F.encoding.roles (good_ok r.new.k c.in_ok-first.first c.in_ok-first.ensures.1) c.in_ok-second.ensures.0 and,
+      sized_two t.sized,
     )
 
 pub returns-clause-did : goal.returns-clause-did
@@ -52,9 +54,9 @@ returns-clause-did c =
     let x = c.in-Some-Some.alts_a in let y = c.in-Some-Some.alts_b in
     let is : encoded r.new.k (Ok c.in_ok-first.first) ≡ Found r.new.k x.count x.longest = ap (λ (o : Option Alternatives). encoded r.new.k (Ok o)) c.in-Some-Some.is-0 in
     let and : encoded q.new.k (Ok c.in_ok-second.second) ≡ Found q.new.k y.count y.longest = ap (λ (o : Option Alternatives). encoded q.new.k (Ok o)) c.in-Some-Some.is-1 in
-    rw c.push_pairs.ensures.deferrals (pair_restarted t.counters v.new.self c.args.a c.args.b c.args.deferred (words w) (words t.clauses.now) (words t.atoms.now) (words t.deferrals.now) (four _ _ _ _) _ v.ensures
+    (pair_restarted t.counters v.new.self c.args.a c.args.b c.args.deferred (words w) (words t.clauses.now) (words t.atoms.now) (words t.deferrals.now) (four _ _ _ _) _ v.ensures
     (second_pairs w c.args.a c.args.b (encoded r.new.k (Ok c.in_ok-first.first)) F c.args.deferred (words t.clauses.now) (words t.atoms.now) (words t.deferrals.now) r.new.k x.count x.longest is A
-    (encoded q.new.k (Ok c.in_ok-second.second)) c.in_ok-second.ensures.0 q.new.k y.count y.longest and B (good_ok r.new.k c.in_ok-first.first c.in_ok-first.ensures.1) _ _ _ _ (c.push_pairs.ensures.did (words t.deferrals.now))))
+    (encoded q.new.k (Ok c.in_ok-second.second)) c.in_ok-second.ensures.0 q.new.k y.count y.longest and B (good_ok r.new.k c.in_ok-first.first c.in_ok-first.ensures.1) _ _ _ _ (c.push_pairs.ensures (words t.deferrals.now))))
 
 pub returns-in_default-clause-did : goal.returns-in_default-clause-did
 returns-in_default-clause-did c =

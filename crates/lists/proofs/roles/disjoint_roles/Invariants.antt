@@ -6,7 +6,6 @@ use Rattle.words.specs.Words.{words}
 use Rattle.ir.specs.Roles.{role_of}
 use Rattle.rules.specs.Axioms.{later_pairs}
 use Rattle.pool.specs.Layout.{run}
-use Rattle.tables.specs.Lending.{SameReferences}
 use Rattle.hands.specs.Hands.{four}
 use Rattle.lists.specs.Listed.{pair_disjoint}
 use Rattle.lists.specs.Turns.{Turned}
@@ -16,5 +15,5 @@ use Rattle.lists.proofs.roles.disjoint_roles.Given as goal
 
 abbrev pub invariant-loop-i : goal.invariant-loop-i
 invariant-loop-i l = ((d : List ℕ) → Turned (each_of pair_disjoint (later_pairs (map role_of (run (words l.initial.scratch) l.at l.count)))) (each_of pair_disjoint (later_pairs (map role_of (left (words l.initial.scratch) l.at l.count l.i))))
-    l.initial.lent.counters l.lent.counters (four (words l.initial.scratch) (words l.initial.lent.clauses.now) (words l.initial.lent.atoms.now) d) l.scratch (words l.lent.clauses.now) (words l.lent.atoms.now) d)
-    × (length l.scratch ≡ length l.initial.scratch) × SameReferences l.initial.lent l.lent × (l.lent.deferrals.now ≡ l.initial.lent.deferrals.now)
+    l.initial.k l.k (four (words l.initial.scratch) (words l.initial.clauses) (words l.initial.atoms) d) l.scratch (words l.clauses) (words l.atoms) d)
+    × (length l.scratch ≡ length l.initial.scratch) × (length l.clauses ≡ length l.initial.clauses) × (length l.atoms ≡ length l.initial.atoms)

@@ -19,10 +19,10 @@ use Rattle.lists.proofs.roles.disjoint_roles_with.Goals.{then-r-s+in_ok-not_both
 pub loop-j-init : goal.loop-j-init
 loop-j-init c =
     let w₀ = words c.args.scratch.now in (
-      λ d. list_start pair_disjoint c.args.lent.now.counters c.args.scratch.now (words c.args.lent.now.clauses.now) (words c.args.lent.now.atoms.now) d _ _ c.requires.0
+      λ d. list_start pair_disjoint c.args.k.now c.args.scratch.now (words c.args.clauses.now) (words c.args.atoms.now) d _ _ c.requires.0
           (ap (λ (l : List ℕ). paired (role_of (get_or w₀ (c.args.at + c.args.i) 0)) (map role_of l) []) (sym (left_after w₀ c.args.at c.args.count c.args.i))),
       refl,
-      (refl, refl, refl, refl, refl, refl),
+      refl,
       refl,
     )
 
@@ -34,7 +34,7 @@ not_both-requires c =
     let a = c.get_word-r.ensures in
     let b = c.get_word-s.ensures in
     let h = c.loop-j-test.true in
-    (omega (arith, a, c.requires.1.codes c.args.i c.requires.2), omega (arith, b, M.codes L.j h), omega (arith, T.clausifying.space), T.clausifying.good)
+    (omega (arith, a, c.requires.1.codes c.args.i c.requires.2), omega (arith, b, M.codes L.j h), omega (arith, T.clausifying.space), T.clausifying.good, rw (L.invariant.2, L.invariant.3) c.requires.3)
 
 pub returns-in_err-not_both-clause-fact : goal.returns-in_err-not_both-clause-fact
 returns-in_err-not_both-clause-fact c =
@@ -50,13 +50,12 @@ returns-in_err-not_both-clause-fact c =
     let a = c.get_word-r.ensures in
     let b = word_read w₀ (words L.scratch) U c.args.at c.args.count N.above N.below L.j n h c.get_word-s.ensures in
     let q = pair_roles w₀ c.args.at c.args.count L.j m (get_or w₀ (c.args.at + c.args.i) 0) n h a b in
-    let r = c.not_both in rw (p.1, p.2) ((λ d. list_stop pair_disjoint _ c.args.lent.now.counters L.lent.counters _ L.scratch (words L.lent.clauses.now) (words L.lent.atoms.now) d _ (T d) _ _ _ _ _ (role_of m, role_of n) _ q
-    (roles_turn L.lent.counters L.scratch (words L.lent.clauses.now) (words L.lent.atoms.now) d _ _ _ _ _ (T d).clausifying r.auto.scratch m n c.if-r-s.true (c.in_err-not_both.ensures.did d)) _ refl))
+    let r = c.not_both in rw (p.1, p.2) ((λ d. list_stop pair_disjoint _ c.args.k.now L.k _ L.scratch (words L.clauses) (words L.atoms) d _ (T d) _ _ _ _ _ (role_of m, role_of n) _ q
+    (roles_turn L.k L.scratch (words L.clauses) (words L.atoms) d _ _ _ _ _ (T d).clausifying r.auto.scratch m n c.if-r-s.true (c.in_err-not_both.ensures d)) _ refl))
 
 pub loop-j-preserved : goal.loop-j-preserved
 loop-j-preserved c =
     let L = c.loop-j in
-    let S = L.invariant.2 in
     let T = L.invariant.0 in
     let h = c.loop-j-test.true in
     let w₀ = words c.args.scratch.now in
@@ -68,18 +67,18 @@ loop-j-preserved c =
     let b = word_read w₀ (words L.scratch) U c.args.at c.args.count N.above N.below L.j n h c.get_word-s.ensures in
     let q = pair_roles w₀ c.args.at c.args.count L.j m (get_or w₀ (c.args.at + c.args.i) 0) n h a b in
     elim c.if-r-s.branch [
-      | then-r-s+in_ok-not_both w ↦ rw (w.scratch-is, w.lent-is) (
-          let r = w.not_both in let R = r.ensures.references in (
-            (λ d. list_next pair_disjoint _ c.args.lent.now.counters L.lent.counters _ L.scratch (words L.lent.clauses.now) (words L.lent.atoms.now) d _ (T d) _ _ _ _ _ (role_of m, role_of n) _ q
-                (roles_turn L.lent.counters L.scratch (words L.lent.clauses.now) (words L.lent.atoms.now) d _ _ _ _ _ (T d).clausifying r.auto.scratch m n w.if-r-s.true (w.in_ok-not_both.ensures.did d)) (long_words_3 _ _ L.lent.clauses.now L.lent.atoms.now d _ _ R.3 R.4) _ 0 refl),
+      | then-r-s+in_ok-not_both w ↦ rw (w.scratch-is, w.clauses-is, w.atoms-is, w.k-is) (
+          let r = w.not_both in (
+            (λ d. list_next pair_disjoint _ c.args.k.now L.k _ L.scratch (words L.clauses) (words L.atoms) d _ (T d) _ _ _ _ _ (role_of m, role_of n) _ q
+                (roles_turn L.k L.scratch (words L.clauses) (words L.atoms) d _ _ _ _ _ (T d).clausifying r.auto.scratch m n w.if-r-s.true (w.in_ok-not_both.ensures d)) (long_words_3 _ _ L.clauses L.atoms d _ _ r.auto.clauses r.auto.atoms) _ 0 refl),
             r.auto.scratch ∙ L.invariant.1,
-            (R.0 ∙ S.0, R.1 ∙ S.1, R.2 ∙ S.2, R.3 ∙ S.3, R.4 ∙ S.4, R.5 ∙ S.5),
-            r.ensures.deferrals ∙ L.invariant.3,
+            r.auto.clauses ∙ L.invariant.2,
+            r.auto.atoms ∙ L.invariant.3,
           ))
-      | else-r-s w ↦ rw (w.scratch-is, w.lent-is) (
-        (λ d. list_pass pair_disjoint _ c.args.lent.now.counters L.lent.counters _ L.scratch (words L.lent.clauses.now) (words L.lent.atoms.now) d _ (T d) (role_of m, role_of n) _ q (roles_nothing m n w.if-r-s.false)),
+      | else-r-s w ↦ rw (w.scratch-is, w.clauses-is, w.atoms-is, w.k-is) (
+        (λ d. list_pass pair_disjoint _ c.args.k.now L.k _ L.scratch (words L.clauses) (words L.atoms) d _ (T d) (role_of m, role_of n) _ q (roles_nothing m n w.if-r-s.false)),
         L.invariant.1,
-        S,
+        L.invariant.2,
         L.invariant.3,
       )
     ]
@@ -90,8 +89,6 @@ returns c =
     let w₀ = words c.args.scratch.now in
     let z = ap (map role_of) (left_end w₀ c.args.at c.args.count L.j c.loop-j-test.false) in
     record {
-      references = L.invariant.2;
-      deferrals = L.invariant.3;
-      fact = (λ d. (list_end pair_disjoint _ c.args.lent.now.counters L.lent.counters _ L.scratch (words L.lent.clauses.now) (words L.lent.atoms.now) d _ (L.invariant.0 d) (paired_end (role_of (get_or w₀ (c.args.at + c.args.i) 0)) (map role_of (left w₀ c.args.at c.args.count L.j)) z)).0);
+      fact = (λ d. (list_end pair_disjoint _ c.args.k.now L.k _ L.scratch (words L.clauses) (words L.atoms) d _ (L.invariant.0 d) (paired_end (role_of (get_or w₀ (c.args.at + c.args.i) 0)) (map role_of (left w₀ c.args.at c.args.count L.j)) z)).0);
       clausifying_after = (L.invariant.0 []).clausifying;
     }

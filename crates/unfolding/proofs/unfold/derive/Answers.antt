@@ -39,7 +39,7 @@ returns-in_err-push_run-clause-fact c =
     let D = words t.deferrals.now in
     let off = c.if-number-originals-eq-CAP.false in
     let room : c.args.queued < length (words c.args.scratch.now) = omega (arith, c.requires.0.first, c.requires.0.cap, c.requires.0.within, off, c.requires.4, length_words c.args.scratch.now) in
-    rw (p.1, p.2) (λ env roles left v s x L T H F. derive_long env roles c.args.originals left t.counters c.args.queued (words c.args.scratch.now) C A D v s T c.requires.0 x room F (words c.push_run.new.lent.clauses.now) (words c.push_run.new.lent.atoms.now) (Refused (refusal_number c.in_err-push_run.field-0.0)) off (c.in_err-push_run.ensures.d_after env x.body x.head s D H.body H.hand L T.drawn) _ refl)
+    rw (p.1, p.2) (λ env roles left v s x L T H F. derive_long env roles c.args.originals left t.counters c.args.queued (words c.args.scratch.now) C A D v s T c.requires.0 x room F (words c.push_run.new.clauses) (words c.push_run.new.atoms) (Refused (refusal_number c.in_err-push_run.field-0.0)) off (c.in_err-push_run.ensures.d_after env x.body x.head s D H.body H.hand L T.drawn) _ refl)
 
 pub returns-clause-fact : goal.returns-clause-fact
 returns-clause-fact c =
@@ -50,4 +50,4 @@ returns-clause-fact c =
     let off = c.if-number-originals-eq-CAP.false in
     let room : c.args.queued < length (words c.args.scratch.now) = omega (arith, c.requires.0.first, c.requires.0.cap, c.requires.0.within, off, c.requires.4, length_words c.args.scratch.now) in
     let q = c.push_run in
-    rw q.ensures.deferrals (λ env roles left v s x L T H F. derive_more env roles c.args.originals left t.counters c.args.queued (words c.args.scratch.now) C A D v s T c.requires.0 x room F (words q.new.lent.clauses.now) (words q.new.lent.atoms.now) (Done q.new.lent.counters 0) off (c.in_ok-push_run.ensures.d_after env x.body x.head s D H.body H.hand L T.drawn) q.new.lent.counters 0 _ (0 + c.args.queued) refl c.in_ok-push_run.ensures.kept_answer (omega arith) c.put_word.ensures)
+    (λ env roles left v s x L T H F. derive_more env roles c.args.originals left t.counters c.args.queued (words c.args.scratch.now) C A D v s T c.requires.0 x room F (words q.new.clauses) (words q.new.atoms) (Done q.new.k 0) off (c.in_ok-push_run.ensures.d_after env x.body x.head s D H.body H.hand L T.drawn) q.new.k 0 _ (0 + c.args.queued) refl c.in_ok-push_run.ensures.kept_answer (omega arith) c.put_word.ensures)
