@@ -76,15 +76,8 @@ fn clausify_chain(
     let r = words::get_word(scratch, at + 1);
     let a = words::get_word(scratch, at + 2);
     let b = words::get_word(scratch, at + 3);
-    roles::chain(
-        lent.clauses,
-        lent.atoms,
-        &mut lent.counters,
-        scratch,
-        a,
-        b,
-        r,
-    )
+    let k = &mut lent.counters;
+    roles::chain(lent.clauses, lent.atoms, k, scratch, a, b, r)
 }
 
 // The arms over roles, 27 to 31; the others make no clause.
@@ -103,35 +96,13 @@ fn clausify_roles(
     ensures clausifying_after { ClausifyingAfter scratch.new (done lent.new.counters result) }
 {
     let r = words::get_word(scratch, at + 1);
+    let k = &mut lent.counters;
     match kind {
         27 => clausify_chain(lent, scratch, at, count),
-        28 => roles::chain(
-            lent.clauses,
-            lent.atoms,
-            &mut lent.counters,
-            scratch,
-            r,
-            r,
-            r,
-        ),
-        29 => roles::irreflexive(lent.clauses, lent.atoms, &mut lent.counters, scratch, r),
-        30 => roles::not_both(
-            lent.clauses,
-            lent.atoms,
-            &mut lent.counters,
-            scratch,
-            r,
-            r,
-            true,
-        ),
-        31 => role_lists::disjoint_roles(
-            lent.clauses,
-            lent.atoms,
-            &mut lent.counters,
-            scratch,
-            at + 1,
-            count - 1,
-        ),
+        28 => roles::chain(lent.clauses, lent.atoms, k, scratch, r, r, r),
+        29 => roles::irreflexive(lent.clauses, lent.atoms, k, scratch, r),
+        30 => roles::not_both(lent.clauses, lent.atoms, k, scratch, r, r, true),
+        31 => role_lists::disjoint_roles(lent.clauses, lent.atoms, k, scratch, at + 1, count - 1),
         _ => Ok(()),
     }
 }

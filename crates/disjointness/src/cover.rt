@@ -55,15 +55,8 @@ pub fn cover(
 {
     record::put_atom(scratch, HAND, Atom::Class(class, 0));
     if put_heads(scratch, lent.counters, at, count)? {
-        hands::push_run(
-            lent.clauses,
-            lent.atoms,
-            &mut lent.counters,
-            scratch,
-            HAND,
-            1,
-            count,
-        )
+        let k = &mut lent.counters;
+        hands::push_run(lent.clauses, lent.atoms, k, scratch, HAND, 1, count)
     } else {
         tables::defer(
             lent.deferrals,

@@ -55,17 +55,8 @@ pub fn emit_head(
         Form::All => emit_under(lent, scratch, base, n, c, v),
         Form::Named => {
             let q = name_filler(lent, scratch, base + n as usize, c)?;
-            after::emit_named(
-                lent.clauses,
-                lent.atoms,
-                &mut lent.counters,
-                scratch,
-                base,
-                n,
-                c,
-                v,
-                q,
-            )
+            let k = &mut lent.counters;
+            after::emit_named(lent.clauses, lent.atoms, k, scratch, base, n, c, v, q)
         }
     }
 }
@@ -156,15 +147,8 @@ fn emit_or(
         }
         record::put_atom(scratch, top, a);
     }
-    hands::push_run(
-        lent.clauses,
-        lent.atoms,
-        &mut lent.counters,
-        scratch,
-        base,
-        n,
-        count,
-    )
+    let k = &mut lent.counters;
+    hands::push_run(lent.clauses, lent.atoms, k, scratch, base, n, count)
 }
 
 // One atom for a disjunct; what it names stands from `base` on.
@@ -187,15 +171,10 @@ pub fn head_atom_for(
     lent.counters.visit()?;
     match disjunct::disjunct_of(scratch, lent.counters, c, v) {
         Disjunct::Ready(a) => Ok(Some(a)),
-        Disjunct::Negated(a) => disjunct::name_negated(
-            lent.clauses,
-            lent.atoms,
-            &mut lent.counters,
-            scratch,
-            base,
-            a,
-            v,
-        ),
+        Disjunct::Negated(a) => {
+            let k = &mut lent.counters;
+            disjunct::name_negated(lent.clauses, lent.atoms, k, scratch, base, a, v)
+        }
         Disjunct::Absent => Ok(None),
         Disjunct::Whole => {
             let q = atomic_name_of(lent, scratch, base, c)?;

@@ -108,43 +108,18 @@ pub fn emit_leaf(
         let new = four_of (words scratch.new) lent.new in
         Did (λ _. 0) 0 (λ env f b s. emit_leaf env [] b leaf s) lent.old.counters base n old new (done lent.new.counters result) × Behind old.scratch new.scratch }
 {
+    let k = &mut lent.counters;
     match leaf {
         Leaf::Nothing => Ok(()),
-        Leaf::Empty => hands::push_none(
-            lent.clauses,
-            lent.atoms,
-            &mut lent.counters,
-            scratch,
-            base,
-            n,
-        ),
-        Leaf::Head(a) => hands::push_one(
-            lent.clauses,
-            lent.atoms,
-            &mut lent.counters,
-            scratch,
-            base,
-            n,
-            a,
-        ),
+        Leaf::Empty => hands::push_none(lent.clauses, lent.atoms, k, scratch, base, n),
+        Leaf::Head(a) => hands::push_one(lent.clauses, lent.atoms, k, scratch, base, n, a),
         Leaf::Body(a) => {
             if 256 <= n {
                 return Err(Refusal::NoRoom);
             }
             record::put_atom(scratch, base + n as usize, a);
-            hands::push_none(
-                lent.clauses,
-                lent.atoms,
-                &mut lent.counters,
-                scratch,
-                base,
-                n + 1,
-            )
+            hands::push_none(lent.clauses, lent.atoms, k, scratch, base, n + 1)
         }
-        Leaf::Deferred => tables::defer(
-            lent.deferrals,
-            &mut lent.counters,
-            Deferral::HeadNotNonatomic,
-        ),
+        Leaf::Deferred => tables::defer(lent.deferrals, k, Deferral::HeadNotNonatomic),
     }
 }

@@ -55,15 +55,8 @@ fn derive(
         )?;
         return Ok(None);
     }
-    hands::push_run(
-        lent.clauses,
-        lent.atoms,
-        &mut lent.counters,
-        scratch,
-        HAND,
-        nb,
-        nh,
-    )?;
+    let k = &mut lent.counters;
+    hands::push_run(lent.clauses, lent.atoms, k, scratch, HAND, nb, nh)?;
     words::put_word(scratch, QUEUE + queued as usize, number);
     Ok(Some(queued + 1))
 }

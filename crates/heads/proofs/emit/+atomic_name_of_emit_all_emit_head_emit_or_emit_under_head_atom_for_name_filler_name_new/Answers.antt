@@ -335,8 +335,7 @@ emit_head-returns-in_ok-q-in-Named-clause-did t c =
     let R = f.ensures.references in
     let form : FormIs.Named ≡ form_of Q e = sym c.in-Named.is ∙ c.form_of.ensures in
     let Q2 = pool_of (words s1) l1.concepts in
-    let e2 = concept_at (words s1) A.c in
-    (
+    let e2 = concept_at (words s1) A.c in (
       head_step k l A.base A.n A.c A.v _ _ _ P Q e H.begun H.pool H.before
           (named_step l A.base A.n A.c A.v _ _ _ Q e _ _ Q2 e2 form (pool_alike (words s1) l l1 q.0.kept ∙ pool_on A.scratch.now s1 l top M.reading at fr) (concept_on A.scratch.now s1 l top M.reading at fr A.c M.held) M.room.above (words_long _ _ R.3) (words_long _ _ R.4) (words_long _ _ R.5) q.0
           (did_after (λ env b i s. emit_named env Q2 A.v e2 b i s) l A.base A.n l1 i _ _ _ q.0.kept (c.emit_named.ensures _))),
@@ -542,8 +541,7 @@ emit_or-returns-clause-did t c =
     let T = l.invariant.0 in
     let list : e ≡ Or (run w (members_at + start) count) = concept_8 w A.c c.requires.1 ∙ rw (c.child-start.ensures, c.number-count.ensures) refl in
     let S = sizes_of w (words l.scratch) A.lent.now l.lent l.invariant.2 in
-    let q = c.push_run.ensures in
-    (
+    let q = c.push_run.ensures in (
       or_end P w a count k A.base A.n A.c A.v _ e list _ l.lent.counters l.i T M.room.above S _ _ _ c.loop-i-test.false q.good_answer q.kept_answer q.d_after,
       or_queues_end P w a count k A.base A.n A.c A.v _ e list _ l.lent.counters l.i l.invariant.3 _ refl c.loop-i-test.false,
     )
@@ -697,8 +695,7 @@ head_atom_for-returns-in-Negated-clause-did t c =
     let P = pool_of w k.concepts in
     let Q = pool_of w l.concepts in
     let dj = c.disjunct_of in
-    let q = c.name_negated.ensures in
-    (
+    let q = c.name_negated.ensures in (
       atom_step k l A.base A.c A.v _ _ _ P Q e dj.result H.begun H.pool H.here dj.ensures.value (atom_negated l A.base A.c A.v Q e dj.result _ _ _ c.in-Negated.a c.in-Negated.is (q.0 _)),
       atom_queues k l A.base A.c A.v _ _ P Q e dj.result H.begun H.pool H.here dj.ensures.value (negated_queues l A.base A.c A.v Q e dj.result _ _ c.in-Negated.a c.in-Negated.is q.1),
     )
