@@ -22,8 +22,8 @@ use tables::lent::Tables;
 // The first atom in hand: word HANDS.
 pub const HAND: usize = 13500;
 
-// Each alternative of `sub` gives the class. Beside emit_bodies, and no closure for both: what the steps ask (room in scratch) and
-// promise (the deferrals stay, the limits that wait) differs, and each loop is three lines.
+// Each alternative of `sub` gives the class. Beside emit_bodies, and no closure for both: what the steps have (no deferrals), ask (room
+// in scratch) and promise (the limits that wait) differs, and each loop is three lines.
 pub fn push_bodies(
     clauses: &mut [u8],
     atoms: &mut [u8],

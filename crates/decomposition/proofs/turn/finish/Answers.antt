@@ -82,8 +82,8 @@ clear_words-requires c =
     let put = c.put_named in
     omega (arith, c.saturating_sub-left.ensures, end_atoms k w cl at s to n E, la, c.if-atom_room-end.false, c.atom_room.ensures, put.auto.atoms)
 
-pub overflow_add-lent : goal.overflow_add-lent
-overflow_add-lent c =
+pub overflow_add-k : goal.overflow_add-k
+overflow_add-k c =
     let E = c.requires.0 in
     omega (arith, E.passed.first, E.before.classes, end_named c.args.k.now (words c.args.scratch.now) (words c.args.clauses.now) (words c.args.atoms.now) c.args.p.naming c.args.p.atoms c.args.p.rewritten E)
 
