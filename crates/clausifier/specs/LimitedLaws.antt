@@ -1,5 +1,5 @@
 -- An axiom, and then the limits that it named. Assumes nothing.
-use Rattle.std.specs.Prelude.{◌≡◌, refl, Bool, true, false, ◌&&◌, List, [], ◌++◌, ℕ, ◌<◌, eqb, length, set, take}
+use Rattle.std.specs.Prelude.{◌≡◌, refl, Bool, true, false, ◌&&◌, List, [], ◌++◌, ℕ, length, set, take}
 use Rattle.std.proofs.Common.{sym, subst, ◌∙◌, arith, ne_eqb}
 use Rattle.std.proofs.Math.Path.{ap}
 use Prim.{Unit, tt}
@@ -11,11 +11,11 @@ use Rattle.ir.specs.Scratch.{stack_at, limits_at}
 use Rattle.ir.specs.declared.counters.Counters.{Counters}
 use Rattle.ir.specs.Answer.{Answer}
 use Rattle.ir.specs.Answer.{Done, Refused}
-use Rattle.rules.specs.Base.{Res, ok, refused, then}
+use Rattle.rules.specs.Base.{Res, then}
 use Rattle.rules.specs.Concept.{Axiom}
 use Rattle.rules.specs.Pool.{Pool}
-use Rattle.rules.specs.State.{Limit, Env, Out}
-use Rattle.rules.specs.Axioms.{Clausifier, C, clausify_axiom, settle, clausify_whole}
+use Rattle.rules.specs.State.{Env, Out}
+use Rattle.rules.specs.Axioms.{Clausifier, clausify_axiom, settle, clausify_whole}
 use Rattle.rules.specs.Invariants.{Bounds, up_to, AxiomIn}
 use Rattle.rules.specs.Post.{Post, post_ok}
 use Rattle.rules.proofs.AxiomLaws as Rules
@@ -24,14 +24,14 @@ use Rattle.rules.specs.Handed.{Settling, Ready, names_limits}
 use Rattle.rules.proofs.WholeLaws.{whole_alone}
 use Rattle.pool.specs.Layout.{pool_of}
 use Rattle.pool.specs.HeldLaws.{pool_length}
-use Rattle.ontology.specs.Layout.{axiom_at, axiom_number, AxiomsHeld}
+use Rattle.ontology.specs.Layout.{axiom_at, axiom_number}
 use Rattle.ontology.specs.KeptAxioms.{axiom_kept}
 use Rattle.waiting.specs.Limits.{Waits}
 use Rattle.waiting.specs.LimitLaws.{waits_reset}
-use Rattle.hands.specs.Hands.{Four, four, EnvHeld}
+use Rattle.hands.specs.Hands.{Four, four}
 use Rattle.leaves.specs.StepLaws.{alike_same}
-use Rattle.axioms.specs.Wholes.{shown_whole, after_whole, standing, Clausifying, Untouched, Onward, OnwardAnswer, WaitingWhole}
-use Rattle.axioms.specs.OnwardLaws.{untouched_same, untouched_then, onward_same, onward_answer, shown_same}
+use Rattle.axioms.specs.Wholes.{shown_whole, standing, Clausifying, Untouched, WaitingWhole}
+use Rattle.axioms.specs.OnwardLaws.{untouched_then, onward_same, onward_answer, shown_same}
 use Rattle.inclusions.specs.GrowLaws.{front_pool, untouched_front, clausifying_front}
 use Rattle.lists.specs.Turns.{SameLong, Answered}
 use Rattle.lists.specs.TurnLaws.{env_turned, own_state, whole_answered, refused_is}

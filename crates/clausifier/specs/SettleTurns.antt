@@ -1,5 +1,5 @@
 -- Limit after limit. Assumes nothing.
-use Rattle.std.specs.Prelude.{◌≡◌, refl, ℕ, zero, suc, ◌+◌, ◌-◌, ◌<◌, ◌≤◌, get_or}
+use Rattle.std.specs.Prelude.{◌≡◌, refl, ℕ, zero, suc, ◌+◌, ◌<◌, ◌≤◌, get_or}
 use Rattle.std.proofs.Common.{sym, subst, ◌∙◌, arith}
 use Rattle.std.proofs.Math.Path.{ap}
 use mathlib.Core.List.{List, [], ◌∷◌, ◌++◌, append_assoc}
@@ -10,8 +10,8 @@ use Rattle.ir.specs.Scratch.{limits_at}
 use Rattle.ir.specs.declared.counters.Counters.{Counters}
 use Rattle.ir.specs.Answer.{Answer}
 use Rattle.ir.specs.Answer.{Done, Refused}
-use Rattle.rules.specs.Base.{Res, ok, refused, then}
-use Rattle.rules.specs.State.{Limit, Rooms, Env, Out, with_limits}
+use Rattle.rules.specs.Base.{Res, ok, then}
+use Rattle.rules.specs.State.{Limit, Env, Out, with_limits}
 use Rattle.rules.specs.Axioms.{Clausifier, C, other_half, settle}
 use Rattle.rules.specs.Invariants.{Each, Bounds, NamesFrom}
 use Rattle.rules.specs.Post.{Post, post_ok}
@@ -19,10 +19,8 @@ use Rattle.rules.proofs.SettleLaws.{Halved, waits_for, below_fresh, half_settles
 use Rattle.rules.specs.Handed.{Settling}
 use Rattle.rules.proofs.WholeLaws.{settle_none}
 use Rattle.rules.proofs.SettleSteps.{settle_next_lem}
-use Rattle.pool.specs.Layout.{pool_of}
 use Rattle.pool.specs.Held.{Held}
 use Rattle.pool.specs.HeldLaws.{pool_length}
-use Rattle.tables.specs.Drawn.{tables, show}
 use Rattle.tables.specs.Good.{Good, most_names, names_few}
 use Rattle.waiting.specs.Limits.{most_limits, limit_in, Waits}
 use Rattle.waiting.specs.LimitLaws.{waits_at, waits_end}
