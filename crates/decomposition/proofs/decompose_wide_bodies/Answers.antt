@@ -22,8 +22,7 @@ turn-requires c =
     let cl = words A.clauses.now in
     let at = words A.atoms.now in
     let D = c.requires.0 in
-    let I = c.loop-c.invariant in
-    (
+    let I = c.loop-c.invariant in (
       record {
         list = D.state.clauses;
         fresh = D.state.next_fresh;
