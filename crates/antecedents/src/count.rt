@@ -9,7 +9,7 @@ use crate::numbers;
 use ir::answer::Alternatives;
 use ir::counters::Counters;
 use ir::refusal::Refusal;
-use pool::record;
+use pool::{layout, record};
 
 // One alternative: of no atom, and of one.
 const TOP: Alternatives = Alternatives {
@@ -67,12 +67,12 @@ pub fn encode_antecedent(
     let a = record::number(scratch, c);
     let b = record::child(scratch, c);
     match kind {
-        1 => Ok(Some(TOP)),
-        3 => Ok(Some(CLASS)),
-        4 => Ok(Some(CLASS)),
-        7 => encode_parts(scratch, k, c, b, a, 1, true),
-        8 => encode_parts(scratch, k, c, b, a, 0, false),
-        9 => {
+        layout::TOP => Ok(Some(TOP)),
+        layout::ATOMIC => Ok(Some(CLASS)),
+        layout::NOMINAL => Ok(Some(CLASS)),
+        layout::AND => encode_parts(scratch, k, c, b, a, 1, true),
+        layout::OR => encode_parts(scratch, k, c, b, a, 0, false),
+        layout::SOME => {
             k.fresh_var();
             let Some(inner) = encode_antecedent(scratch, k, b)? else {
                 return Ok(None);

@@ -9,6 +9,7 @@ ghost use Rattle.antecedents.specs.Table.{size_in, vars_in, size_all, vars_all, 
 
 use crate::numbers;
 use ir::scratch::ALTERNATIVES;
+use pool::layout::{AND, ATOMIC, NOMINAL, OR, SOME, TOP};
 use pool::record;
 
 #[derive(Clone, Copy)]
@@ -56,12 +57,12 @@ pub fn row_of(scratch: &[u8], c: u32) -> Row
     let a = record::number(scratch, c);
     let b = record::child(scratch, c);
     match kind {
-        1 => Row { size: 1, vars: 0 },
-        3 => Row { size: 1, vars: 0 },
-        4 => Row { size: 1, vars: 0 },
-        7 => list_row(scratch, c, b, a, 1, true),
-        8 => list_row(scratch, c, b, a, 0, false),
-        9 => {
+        TOP => Row { size: 1, vars: 0 },
+        ATOMIC => Row { size: 1, vars: 0 },
+        NOMINAL => Row { size: 1, vars: 0 },
+        AND => list_row(scratch, c, b, a, 1, true),
+        OR => list_row(scratch, c, b, a, 0, false),
+        SOME => {
             let size = size_of(scratch, b);
             let vars = vars_of(scratch, b).saturating_add(1);
             Row { size, vars }

@@ -14,6 +14,7 @@ use crate::{numbers, table};
 use ir::atom::Atom;
 use ir::record::put_atom;
 use ir::role::Role;
+use pool::layout::{AND, ATOMIC, NOMINAL, OR, SOME, TOP};
 use pool::record;
 
 // A disjunct: its id, its first variable and its own index.
@@ -138,18 +139,18 @@ pub fn write_one(scratch: &mut [u8], base: u32, at: usize, c: u32, v: u32, y: u3
     let a = record::number(scratch, c);
     let b = record::child(scratch, c);
     match kind {
-        1 => at,
-        3 => put(scratch, at, Atom::Class(a, v)),
-        4 => {
+        TOP => at,
+        ATOMIC => put(scratch, at, Atom::Class(a, v)),
+        NOMINAL => {
             let class = base + a;
             put(scratch, at, Atom::Class(class, v))
         }
-        7 => write_parts(scratch, base, at, c, b, a, v, y, k),
-        8 => match disjunct(scratch, c, b, a, y, k) {
+        AND => write_parts(scratch, base, at, c, b, a, v, y, k),
+        OR => match disjunct(scratch, c, b, a, y, k) {
             Some(q) => write_one(scratch, base, at, q.id, v, q.var, q.index),
             None => at,
         },
-        9 => {
+        SOME => {
             let p = put_role(scratch, at, c, v, y);
             let w = y.saturating_add(1);
             write_one(scratch, base, p, b, y, w, k)

@@ -9,6 +9,7 @@ pub mod FilterLaws
 pub mod Found
 pub mod Places
 pub mod PlaceLaws
+pub mod RangeLaws
 pub mod FoundLaws
 pub mod Grouped
 pub mod Memo

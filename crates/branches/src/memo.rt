@@ -17,6 +17,7 @@ ghost use Rattle.branches.specs.Found.{BodyHeld, Found};
 use crate::atom::Atoms;
 use crate::layout::{FILTER, MOST_NAMED, NAMED, RENUMBERED};
 use crate::{filter, renumber};
+use ir::record::same_words;
 use ir::refusal::Refusal;
 
 // How many branches are named, the words they take, and the first name.
@@ -27,25 +28,12 @@ pub struct Naming {
     pub used: u32,
 }
 
-// As the pool's `same_run`: the one crate below both that has the rules' `run` has no code.
-fn same_words(scratch: &[u8], a: usize, b: usize, count: u32) -> bool
-    requires { (4 * (a + count) ≤ length scratch.now) × (4 * (b + count) ≤ length scratch.now) }
-    ensures { result ≡ same_words (run (words scratch.now) a count) (run (words scratch.now) b count) }
-{
-    for i in 0..count as usize {
-        if words::get_word(scratch, a + i) != words::get_word(scratch, b + i) {
-            return false;
-        }
-    }
-    true
-}
-
 // The branch whose words begin at word p has the `count` renumbered words.
 fn is_body(scratch: &[u8], p: usize, n: u32, count: u32) -> bool
     requires { (p + n < most_named) × (count ≤ 256) × (4 * work_words ≤ length scratch.now) }
     ensures { (l m : List ℕ) → n ≡ length l → count ≡ length m → At (words scratch.now) (p + 1) l → At (words scratch.now) renumbered_at m → result ≡ same_words l m }
 {
-    n == count && same_words(scratch, p + 1, RENUMBERED, count)
+    n == count && same_words(scratch, p + 1, scratch, RENUMBERED, count as usize)
 }
 
 // The place of the branch whose body is the `count` renumbered words.

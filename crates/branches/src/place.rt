@@ -9,10 +9,5 @@ pub fn place(scratch: &[u8], at: usize, n: usize, v: u32) -> Option<usize>
     requires { 4 * (at + n) ≤ length scratch.now }
     ensures { PlaceIs (run (words scratch.now) at n) v result }
 {
-    for i in 0..n {
-        if words::get_word(scratch, at + i) == v {
-            return Some(i);
-        }
-    }
-    None
+    (0..n).position(|i| words::get_word(scratch, at + i) == v)
 }

@@ -46,7 +46,7 @@ fn put_sums(out: &mut [u8], at: usize, k: Counters) -> usize
     rows::put_line(out, at, &numbers)
 }
 
-// All of a state.
+// All of a state. The tables by themselves: they are read, and the counters are those of the last pass.
 pub fn put_state(
     clauses: &[u8],
     atoms: &[u8],

@@ -13,7 +13,7 @@ use ir::counters::Counters;
 use ontology::load;
 use tables::lent::Tables;
 
-// The text of the clauses of a deck that was read.
+// The text of the clauses of a deck that was read. The tables by themselves: the writer reads them once they are lent no longer.
 fn put_clausified(
     scratch: &mut [u8],
     clauses: &mut [u8],

@@ -50,10 +50,9 @@ fn scan_lines(text: &[u8], from: usize, c: u32, size: u32) -> u64
     let mut p = from;
     // a line says how long it is, so no range gives the lines
     while p < text.len() {
-        let n = text::fields(text, p);
-        if n == 0 {
+        let Some(n) = text::fields(text, p) else {
             return 0;
-        }
+        };
         if is_line(text, p, n, c) {
             return line_set(text, p, n, size);
         }
@@ -70,10 +69,9 @@ fn scan(text: &[u8], c: u32, size: u32) -> u64
     if text.len() == 0 {
         return 0;
     }
-    let n = text::fields(text, 0);
-    if n == 0 {
+    let Some(n) = text::fields(text, 0) else {
         return 0;
-    }
+    };
     scan_lines(text, 11 * n + 1, c, size)
 }
 

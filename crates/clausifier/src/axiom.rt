@@ -21,88 +21,86 @@ use lists::{disjoints, equivalents, roles as role_lists, unions};
 use ontology::axiom;
 use tables::lent::Tables;
 
-// The arms over classes, 21 to 26: by number, as the rules' `row_axiom` has them.
-fn clausify_classes(
-    lent: &mut Tables<'_>,
-    scratch: &mut [u8],
+// An axiom where it stands: its kind, and the `count` words from `at` on.
+#[derive(Clone, Copy)]
+struct Line {
     kind: u32,
     at: usize,
     count: u32,
-) -> Result<(), Refusal>
-    requires { Clausifying scratch.old lent.old.counters × Row (words scratch.old) lent.old.counters kind at count × (kind < 27) }
+}
+
+// The arms over classes, 21 to 26: by number, as the rules' `row_axiom` has them.
+fn clausify_classes(lent: &mut Tables<'_>, scratch: &mut [u8], line: Line) -> Result<(), Refusal>
+    requires { Clausifying scratch.old lent.old.counters × Row (words scratch.old) lent.old.counters line.kind line.at line.count × (line.kind < 27) }
     ensures references { SameReferences lent.old lent.new }
     ensures fact { let old = four_of (words scratch.old) lent.old in
         let new = four_of (words scratch.new) lent.new in
-        Axiomed (row_axiom old.scratch kind at count) lent.old.counters old new (done lent.new.counters result) }
+        Axiomed (row_axiom old.scratch line.kind line.at line.count) lent.old.counters old new (done lent.new.counters result) }
     ensures clausifying_after { ClausifyingAfter scratch.new (done lent.new.counters result) }
 {
-    let a = words::get_word(scratch, at + 1);
-    match kind {
+    let a = words::get_word(scratch, line.at + 1);
+    match line.kind {
         21 => {
-            let b = words::get_word(scratch, at + 2);
+            let b = words::get_word(scratch, line.at + 2);
             gci::clausify_gci(lent, scratch, a, b)
         }
-        22 => equivalents::equivalent(lent, scratch, at + 1, count - 1),
-        23 => disjoints::disjoint(lent, scratch, at + 1, count - 1, true),
-        24 => unions::union(lent, scratch, a, at + 2, count - 2),
+        22 => equivalents::equivalent(lent, scratch, line.at + 1, line.count - 1),
+        23 => disjoints::disjoint(lent, scratch, line.at + 1, line.count - 1, true),
+        24 => unions::union(lent, scratch, a, line.at + 2, line.count - 2),
         _ => {
-            let c = words::get_word(scratch, at + 2);
-            domain::domain_or_range(lent, scratch, a, c, kind == 26)
+            let c = words::get_word(scratch, line.at + 2);
+            domain::domain_or_range(lent, scratch, a, c, line.kind == 26)
         }
     }
 }
 
 // A chain of two roles.
-fn clausify_chain(
-    lent: &mut Tables<'_>,
-    scratch: &mut [u8],
-    at: usize,
-    count: u32,
-) -> Result<(), Refusal>
-    requires { Clausifying scratch.old lent.old.counters × Row (words scratch.old) lent.old.counters 27 at count }
+fn clausify_chain(lent: &mut Tables<'_>, scratch: &mut [u8], line: Line) -> Result<(), Refusal>
+    requires { Clausifying scratch.old lent.old.counters × Row (words scratch.old) lent.old.counters 27 line.at line.count }
     ensures references { SameReferences lent.old lent.new }
     ensures fact { let old = four_of (words scratch.old) lent.old in
         let new = four_of (words scratch.new) lent.new in
-        Clausified (λ env. clausify_axiom env (row_axiom old.scratch 27 at count)) lent.old.counters old new (done lent.new.counters result) }
+        Clausified (λ env. clausify_axiom env (row_axiom old.scratch 27 line.at line.count)) lent.old.counters old new (done lent.new.counters result) }
     ensures clausifying_after { ClausifyingAfter scratch.new (done lent.new.counters result) }
 {
-    if count != 4 {
+    if line.count != 4 {
         return tables::defer(
             lent.deferrals,
             &mut lent.counters,
             Deferral::RoleChainLenNe2,
         );
     }
-    let r = words::get_word(scratch, at + 1);
-    let a = words::get_word(scratch, at + 2);
-    let b = words::get_word(scratch, at + 3);
+    let r = words::get_word(scratch, line.at + 1);
+    let a = words::get_word(scratch, line.at + 2);
+    let b = words::get_word(scratch, line.at + 3);
     let k = &mut lent.counters;
     roles::chain(lent.clauses, lent.atoms, k, scratch, a, b, r)
 }
 
 // The arms over roles, 27 to 31; the others make no clause.
-fn clausify_roles(
-    lent: &mut Tables<'_>,
-    scratch: &mut [u8],
-    kind: u32,
-    at: usize,
-    count: u32,
-) -> Result<(), Refusal>
-    requires { Clausifying scratch.old lent.old.counters × Row (words scratch.old) lent.old.counters kind at count × (27 ≤ kind) }
+fn clausify_roles(lent: &mut Tables<'_>, scratch: &mut [u8], line: Line) -> Result<(), Refusal>
+    requires { Clausifying scratch.old lent.old.counters × Row (words scratch.old) lent.old.counters line.kind line.at line.count × (27 ≤ line.kind) }
     ensures references { SameReferences lent.old lent.new }
     ensures fact { let old = four_of (words scratch.old) lent.old in
         let new = four_of (words scratch.new) lent.new in
-        Clausified (λ env. clausify_axiom env (row_axiom old.scratch kind at count)) lent.old.counters old new (done lent.new.counters result) }
+        Clausified (λ env. clausify_axiom env (row_axiom old.scratch line.kind line.at line.count)) lent.old.counters old new (done lent.new.counters result) }
     ensures clausifying_after { ClausifyingAfter scratch.new (done lent.new.counters result) }
 {
-    let r = words::get_word(scratch, at + 1);
+    let r = words::get_word(scratch, line.at + 1);
     let k = &mut lent.counters;
-    match kind {
-        27 => clausify_chain(lent, scratch, at, count),
+    match line.kind {
+        27 => clausify_chain(lent, scratch, line),
         28 => roles::chain(lent.clauses, lent.atoms, k, scratch, r, r, r),
         29 => roles::irreflexive(lent.clauses, lent.atoms, k, scratch, r),
         30 => roles::not_both(lent.clauses, lent.atoms, k, scratch, r, r, true),
-        31 => role_lists::disjoint_roles(lent.clauses, lent.atoms, k, scratch, at + 1, count - 1),
+        31 => role_lists::disjoint_roles(
+            lent.clauses,
+            lent.atoms,
+            k,
+            scratch,
+            line.at + 1,
+            line.count - 1,
+        ),
         _ => Ok(()),
     }
 }
@@ -119,8 +117,9 @@ pub fn clausify_axiom(lent: &mut Tables<'_>, scratch: &mut [u8], i: u32) -> Resu
     let kind = axiom::number(scratch, i, 0);
     let at = NUMBERS + axiom::start(scratch, i) as usize;
     let count = axiom::count(scratch, i);
+    let line = Line { kind, at, count };
     if kind < 27 {
-        return clausify_classes(lent, scratch, kind, at, count);
+        return clausify_classes(lent, scratch, line);
     }
-    clausify_roles(lent, scratch, kind, at, count)
+    clausify_roles(lent, scratch, line)
 }

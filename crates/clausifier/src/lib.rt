@@ -35,12 +35,10 @@ pub fn clausify_axioms(
     for i in 0..n {
         let here = line + i;
         lent.counters.at_line(here);
-        if let Err(refusal) = whole::clausify_whole(lent, scratch, i) {
-            return Err(Refused {
-                refusal,
-                line: here,
-            });
-        }
+        whole::clausify_whole(lent, scratch, i).map_err(|refusal| Refused {
+            refusal,
+            line: here,
+        })?;
     }
     Ok(())
 }

@@ -10,6 +10,7 @@ ghost use Rattle.clausify.specs.Entry.{lent, reply_of};
 ghost use Rattle.clausify.specs.Answer.{LeftThere, Zeros, Answered};
 
 use crate::numbers::Numbers;
+use crate::sizes;
 use ir::answer::Refused;
 use ir::refusal::Refusal;
 use run;
@@ -64,25 +65,21 @@ fn settled(
     }
 }
 
-// The reply and all but scratch; refusal 1 where the sizes do not fit: whether they do is asked before a table is cleared.
+// The reply and all but scratch; refusal 1 where the sizes do not fit.
 pub fn answer(
-    fit: bool,
     deck: &[u8],
     clauses: &mut [u8],
     atoms: &mut [u8],
     deferrals: &mut [u8],
     scratch: &mut [u8],
 ) -> Result<Numbers, Refused>
-    requires { fit ≡ sizes_ok (lent clauses.old atoms.old deferrals.old scratch.old) }
     ensures { Answered (Run deck.now (lent clauses.old atoms.old deferrals.old scratch.old)) (lent clauses.old atoms.old deferrals.old scratch.old) (told_reply result) clauses.new atoms.new deferrals.new }
 {
+    let fit = sizes::sizes_ok(clauses.len(), atoms.len(), deferrals.len(), scratch.len());
     blank(clauses, atoms, deferrals);
     if fit {
         settled(deck, clauses, atoms, deferrals, scratch)
     } else {
-        Err(Refused {
-            refusal: Refusal::WrongSize,
-            line: 0,
-        })
+        Err(Refused::from(Refusal::WrongSize))
     }
 }

@@ -26,10 +26,7 @@ fn refuse_sizes(
 {
     answer::blank(clauses, atoms, deferrals);
     words::clear(scratch);
-    Err(Refused {
-        refusal: Refusal::WrongSize,
-        line: 0,
-    })
+    Err(Refused::from(Refusal::WrongSize))
 }
 
 // The answer, or 1 where the further table does not fit: `fit` is the definition's own Bool (`run_if`).

@@ -1,5 +1,6 @@
 // The public entries in Rattle: clausify_with_stats and clausify. None asks anything of what it is lent. Each contract gives the reply, and every byte of every table at exit, as a function of the deck's bytes and the
 // tables' lengths alone, and says what the clauses in these bytes mean.
+// The tables are four slices each by itself, here and in what the entries call: so the C interface lends them.
 #![tactic(auto)]
 
 pub mod answer;
@@ -41,8 +42,7 @@ pub fn clausify_with_stats(
         scratch.new ≡ scratch_table t }
     ensures meaning { Meant deck.now clauses.new atoms.new (told_reply result) }
 {
-    let fit = sizes::sizes_ok(clauses.len(), atoms.len(), deferrals.len(), scratch.len());
-    let reply = answer::answer(fit, deck, clauses, atoms, deferrals, scratch);
+    let reply = answer::answer(deck, clauses, atoms, deferrals, scratch);
     words::clear(scratch);
     reply
 }

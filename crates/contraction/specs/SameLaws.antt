@@ -1,12 +1,7 @@
 -- Runs of words compared word by word, and the atoms and clauses that they are. Assumes nothing.
-use Rattle.std.specs.Prelude.{◌≡◌, refl, Bool, true, false, ◌&&◌, ◌||◌, List, [], ◌∷◌, ◌++◌, ℕ, zero, suc, ◌+◌, ◌*◌, ◌<◌, ◌≤◌, eqb, ltb, length, get_or, take, drop, bytes_eq}
-use Rattle.std.proofs.Common.{sym, ap, ap₂, ◌∙◌, add-one, arith, ltb-true, ltb-false, drop_of_length-le, drop-cons, get_or-take, get_or-drop, length-drop, length-take-le, Decides}
+use Rattle.std.specs.Prelude.{◌≡◌, refl, Bool, true, false, ◌&&◌, ◌||◌, List, [], ◌∷◌, ◌++◌, ℕ, zero, suc, ◌+◌, ◌*◌, ◌<◌, ◌≤◌, eqb, length, get_or, take, drop}
+use Rattle.std.proofs.Common.{ap, ap₂, ◌∙◌, add-one, arith, drop_of_length-le, drop-cons}
 use Rattle.std.proofs.Math.Bool.{and-false}
-use Rattle.std.proofs.Math.ListN.{length-take, get_or-eq_default}
-use Rattle.std.proofs.lemmas.Bool.Decides.{same_from_decides}
-use Rattle.std.proofs.lemmas.Slice.Eq.{bytes_eq-Decides, compares_Decides}
-use Rattle.words.specs.Words.{words}
-use Rattle.words.specs.Laws.{Bytes, words_take, words_drop, words_inj}
 use Rattle.ir.specs.Pick.{pick}
 use Rattle.ir.specs.Records.{six, same_words, same_atom}
 use Rattle.ir.specs.declared.atom.Atom.{Atom}
@@ -66,44 +61,6 @@ any_either p q (x ∷ l) = swap (p x) (any p l) (q x) (any q l) ∙ ap (λ (b : 
 -- ---- two runs of n words, from words i and j on
 abbrev pub same_runs : List ℕ → ℕ → List ℕ → ℕ → ℕ → Bool
 same_runs s i t j n = same_words (take n (drop i s)) (take n (drop j t))
-
--- bytes compared are words compared
-pub words_decide : (xs ys : List ℕ) → Decides (same_words xs ys) (xs ≡ ys)
-words_decide = compares_Decides same_words (record {
-  empty = refl;
-  shorter = λ y ys. refl;
-  longer = λ x xs. refl;
-  heads = λ x y xs ys. pick_and (eqb x y) (same_words xs ys);
-})
-  where
-    pick_and : (a b : Bool) → pick a b false ≡ (a && b)
-    pick_and true b = refl
-    pick_and false b = refl
-
-bytes_part : (s : List ℕ) (p n : ℕ) → Bytes s → Bytes (take n (drop p s))
-bytes_part s p n B k = by (ltb k n) refl
-  where
-    by : (b : Bool) → ltb k n ≡ b → get_or (take n (drop p s)) k 0 < 256
-    by true e = rw (get_or-take n (drop p s) k 0 (ltb-true k n e), get_or-drop p s k 0) (B (p + k))
-    by false e = rw (get_or-eq_default (take n (drop p s)) 0 {n = k} (omega (arith, ltb-false k n e, length-take n (drop p s)))) (omega arith)
-
-module _ (s t : List ℕ) (S : Bytes s) (T : Bytes t) (i j n : ℕ) (fit_s : 4 * (i + n) ≤ length s) (fit_t : 4 * (j + n) ≤ length t) where
-  pub bytes_same : (r : Bool) → r ≡ bytes_eq (take (4 * n) (drop (4 * i) s)) (take (4 * n) (drop (4 * j) t)) → r ≡ same_runs (words s) i (words t) j n
-  bytes_same r e =
-      let a : List ℕ = take (4 * n) (drop (4 * i) s) in
-      let b : List ℕ = take (4 * n) (drop (4 * j) t) in
-      let la : length a ≡ 4 * n = length-take-le (4 * n) (drop (4 * i) s) (omega (arith, length-drop (4 * i) s)) in
-      let lb : length b ≡ 4 * n = length-take-le (4 * n) (drop (4 * j) t) (omega (arith, length-drop (4 * j) t)) in
-      let wa : words a ≡ take n (drop i (words s)) = words_take n (drop (4 * i) s) ∙ ap (take n) (words_drop i s) in
-      let wb : words b ≡ take n (drop j (words t)) = words_take n (drop (4 * j) t) ∙ ap (take n) (words_drop j t) in
-      let d = bytes_eq-Decides a b in
-      let w = words_decide (words a) (words b) in
-      let back : words a ≡ words b → a ≡ b = words_inj a b (la ∙ sym lb) (omega arith) (bytes_part s (4 * i) (4 * n) S) (bytes_part t (4 * j) (4 * n) T) in
-      e ∙ same_from_decides (bytes_eq a b) (same_words (words a) (words b)) d ((λ h. back (w.0 h)), λ h. w.1 (ap words h)) ∙ ap₂ same_words wa wb
-
-  -- whatever says how long the two parts are
-  pub parts_same : (m k : ℕ) (r : Bool) → r ≡ bytes_eq (take m (drop (4 * i) s)) (take k (drop (4 * j) t)) → m ≡ 4 * n → k ≡ 4 * n → r ≡ same_runs (words s) i (words t) j n
-  parts_same m k r e f g = bytes_same r (rw (f, g) at e)
 
 -- ---- words of atoms
 same_both : (xs ys u v : List ℕ) → length xs ≡ length ys → same_words (xs ++ u) (ys ++ v) ≡ (same_words xs ys && same_words u v)

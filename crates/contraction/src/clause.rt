@@ -51,9 +51,7 @@ pub fn same_records(s: &[u8], i: usize, t: &[u8], j: usize, n: usize) -> bool
     requires { (4 * (i + 6 * n) ≤ length s.now) × (4 * (j + 6 * n) ≤ length t.now) }
     ensures { result ≡ same_runs (words s.now) i (words t.now) j (6 * n) }
 {
-    let (from, to) = (4 * i, 4 * j);
-    let long = 24 * n;
-    s[from..from + long] == t[to..to + long]
+    record::same_words(s, i, t, j, 6 * n)
 }
 
 // Clause i has nb body atoms and nh head atoms.

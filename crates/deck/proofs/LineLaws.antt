@@ -18,7 +18,7 @@ use Rattle.deck.specs.Index.{last}
 use Rattle.deck.specs.Records.{tab, sum, known_in, verdict_number, table_bytes, Numbers, Held, Entered, Fresh}
 use Rattle.deck.specs.declared.state.Section.{Section}
 use Rattle.deck.specs.declared.state.State.{State}
-use Rattle.deck.specs.declared.Refused.{Refused}
+use Rattle.ir.specs.declared.answer.Refused.{Refused}
 use Rattle.ir.specs.Refusals.{refusal_number}
 use Rattle.ir.specs.declared.refusal.Refusal.{Refusal}
 use Rattle.ir.specs.declared.refusal.Refusal.TheVariants.{WrongSize, BadColumns, BadLine, PastLimit, Undeclared, BadNesting, BadList, Repeated, LargestBound, VisitsSpent, PoolFull, NoRoom, BadState, WideClause}

@@ -16,7 +16,7 @@ use Rattle.deck.specs.declared.row.Row.{Row}
 use Rattle.deck.specs.declared.state.Section.{Section}
 use Rattle.deck.specs.declared.state.Section.TheVariants.{Header as HeaderSection, Keys, Concepts, Axioms}
 use Rattle.deck.specs.declared.state.State.{State}
-use Rattle.deck.specs.declared.Refused.{Refused}
+use Rattle.ir.specs.declared.answer.Refused.{Refused}
 
 -- ---- sections
 abbrev pub section_code : Section → ℕ

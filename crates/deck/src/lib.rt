@@ -19,14 +19,8 @@ ghost use Rattle.deck.specs.Rows.{numbers};
 
 use crate::row::{Line, Row};
 use crate::state::{Section, State};
+use ir::answer::Refused;
 use ir::refusal::Refusal;
-
-// Why a deck is refused, and its line, from 1, or 0 where none is named.
-#[derive(Clone, Copy, PartialEq, Eq, Debug)]
-pub struct Refused {
-    pub refusal: Refusal,
-    pub line: usize,
-}
 
 // The checks from 3 on; the first that the line fails.
 fn verdict(row: &Row, t: &[u8], st: State) -> Result<(), Refusal>
@@ -63,15 +57,14 @@ fn read_lines(deck: &[u8], t: &mut [u8]) -> Result<State, Refused>
     }
     let mut st = State::default();
     let mut begin: usize = 0;
-    let mut line: usize = 1;
+    let mut line: u32 = 1;
     while begin < deck.len() {
-        let fields = text::fields(deck, begin);
-        if fields == 0 {
+        let Some(fields) = text::fields(deck, begin) else {
             return Err(Refused {
                 refusal: Refusal::BadColumns,
                 line,
             });
-        }
+        };
         let row = Row {
             deck,
             line: Line { begin, fields },

@@ -21,6 +21,7 @@ ghost use Rattle.extents.specs.Sets.{IsSet, ConceptThere};
 
 use crate::restriction::{all, at_least, at_most, some};
 use pool::joint::Joint;
+use pool::layout::{ALL, AND, ATOMIC, BOT, MIN, NOT, SELF, SOME, TOP};
 use pool::record;
 use sets::kept;
 use sets::places::CONCEPTS;
@@ -72,9 +73,9 @@ fn leaf_set(store: &[u8], scratch: &[u8], c: u32, t: Trial) -> u64
     let kind = record::kind(scratch, c);
     let number = record::number(scratch, c);
     match kind {
-        1 => sets::whole(t.size as u64),
-        2 => 0,
-        3 => kept::get_set(store, number as usize),
+        TOP => sets::whole(t.size as u64),
+        BOT => 0,
+        ATOMIC => kept::get_set(store, number as usize),
         _ => individual_set(store, t.base, number),
     }
 }
@@ -89,9 +90,9 @@ fn composed_set(scratch: &[u8], c: u32, t: Trial) -> u64
     let number = record::number(scratch, c);
     let child = record::child(scratch, c);
     match kind {
-        5 => kept::loops(scratch, role, t.size),
-        6 => complement(scratch, child, t.size),
-        7 => joint::joint_set(scratch, Joint::And, child, number, t.size),
+        SELF => kept::loops(scratch, role, t.size),
+        NOT => complement(scratch, child, t.size),
+        AND => joint::joint_set(scratch, Joint::And, child, number, t.size),
         _ => joint::joint_set(scratch, Joint::Or, child, number, t.size),
     }
 }
@@ -106,9 +107,9 @@ fn filled_set(scratch: &[u8], c: u32, t: Trial) -> u64
     let child = record::child(scratch, c);
     let set = set_of(scratch, child);
     match record::kind(scratch, c) {
-        9 => sets::filtered(t.size, |x| some(kept::row(scratch, role, x), set)),
-        10 => sets::filtered(t.size, |x| all(kept::row(scratch, role, x), set)),
-        11 => sets::filtered(
+        SOME => sets::filtered(t.size, |x| some(kept::row(scratch, role, x), set)),
+        ALL => sets::filtered(t.size, |x| all(kept::row(scratch, role, x), set)),
+        MIN => sets::filtered(
             t.size,
             |x| at_least(limit, kept::row(scratch, role, x), set),
         ),

@@ -12,6 +12,9 @@ ghost use Rattle.inverse.specs.Layout.{RolesHeld, Mapped, Beside, Building};
 use ir::scratch::ROLES;
 use ontology::axiom;
 
+// The deck's number of an axiom of two inverse roles.
+const INVERSE: u32 = 32;
+
 // Whether role r is a key.
 fn is_key(scratch: &[u8], r: u32) -> bool
     requires { (r < most_roles) × (4 * alternatives_at ≤ length scratch.now) }
@@ -69,7 +72,7 @@ fn declare_axiom(scratch: &mut [u8], n: u32, i: u32)
     ensures mapped { (m : InverseCanon) → Mapped (words scratch.old) m most_roles → Mapped (words scratch.new) (inverse_of m (axiom_at (words scratch.old) i)) most_roles }
     ensures beside { Beside (words scratch.old) (words scratch.new) }
 {
-    if axiom::number(scratch, i, 0) != 32 {
+    if axiom::number(scratch, i, 0) != INVERSE {
         return;
     }
     let r = axiom::number(scratch, i, 1);

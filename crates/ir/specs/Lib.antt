@@ -10,6 +10,7 @@ pub mod Options
 pub mod Visit
 pub mod Counts
 pub mod RecordLaws
+pub mod SameLaws
 pub mod Answer
 pub mod Headed
 pub mod Encoded

@@ -41,7 +41,7 @@ impl Counters {
         }
     }
 
-    // A fresh variable.
+    // A fresh variable. It and fresh_class are the Rust's own two, of one form.
     pub fn fresh_var(&mut self) -> u32
         requires { self.old.next_var + 1 < 2 ^ 32 }
         ensures result_value { result ≡ self.old.next_var }

@@ -16,6 +16,7 @@ pub enum Deferral {
 }
 
 impl Deferral {
+    // No From: the contract's definition has this name.
     pub fn kind(self) -> u32
         ensures { result ≡ deferral_kind self }
     {

@@ -1,16 +1,16 @@
-// An atom's record: six words of a table, and back.
-ghost use Rattle.std.specs.Prelude.{◌≡◌, ◌+◌, ◌*◌, ◌≤◌, ◌<◌, ◌^◌, length};
+// An atom's record: six words of a table, and back; runs of words compared.
+ghost use Rattle.std.specs.Prelude.{◌≡◌, ◌+◌, ◌*◌, ◌≤◌, ◌<◌, ◌^◌, length, take, drop};
 ghost use Rattle.std.proofs.lemmas.List.Edits.{sets};
 ghost use Rattle.words.specs.Words.{words};
 ghost use Rattle.ir.specs.Records.{Fits, qualifier_word, qualifier_of, words_of, six, six_of, record_at, atom_at, read_words};
 ghost use Rattle.ir.specs.Records.{unused_words, class_read, role_read, exists_read, at_most_read, at_least_read, equal_read};
-ghost use Rattle.ir.specs.Records.{same_atom};
+ghost use Rattle.ir.specs.Records.{same_words};
 
 use crate::atom::{Atom, Qualifier};
 use crate::role::Role;
 
 // kind, role code, class id + 1, number, two variables
-#[derive(Clone, Copy, PartialEq, Eq)]
+#[derive(Clone, Copy)]
 pub struct AtomWords(pub u32, pub u32, pub u32, pub u32, pub u32, pub u32);
 
 // 0, or one more than the class.
@@ -27,7 +27,7 @@ fn qualifier_word(q: Qualifier) -> u32
 fn qualifier_of(w: u32) -> Qualifier
     ensures { result ≡ qualifier_of w }
 {
-    if w == 0 { None } else { Some(w - 1) }
+    w.checked_sub(1)
 }
 
 pub fn encode(a: Atom) -> AtomWords
@@ -48,28 +48,21 @@ pub fn encode(a: Atom) -> AtomWords
 fn unused(a: u32, b: u32, c: u32) -> bool
     ensures { result ≡ unused_words a b c }
 {
-    if a != 0 {
-        return false;
-    }
-    if b != 0 {
-        return false;
-    }
-    c == 0
+    a == 0 && b == 0 && c == 0
 }
 
+#[tactic(auto, unfolding(crate::specs::Records::class_read))]
 fn read_class(w: AtomWords) -> Option<Atom>
     ensures { result ≡ class_read w.1 w.2 w.3 w.4 w.5 }
 {
-    let k = w.2;
     if !unused(w.1, w.3, w.5) {
         return None;
     }
-    if k == 0 {
-        return None;
-    }
-    Some(Atom::Class(k - 1, w.4))
+    let k = w.2.checked_sub(1)?;
+    Some(Atom::Class(k, w.4))
 }
 
+#[tactic(auto, unfolding(crate::specs::Records::role_read))]
 fn read_role(w: AtomWords) -> Option<Atom>
     ensures { result ≡ role_read w.1 w.2 w.3 w.4 w.5 }
 {
@@ -79,20 +72,19 @@ fn read_role(w: AtomWords) -> Option<Atom>
     Some(Atom::Role(Role::of_code(w.1), w.4, w.5))
 }
 
+#[tactic(auto, unfolding(crate::specs::Records::exists_read))]
 fn read_exists(w: AtomWords) -> Option<Atom>
     ensures { result ≡ exists_read w.1 w.2 w.3 w.4 w.5 }
 {
-    let k = w.2;
     if !unused(w.3, w.5, 0) {
         return None;
     }
-    if k == 0 {
-        return None;
-    }
-    Some(Atom::Exists(Role::of_code(w.1), k - 1, w.4))
+    let k = w.2.checked_sub(1)?;
+    Some(Atom::Exists(Role::of_code(w.1), k, w.4))
 }
 
 // As at_least_read but for the variant that it makes: a shared function would be told which.
+#[tactic(auto, unfolding(crate::specs::Records::at_most_read))]
 fn read_at_most(w: AtomWords) -> Option<Atom>
     ensures { result ≡ at_most_read w.1 w.2 w.3 w.4 w.5 }
 {
@@ -102,6 +94,7 @@ fn read_at_most(w: AtomWords) -> Option<Atom>
     Some(Atom::AtMost(Role::of_code(w.1), qualifier_of(w.2), w.3, w.4))
 }
 
+#[tactic(auto, unfolding(crate::specs::Records::at_least_read))]
 fn read_at_least(w: AtomWords) -> Option<Atom>
     ensures { result ≡ at_least_read w.1 w.2 w.3 w.4 w.5 }
 {
@@ -111,6 +104,7 @@ fn read_at_least(w: AtomWords) -> Option<Atom>
     Some(Atom::AtLeast(Role::of_code(w.1), qualifier_of(w.2), w.3, w.4))
 }
 
+#[tactic(auto, unfolding(crate::specs::Records::equal_read))]
 fn read_equal(w: AtomWords) -> Option<Atom>
     ensures { result ≡ equal_read w.1 w.2 w.3 w.4 w.5 }
 {
@@ -121,6 +115,7 @@ fn read_equal(w: AtomWords) -> Option<Atom>
 }
 
 // The atom of six words; six that no atom has are none.
+#[tactic(auto, unfolding(crate::specs::Records::read_of))]
 pub fn decode(w: AtomWords) -> Option<Atom>
     ensures { result ≡ read_words w }
 {
@@ -181,10 +176,10 @@ pub fn get_atom(t: &[u8], i: usize) -> Option<Atom>
     decode(get_record(t, i))
 }
 
-// Equality of two atoms, by their words, as the rules have it: a derived one would go by variants and fields.
-pub fn same_atom(a: Atom, b: Atom) -> bool
-    requires { Fits a × Fits b }
-    ensures { result ≡ same_atom a b }
+// n words of s from word i on are those of t from word j on: the slices' bytes are compared.
+pub fn same_words(s: &[u8], i: usize, t: &[u8], j: usize, n: usize) -> bool
+    requires { (4 * (i + n) ≤ length s.now) × (4 * (j + n) ≤ length t.now) }
+    ensures { result ≡ same_words (take n (drop i (words s.now))) (take n (drop j (words t.now))) }
 {
-    encode(a) == encode(b)
+    s[4 * i..4 * (i + n)] == t[4 * j..4 * (j + n)]
 }

@@ -35,6 +35,7 @@ pub enum Refusal {
 }
 
 impl Refusal {
+    // No From: the contract's definition has this name.
     pub fn number(self) -> u32
         ensures { result ≡ refusal_number self }
     {

@@ -1,6 +1,6 @@
 // A role as named or inverse, and its code: 2 * id, plus 1 for the inverse.
 ghost use Rattle.std.specs.Prelude.{◌≡◌, ◌<◌, ◌^◌};
-ghost use Rattle.ir.specs.Roles.{role_id, is_inverse, flipped, role_code, role_of};
+ghost use Rattle.ir.specs.Roles.{role_id, flipped, role_code, role_of};
 
 #[derive(Clone, Copy)]
 pub enum Role {
@@ -19,15 +19,6 @@ impl Role {
         }
     }
 
-    pub fn is_inverse(self) -> bool
-        ensures { result ≡ is_inverse self }
-    {
-        match self {
-            Role::Named(_) => false,
-            Role::Inverse(_) => true,
-        }
-    }
-
     // The other polarity.
     pub fn flip(self) -> Role
         ensures { result ≡ flipped self }
@@ -38,6 +29,7 @@ impl Role {
         }
     }
 
+    // No From: it asks for a bound, which a From cannot.
     pub fn code(self) -> u32
         requires { role_id self < 2 ^ 31 }
         ensures { result ≡ role_code self }

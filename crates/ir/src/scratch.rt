@@ -1,4 +1,6 @@
 // The regions of scratch, by their first words; each ends where the next begins. docs/ARCHITECTURE.md says what they hold.
+// Scratch is one lent buffer, and each function asks for the part of it that it reads: a type with a least length would be one for each
+// part, or ask more of callers.
 
 // Concept records, list members and their index.
 pub const POOL: usize = 0;

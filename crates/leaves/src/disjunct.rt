@@ -22,6 +22,7 @@ use ir::atom::Atom;
 use ir::counters::Counters;
 use ir::refusal::Refusal;
 use ir::{options, record};
+use pool::layout::{ATOMIC, MAX, MIN, NOMINAL, NOT, SOME};
 use pool::record as concept;
 
 // Of a disjunct: its atom, the atom that a fresh name excludes, none, the disjunct to be named, or its filler.
@@ -77,7 +78,7 @@ fn unqualified(scratch: &[u8], k: Counters, c: u32, v: u32) -> Atom
 {
     let role = read::canon(scratch, k, c);
     let n = concept::number(scratch, c);
-    if concept::kind(scratch, c) == 11 {
+    if concept::kind(scratch, c) == MIN {
         return Atom::AtLeast(role, None, n, v);
     }
     Atom::AtMost(role, None, n, v)
@@ -104,12 +105,12 @@ pub fn disjunct_of(scratch: &[u8], k: Counters, c: u32, v: u32) -> Disjunct
     ensures disjunct_fits { DisjunctFits (concept_at (words scratch.now) c) result }
 {
     match concept::kind(scratch, c) {
-        3 => Disjunct::Ready(Atom::Class(concept::number(scratch, c), v)),
-        4 => Disjunct::Ready(Atom::Class(k.nominal_base + concept::number(scratch, c), v)),
-        6 => excluded(leaf::negated(scratch, k, concept::child(scratch, c), 0)),
-        9 => Disjunct::Filler,
-        11 => counted(scratch, k, c, v),
-        12 => counted(scratch, k, c, v),
+        ATOMIC => Disjunct::Ready(Atom::Class(concept::number(scratch, c), v)),
+        NOMINAL => Disjunct::Ready(Atom::Class(k.nominal_base + concept::number(scratch, c), v)),
+        NOT => excluded(leaf::negated(scratch, k, concept::child(scratch, c), 0)),
+        SOME => Disjunct::Filler,
+        MIN => counted(scratch, k, c, v),
+        MAX => counted(scratch, k, c, v),
         _ => Disjunct::Whole,
     }
 }
@@ -145,10 +146,10 @@ pub fn filler_atom(scratch: &[u8], k: Counters, c: u32, v: u32, q: u32) -> Atom
     let role = read::canon(scratch, k, c);
     let n = concept::number(scratch, c);
     let kind = concept::kind(scratch, c);
-    if kind == 9 {
+    if kind == SOME {
         return Atom::Exists(role, q, v);
     }
-    if kind == 11 {
+    if kind == MIN {
         return Atom::AtLeast(role, Some(q), n, v);
     }
     Atom::AtMost(role, Some(q), n, v)

@@ -6,6 +6,7 @@ ghost use Rattle.leaves.specs.Reading.{Reading, form_of};
 
 use crate::read;
 use ir::counters::Counters;
+use pool::layout::{ALL, AND, OR, SOME};
 use pool::record;
 
 // Named: the filler of a restriction is named. Leaf: nothing is.
@@ -24,10 +25,10 @@ pub fn form_of(scratch: &[u8], k: Counters, c: u32) -> Form
 {
     match record::kind(scratch, c) {
         0..=6 => Form::Leaf,
-        7 => Form::And,
-        8 => Form::Or,
-        9 => Form::Named,
-        10 => Form::All,
+        AND => Form::And,
+        OR => Form::Or,
+        SOME => Form::Named,
+        ALL => Form::All,
         _ => counted(scratch, k, c),
     }
 }

@@ -22,6 +22,7 @@ use ir::counters::Counters;
 use ir::deferral::Deferral;
 use ir::record;
 use ir::refusal::Refusal;
+use pool::layout::{ATOMIC, BOT, MAX, MIN, NOMINAL, NOT, SELF};
 use pool::record as concept;
 use tables::lent::Tables;
 
@@ -41,7 +42,7 @@ pub fn negated(scratch: &[u8], k: Counters, d: u32, v: u32) -> Option<Atom>
     ensures result_value { (env : Env) → EnvIn env k (words scratch.now) → option_in result ≡ negated_atom env (pool_of (words scratch.now) k.concepts) v (concept_at (words scratch.now) d) }
     ensures literal_fits { IfSome result Fits }
 {
-    if concept::kind(scratch, d) == 5 {
+    if concept::kind(scratch, d) == SELF {
         return Some(Atom::Role(read::canon(scratch, k, d), v, v));
     }
     let a = read::class_id_of(scratch, k, d)?;
@@ -68,7 +69,7 @@ fn counted(scratch: &[u8], k: Counters, c: u32, v: u32) -> Leaf
 {
     let n = concept::number(scratch, c);
     let role = read::canon(scratch, k, c);
-    if concept::kind(scratch, c) == 12 {
+    if concept::kind(scratch, c) == MAX {
         return Leaf::Head(Atom::AtMost(role, None, n, v));
     }
     if n == 0 {
@@ -83,13 +84,13 @@ pub fn leaf_of(scratch: &[u8], k: Counters, c: u32, v: u32) -> Leaf
     ensures leaf_fits { LeafFits result }
 {
     match concept::kind(scratch, c) {
-        2 => Leaf::Empty,
-        3 => Leaf::Head(Atom::Class(concept::number(scratch, c), v)),
-        4 => Leaf::Head(Atom::Class(k.nominal_base + concept::number(scratch, c), v)),
-        5 => Leaf::Head(Atom::Role(read::canon(scratch, k, c), v, v)),
-        6 => joined(negated(scratch, k, concept::child(scratch, c), v)),
-        11 => counted(scratch, k, c, v),
-        12 => counted(scratch, k, c, v),
+        BOT => Leaf::Empty,
+        ATOMIC => Leaf::Head(Atom::Class(concept::number(scratch, c), v)),
+        NOMINAL => Leaf::Head(Atom::Class(k.nominal_base + concept::number(scratch, c), v)),
+        SELF => Leaf::Head(Atom::Role(read::canon(scratch, k, c), v, v)),
+        NOT => joined(negated(scratch, k, concept::child(scratch, c), v)),
+        MIN => counted(scratch, k, c, v),
+        MAX => counted(scratch, k, c, v),
         _ => Leaf::Nothing,
     }
 }

@@ -13,13 +13,14 @@ ghost use Rattle.leaves.specs.Classes.{option_in, HasRole, at_least_none};
 
 use ir::counters::Counters;
 use ir::role::Role;
+use pool::layout::{ATOMIC, MIN, NOMINAL, TOP};
 use pool::record;
 
 pub fn is_top(scratch: &[u8], k: Counters, c: u32) -> bool
     requires { Reading scratch.now k × (c < k.concepts) }
     ensures { result ≡ is_top (concept_at (words scratch.now) c) }
 {
-    record::kind(scratch, c) == 1
+    record::kind(scratch, c) == TOP
 }
 
 // Whether concept c is Min 0.
@@ -27,7 +28,7 @@ pub fn at_least_none(scratch: &[u8], k: Counters, c: u32) -> bool
     requires { Reading scratch.now k × (c < k.concepts) }
     ensures { result ≡ at_least_none (concept_at (words scratch.now) c) }
 {
-    record::kind(scratch, c) == 11 && record::number(scratch, c) == 0
+    record::kind(scratch, c) == MIN && record::number(scratch, c) == 0
 }
 
 pub fn class_id_of(scratch: &[u8], k: Counters, c: u32) -> Option<u32>
@@ -36,8 +37,8 @@ pub fn class_id_of(scratch: &[u8], k: Counters, c: u32) -> Option<u32>
     ensures small_class { IfSome result (λ a. a < most_names) }
 {
     match record::kind(scratch, c) {
-        3 => Some(record::number(scratch, c)),
-        4 => Some(k.nominal_base + record::number(scratch, c)),
+        ATOMIC => Some(record::number(scratch, c)),
+        NOMINAL => Some(k.nominal_base + record::number(scratch, c)),
         _ => None,
     }
 }

@@ -1,10 +1,10 @@
 -- From the reply and the tables to the listing; and its length. Assumes nothing.
-use Rattle.std.specs.Prelude.{◌≡◌, List, [], ◌∷◌, ◌++◌, ℕ, ◌+◌, ◌*◌, ◌-◌, ◌≤◌, length, take, replicate}
+use Rattle.std.specs.Prelude.{◌≡◌, List, [], ◌∷◌, ◌++◌, ℕ, ◌+◌, ◌*◌, ◌≤◌, length, take}
 use Rattle.std.proofs.Math.Path.{refl, ap}
 use Rattle.std.proofs.Common.{sym, ap₂, ◌∙◌, arith, length-append}
 use Rattle.words.specs.Words.{words}
 use Rattle.rules.specs.State.{total}
-use Rattle.rules.specs.Run.{Lengths, Accepted, Outcome, accepted, refused, Run, scratch_bytes, visit_limit, first_fresh, rooms_of, ten_numbers, clause_words, atom_words, clause_records, atom_records, clause_table, atom_table}
+use Rattle.rules.specs.Run.{Lengths, Accepted, Outcome, accepted, refused, Run, scratch_bytes, rooms_of, ten_numbers, clause_words, atom_words, clause_table, atom_table}
 use Rattle.rules.specs.Lister.{fields_text, clauses_text, outcome_text, lister_lengths, listing}
 use Rattle.clausify.specs.RunTabled.{run_within, run_tabled}
 use Rattle.rows.specs.Rows.{Put}

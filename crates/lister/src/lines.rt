@@ -32,7 +32,7 @@ fn put_numbers(out: &mut [u8], at: usize, n: Numbers) -> usize
     rows::put_line(out, at, &numbers)
 }
 
-// The clauses, then the numbers.
+// The clauses, then the numbers. The tables by themselves: a reader has two of them, and no counters.
 fn put_accepted(clauses: &[u8], atoms: &[u8], n: Numbers, out: &mut [u8]) -> usize
     requires { Listable (words clauses.now) (words atoms.now) n.stats.total 0 most_rows × (most_text ≤ length out.old) }
     ensures { (l : List Clause) → Tabled (words clauses.now) (words atoms.now) n.stats.total l → Put out.old 0 (clauses_text 0 l ++ fields_text (numbers_line n.stats n.fresh_ids n.visits)) out.new result }

@@ -26,7 +26,7 @@ fn put_atoms(run: &[u8], out: &mut [u8], at: usize) -> usize
     p
 }
 
-// Clause i and its atoms.
+// Clause i and its atoms. The tables by themselves, here and below: a reader has two of them, and no counters.
 fn put_clause_rows(clauses: &[u8], atoms: &[u8], i: u32, out: &mut [u8], at: usize) -> usize
     requires { ClauseThere (words clauses.now) (words atoms.now) i × (at + 45 + 78 * atom_count (words clauses.now) i ≤ length out.old) }
     ensures { (x : Clause) → ClauseAt (words clauses.now) (words atoms.now) i x → Put out.old at (clause_text i x) out.new result }

@@ -14,15 +14,8 @@ use ir::answer::Refused;
 use ir::counters::Counters;
 use ir::scratch::NUMBERS;
 use ontology::axiom;
-use pool::layout::{AND, MEMBERS, OR};
+use pool::layout::MEMBERS;
 use pool::record;
-
-// And or Or.
-fn is_list(kind: u32) -> bool
-    ensures { result ≡ is_list kind }
-{
-    kind == AND || kind == OR
-}
 
 // And or Or, at concept c.
 fn put_list(scratch: &[u8], k: Counters, c: u32, out: &mut [u8], at: usize) -> usize
@@ -51,7 +44,7 @@ fn put_concept(scratch: &[u8], k: Counters, c: u32, out: &mut [u8], at: usize) -
     requires { Ready scratch.now k × (c < k.concepts) × (at + length (fields_text (concept_line (concept_at (words scratch.now) c))) ≤ length out.old) }
     ensures { Put out.old at (fields_text (concept_line (concept_at (words scratch.now) c))) out.new result }
 {
-    if is_list(record::kind(scratch, c)) {
+    if record::is_list(record::kind(scratch, c)) {
         return put_list(scratch, k, c, out, at);
     }
     put_record(scratch, k, c, out, at)

@@ -4,6 +4,7 @@ pub mod Axioms
 pub mod StepLaws
 pub mod StateLaws
 pub mod LastingLaws
+pub mod LinedLaws
 pub mod SettledLaws
 pub mod KeptLaws
 pub mod KnownLaws

@@ -67,12 +67,11 @@ fn nnf_each(scratch: &mut [u8], k: &mut Counters, n: u32, line: u32) -> Result<(
     ensures kept { Kept numbers_at (lines_at - numbers_at) stack_at (words scratch.old) (words scratch.new) }
 {
     for i in 0..n {
-        if let Err(refusal) = nnf_axiom(scratch, k, n, i) {
-            return Err(Refused {
-                refusal,
-                line: line + i,
-            });
-        }
+        let here = line + i;
+        nnf_axiom(scratch, k, n, i).map_err(|refusal| Refused {
+            refusal,
+            line: here,
+        })?;
     }
     Ok(())
 }

@@ -1,20 +1,16 @@
 -- The reader's answer, and the table that is back in scratch. Assumes nothing.
-use mathlib.Core.Path.{◌≡◌, refl, sym, ap, ◌∙◌}
+use mathlib.Core.Path.{◌≡◌, sym, ap, ◌∙◌}
 use mathlib.Core.List.{List, ◌++◌}
 use Prim.Native.Nat.{ℕ, ◌*◌, ◌≤◌}
 use native.Mathlib.Omega.{arith}
-use borrow.Author.Tests.{ltb-false}
 use borrow.Rule.Slice.PartMut.{mid_of, put_mid, post_of, same_len_mid}
-use lib.Dec.{ltb}
 use lib.ListN.{length, take}
 use lib.Seq.{length-take-le, take_at, drop_at}
 use Rattle.ir.specs.Scratch.{hands_at}
-use Rattle.rules.specs.Deck.{most_bytes, refused, read_deck}
-use Rattle.rules.specs.DeckLaws.{read_enough}
-use Rattle.rules.specs.TextLaws.{by_test}
+use Rattle.rules.specs.Deck.{refused, read_deck}
 use Rattle.deck.specs.Records.{told_of, Kept}
 use Rattle.deck.specs.declared.state.State.{State}
-use Rattle.deck.specs.declared.Refused.{Refused}
+use Rattle.ir.specs.declared.answer.Refused.{Refused}
 use Rattle.std.specs.Prelude.{Result, Ok, Err}
 use Rattle.ir.specs.Refusals.{refusal_number}
 use Rattle.ontology.specs.Lines.{table_in, Answered, Accepted}
@@ -27,18 +23,6 @@ module _ (s t : List ℕ) (a : Result State Refused) (R : Answered s t a) where
 
   pub refused_is : (r : Refused) → a ≡ Err r → read_deck s ≡ refused (refusal_number r.refusal) r.line
   refused_is r e = sym (rw e at R.told)
-
-  pub refused_few : (r : Refused) → a ≡ Err r → (refusal_number r.refusal ≤ 9) × (r.line ≤ most_bytes)
-  unfolding read_deck
-  refused_few r e =
-      let n : ℕ = refusal_number r.refusal in
-      let line : ℕ = r.line in
-      let N = read_enough s n line (refused_is r e) in (
-        N.high,
-        by_test (ltb most_bytes (length s))
-            (λ b. let q : refused n line ≡ refused 2 0 = sym (refused_is r e) ∙ rw b refl in let z : line ≡ 0 = cc in omega arith)
-            (λ b. let l = ltb-false most_bytes (length s) b in omega (arith, N.in_bytes)),
-      )
 
 -- ---- the table t comes back into scratch
 module _ (S t : List ℕ) (room : 4 * hands_at ≤ length S) (size : length t ≡ length (mid_of 204800 28672 S)) where

@@ -11,7 +11,7 @@ use Rattle.rules.specs.Pool.{most_members, find, members}
 use Rattle.rules.specs.Deck.{most_bytes, most_classes, most_individuals, most_options, most_concept_lines, most_axioms, parts_of, fine, read_deck}
 use Rattle.rules.specs.Invariants.{Each}
 use Rattle.text.specs.Rows.{row_at}
-use Rattle.deck.specs.declared.Refused.{Refused}
+use Rattle.ir.specs.declared.answer.Refused.{Refused}
 use Rattle.deck.specs.declared.row.Line.{Line}
 use Rattle.deck.specs.declared.state.State.{State}
 use Rattle.deck.specs.Records as reader

@@ -3,7 +3,7 @@ ghost use Rattle.std.specs.Prelude.{◌≡◌, ◌*◌, ◌≤◌, length};
 ghost use Rattle.words.specs.Words.{words};
 ghost use Rattle.ir.specs.Scratch.{hands_at};
 ghost use Rattle.rules.specs.Deck.{read_deck};
-ghost use Rattle.ontology.specs.Lines.{table_in, Answered, Accepted, Declared, started};
+ghost use Rattle.ontology.specs.Lines.{table_in, Accepted, Declared, started};
 ghost use Rattle.ontology.specs.Loads.{LoadedAs, loaded_of, read_of};
 
 use crate::lines::{TABLE, TABLE_END};
@@ -49,30 +49,11 @@ fn load_lines(deck: &[u8], scratch: &mut [u8], st: State, limit: u32) -> (Counte
     (k, count)
 }
 
-// The reader's answer. The reader's line is at most 65,536, which a From could not ask.
-fn load_answer(
-    deck: &[u8],
-    scratch: &mut [u8],
-    answer: Result<State, deck::Refused>,
-    limit: u32,
-) -> Result<(Counters, u32), Refused>
-    requires { (4 * hands_at ≤ length scratch.old) × Answered deck.now (table_in scratch.old) answer }
-    ensures { LoadedAs limit (read_deck deck.now) (words scratch.new) (loaded_of result) }
-{
-    match answer {
-        Ok(st) => Ok(load_lines(deck, scratch, st, limit)),
-        Err(e) => Err(Refused {
-            refusal: e.refusal,
-            line: e.line as u32,
-        }),
-    }
-}
-
 // The deck, read and, where it is accepted, in scratch: the counters and the number of axioms.
 pub fn load(deck: &[u8], scratch: &mut [u8], limit: u32) -> Result<(Counters, u32), Refused>
     requires { 4 * hands_at ≤ length scratch.old }
     ensures { LoadedAs limit (read_deck deck.now) (words scratch.new) (loaded_of result) }
 {
-    let answer = deck::read(deck, &mut scratch[TABLE..TABLE_END]);
-    load_answer(deck, scratch, answer, limit)
+    let st = deck::read(deck, &mut scratch[TABLE..TABLE_END])?;
+    Ok(load_lines(deck, scratch, st, limit))
 }

@@ -1,11 +1,8 @@
 -- The loops over a run of words: what is left, one word on, and at the end. Assumes nothing.
 use mathlib.Core.Path.{◌≡◌, refl}
-use mathlib.Core.Bool.{true, false}
 use mathlib.Core.List.{List, [], ◌∷◌}
 use Prim.Native.Nat.{ℕ, ◌+◌, ◌-◌, ◌<◌, ◌≤◌}
 use lib.ListN.{get_or}
-use borrow.Author.Tests.{eq-eqb, ne_eqb}
-use Rattle.ir.specs.Records.{same_words}
 use Rattle.pool.specs.Layout.{run}
 use Rattle.pool.specs.Index.{mixed, hash_by}
 use Rattle.pool.specs.Tabs.{tab_next, tab_end}
@@ -25,13 +22,3 @@ module _ (w : List ℕ) where
     pub hash_end : (h : ℕ) → n ≤ k → hash_by h (run w (i + k) (n - k)) ≡ h
     unfolding hash_by
     hash_end h l = rw (run_end i k n l) refl
-
-    pub same_yes : (j : ℕ) → k < n → get_or w (i + k) 0 ≡ get_or w (j + k) 0
-        → same_words (run w (i + k) (n - k)) (run w (j + k) (n - k)) ≡ same_words (run w (i + (k + 1)) (n - (k + 1))) (run w (j + (k + 1)) (n - (k + 1)))
-    same_yes j l e = rw (run_next i k n l, run_next j k n l, eq-eqb _ _ e) refl
-
-    pub same_no : (j : ℕ) → k < n → (get_or w (i + k) 0 ≡ get_or w (j + k) 0 → ⊥) → same_words (run w (i + k) (n - k)) (run w (j + k) (n - k)) ≡ false
-    same_no j l e = rw (run_next i k n l, run_next j k n l, ne_eqb _ _ e) refl
-
-    pub same_end : (j : ℕ) → n ≤ k → same_words (run w (i + k) (n - k)) (run w (j + k) (n - k)) ≡ true
-    same_end j l = rw (run_end i k n l, run_end j k n l) refl

@@ -42,3 +42,8 @@ pub record Asked (s : List ℕ) (x : Record) (i : ℕ) : Type 0 where
 abbrev pub found_of : CodeOption ℕ → Option ℕ
 found_of (Some c) = some c
 found_of None = none
+
+-- a record's link and a hash's head as words: 1 + a record, or 0
+abbrev pub link_word : CodeOption ℕ → ℕ
+link_word None = 0
+link_word (Some c) = suc c

@@ -1,7 +1,6 @@
 // The search for the equal record, by hash.
 ghost use Rattle.std.specs.Prelude.{◌≡◌, ◌+◌, ◌*◌, ◌≤◌, ◌<◌, length};
 ghost use Rattle.words.specs.Words.{words};
-ghost use Rattle.ir.specs.Records.{same_words};
 ghost use Rattle.rules.specs.Concept.{same_concept};
 ghost use Rattle.rules.specs.Pool.{find};
 ghost use Rattle.pool.specs.Layout.{run, count_of, concept_over, concept_at, pool_of};
@@ -12,6 +11,7 @@ use crate::layout::MEMBERS;
 use crate::record;
 use crate::record::Record;
 use ir::counters::Counters;
+use ir::record::same_words;
 
 // One word more in a hash.
 fn mix(h: usize, x: u32) -> usize
@@ -49,19 +49,6 @@ pub fn hash(scratch: &[u8], x: Record, at: usize) -> usize
     hash_run(scratch, hash_record(x), at, x.count())
 }
 
-// Whether two runs of words are equal. A slice's equality is of bytes, and the rule's of words.
-fn same_run(scratch: &[u8], a: usize, b: usize, count: u32) -> bool
-    requires { (4 * (a + count) ≤ length scratch.now) × (4 * (b + count) ≤ length scratch.now) }
-    ensures { result ≡ same_words (run (words scratch.now) a count) (run (words scratch.now) b count) }
-{
-    for i in 0..count as usize {
-        if words::get_word(scratch, a + i) != words::get_word(scratch, b + i) {
-            return false;
-        }
-    }
-    true
-}
-
 // Whether concept c is the concept of a record and its list. A record in scratch is words, so that no derived equality has it.
 fn same(scratch: &[u8], k: Counters, c: u32, x: Record, at: usize) -> bool
     requires { Ready scratch.now k × Asked scratch.now x at × (c < k.concepts) }
@@ -78,7 +65,8 @@ fn same(scratch: &[u8], k: Counters, c: u32, x: Record, at: usize) -> bool
     }
     let d = record::child(scratch, c);
     if x.is_list() {
-        return same_run(scratch, at, MEMBERS + d as usize, x.number);
+        let run = MEMBERS + d as usize;
+        return same_words(scratch, at, scratch, run, x.number as usize);
     }
     d == x.child
 }
@@ -89,7 +77,7 @@ pub fn find(scratch: &[u8], k: Counters, x: Record, at: usize) -> Option<u32>
     ensures { found_of result ≡ find (concept_over (words scratch.now) at x) (pool_of (words scratch.now) k.concepts) }
 {
     let mut next = record::head(scratch, hash(scratch, x, at));
-    while let Some(c) = next.checked_sub(1) {
+    while let Some(c) = next {
         if same(scratch, k, c, x, at) {
             return Some(c);
         }

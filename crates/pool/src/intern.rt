@@ -11,9 +11,9 @@ ghost use Rattle.pool.specs.Held.{Ready, Asked};
 ghost use Rattle.pool.specs.Answers.{Added, Interned};
 ghost use Rattle.ir.specs.Answer.{answer};
 
+use crate::index;
 use crate::layout::{HEADS, MEMBERS, MOST_CONCEPTS, MOST_MEMBERS, RECORD};
 use crate::record::Record;
-use crate::{index, record};
 use ir::counters::Counters;
 use ir::refusal::Refusal;
 
@@ -36,7 +36,7 @@ fn put_record(scratch: &mut [u8], c: u32, h: usize, x: Record, used: u32)
     requires { (c < most_concepts) × (h < 2048) × (pool_bytes ≤ length scratch.old) }
     ensures { words scratch.new ≡ record_put (words scratch.old) c h x used }
 {
-    let link = record::head(scratch, h);
+    let link = words::get_word(scratch, HEADS + h);
     put_words(scratch, c, x, used, link);
     words::put_word(scratch, HEADS + h, c + 1);
 }

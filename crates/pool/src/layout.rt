@@ -26,6 +26,10 @@ pub const BOT: u32 = 2;
 
 pub const ATOMIC: u32 = 3;
 
+pub const NOMINAL: u32 = 4;
+
+pub const SELF: u32 = 5;
+
 pub const NOT: u32 = 6;
 
 pub const AND: u32 = 7;

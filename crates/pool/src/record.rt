@@ -3,6 +3,7 @@ ghost use Rattle.std.specs.Prelude.{◌≡◌, ◌+◌, ◌≤◌, ◌<◌, leng
 ghost use Rattle.words.specs.Words.{words};
 ghost use Rattle.rules.specs.Pool.{most_concepts, most_members};
 ghost use Rattle.pool.specs.Layout.{pool_bytes, members_at, heads_at, field, is_list, count_of, starts_at};
+ghost use Rattle.pool.specs.Held.{link_word};
 
 use crate::layout::{AND, HEADS, MEMBERS, OR, RECORD};
 
@@ -98,12 +99,12 @@ pub fn used(scratch: &[u8], c: u32) -> u32
     word(scratch, c, 4)
 }
 
-// 1 + the record before it with the same hash; 0 where there is none.
-pub fn link(scratch: &[u8], c: u32) -> u32
+// The record before it with the same hash.
+pub fn link(scratch: &[u8], c: u32) -> Option<u32>
     requires { (c < most_concepts) × (pool_bytes ≤ length scratch.now) }
-    ensures { result ≡ field (words scratch.now) c 5 }
+    ensures { link_word result ≡ field (words scratch.now) c 5 }
 {
-    word(scratch, c, 5)
+    word(scratch, c, 5).checked_sub(1)
 }
 
 // List member i.
@@ -115,11 +116,10 @@ pub fn member(scratch: &[u8], i: u32) -> u32
     words::get_word(scratch, at)
 }
 
-// 1 + the last record with hash h; 0 where there is none.
-pub fn head(scratch: &[u8], h: usize) -> u32
+// The last record with hash h.
+pub fn head(scratch: &[u8], h: usize) -> Option<u32>
     requires { (h < most_concepts) × (pool_bytes ≤ length scratch.now) }
-    ensures { result ≡ get_or (words scratch.now) (heads_at + h) 0 }
+    ensures { link_word result ≡ get_or (words scratch.now) (heads_at + h) 0 }
 {
-    let at = HEADS + h;
-    words::get_word(scratch, at)
+    words::get_word(scratch, HEADS + h).checked_sub(1)
 }

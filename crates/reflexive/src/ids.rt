@@ -15,6 +15,13 @@ use ontology::axiom;
 
 pub const FLAGS: usize = ROLES + 1024;
 
+// The deck's numbers of three kinds of axioms: a role below another, equivalent roles, a reflexive role.
+const SUB_ROLE: u32 = 33;
+
+const EQUIVALENT: u32 = 34;
+
+const REFLEXIVE: u32 = 35;
+
 // The id that a role's code is mapped to.
 fn canon_id(scratch: &[u8], code: u32) -> u32
     requires { (code < 2 * most_roles) × (4 * alternatives_at ≤ length scratch.now) }
@@ -43,7 +50,7 @@ fn declared(scratch: &mut [u8], n: u32) -> u32
     words::clear_words(scratch, FLAGS, 1024);
     let mut size: u32 = 0;
     for i in 0..n {
-        if axiom::number(scratch, i, 0) == 35 {
+        if axiom::number(scratch, i, 0) == REFLEXIVE {
             let id = canon_id(scratch, axiom::number(scratch, i, 1));
             size = insert(scratch, id, size);
         }
@@ -96,12 +103,12 @@ fn edges_of(scratch: &mut [u8], i: u32, size: u32) -> u32
     ensures { Step (words scratch.old) (words scratch.new) size result (axiom_edges (words scratch.old) i) }
 {
     match axiom::number(scratch, i, 0) {
-        33 => {
+        SUB_ROLE => {
             let a = canon_id(scratch, axiom::number(scratch, i, 1));
             let b = canon_id(scratch, axiom::number(scratch, i, 2));
             along(scratch, a, b, size)
         }
-        34 => {
+        EQUIVALENT => {
             let at = NUMBERS + axiom::start(scratch, i) as usize + 1;
             edges_among(scratch, at, axiom::count(scratch, i) - 1, size)
         }

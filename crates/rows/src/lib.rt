@@ -14,14 +14,14 @@ fn put_digits(out: &mut [u8], at: usize, number: u32)
 {
     out[at..at + 11].fill(b' ');
     let mut rest = number;
-    let mut j: usize = 10;
-    // the digits, from the last one on: how many they are is known at the end
-    while 9 < rest {
+    // from the last digit on: how many they are is known at the end
+    for j in (0..11).rev() {
         out[at + j] = b'0' + (rest % 10) as u8;
         rest /= 10;
-        j -= 1;
+        if rest == 0 {
+            break;
+        }
     }
-    out[at + j] = b'0' + rest as u8;
 }
 
 // The number in the 11 bytes from `at` on; where they end.

@@ -33,14 +33,12 @@ fn run_late(lent: &mut Tables<'_>, scratch: &mut [u8], n: u32, first: u32) -> Re
     ensures did { (B : Before scratch.old lent.old.counters n first (words lent.old.clauses.now) (words lent.old.atoms.now) (words lent.old.deferrals.now)) → RanAs B.rooms (run_deck B.limit B.rooms B.known) (words lent.new.clauses.now) (words lent.new.atoms.now) (words lent.new.deferrals.now) result }
 {
     lent.counters.at_line(0);
-    match late::late_passes(lent, scratch, n) {
-        Ok(decomposed) => Ok(Ran {
-            counters: lent.counters,
-            first,
-            decomposed,
-        }),
-        Err(refusal) => Err(Refused { refusal, line: 0 }),
-    }
+    let decomposed = late::late_passes(lent, scratch, n)?;
+    Ok(Ran {
+        counters: lent.counters,
+        first,
+        decomposed,
+    })
 }
 
 // The run of a deck that was read.
@@ -54,7 +52,8 @@ fn run_loaded(lent: &mut Tables<'_>, scratch: &mut [u8], n: u32) -> Result<Ran, 
     run_late(lent, scratch, n, first)
 }
 
-// The deck's run under a limit of visits, in tables of zeros; on a refusal the tables hold what was made so far.
+// The deck's run under a limit of visits, in tables of zeros; on a refusal the tables hold what was made so far. The tables are
+// slices each by itself, as the C interface lends them; what they are behind it is `Tables`.
 pub fn run(
     deck: &[u8],
     scratch: &mut [u8],

@@ -1,5 +1,5 @@
 -- A search for Exists in a run of atoms, at atom i. Assumes nothing.
-use Rattle.std.specs.Prelude.{true, false, ◌≡◌, refl, List, ℕ, ◌+◌, ◌*◌, ◌/◌, ◌≤◌, ◌<◌, length, get_or, drop}
+use Rattle.std.specs.Prelude.{Bool, true, false, ◌||◌, ◌≡◌, refl, List, [], ◌∷◌, ℕ, zero, suc, ◌+◌, ◌*◌, ◌/◌, ◌≤◌, ◌<◌, length, get_or, drop}
 use Rattle.std.proofs.Common.{sym, ◌∙◌, arith, drop_of_length-le}
 use Rattle.words.specs.Words.{words}
 use Rattle.ir.specs.Records.{words_of}
@@ -39,3 +39,13 @@ module _ (s : List ℕ) (n i : ℕ) (e : n ≡ length s / 24) (l : List Atom) (R
   exists_out h =
       let z : length l ≤ i = omega (arith, R.long) in
       rw (drop_of_length-le l z) refl
+
+pub exists_back : (l : List Atom) (k : ℕ) → any is_exists (drop k l) ≡ true → any is_exists l ≡ true
+exists_back [] zero e = e
+exists_back [] (suc k) e = e
+exists_back (a ∷ l) zero e = e
+exists_back (a ∷ l) (suc k) e = rw (exists_back l k e) (or_true (is_exists a))
+  where
+    or_true : (b : Bool) → (b || true) ≡ true
+    or_true true = refl
+    or_true false = refl

@@ -17,7 +17,7 @@ use branches::vars;
 use tables::read;
 
 // In the Rust's order.
-#[derive(Clone, Copy)]
+#[derive(Clone, Copy, Default)]
 pub struct ClauseStats {
     pub total: u32,
     pub horn: u32,
@@ -33,13 +33,7 @@ pub struct ClauseStats {
 fn has_exists(head: &[u8]) -> bool
     ensures { (l : List Atom) → Run head.now l → result ≡ any is_exists l }
 {
-    let n = read::atom_room(head);
-    for i in 0..n {
-        if words::get_word(head, 6 * i) == 3 {
-            return true;
-        }
-    }
-    false
+    (0..read::atom_room(head)).any(|i| words::get_word(head, 6 * i) == 3)
 }
 
 impl ClauseStats {
@@ -73,14 +67,9 @@ pub fn clause_stats(
     ensures { (l : List Clause) → Tabled (words clauses.now) (words atoms.now) n l → stats_of result ≡ clause_stats l deferred decomposed }
 {
     let mut s = ClauseStats {
-        total: 0,
-        horn: 0,
-        disjunctive: 0,
-        bottom_headed: 0,
-        with_exists_head: 0,
         deferred,
         decomposed,
-        refused: 0,
+        ..ClauseStats::default()
     };
     for i in 0..n {
         let body = read::body_of(clauses, atoms, i);

@@ -1,5 +1,5 @@
 -- The tree of a root, from its first words to the answer. Assumes nothing.
-use Rattle.std.specs.Prelude.{Bool, true, false, ◌&&◌, ◌||◌, not, ◌≡◌, Some, None, ℕ, ◌+◌, ◌*◌, ◌-◌, ◌≤◌, ◌<◌, length, get_or, take, set}
+use Rattle.std.specs.Prelude.{Bool, true, false, ◌&&◌, ◌||◌, not, eqb, ◌≡◌, Some, None, ℕ, zero, suc, ◌+◌, ◌*◌, ◌-◌, ◌≤◌, ◌<◌, length, get_or, take, set}
 use Rattle.std.proofs.Math.Path.{refl, sym}
 use Rattle.std.proofs.Common.{ap, ◌∙◌, arith, length-drop, get_or-take, get_or-drop, drop-set-lt, take-suc-set}
 use mathlib.Core.List.{List, [], ◌∷◌}
@@ -21,57 +21,54 @@ use Rattle.trees.specs.RoundLaws.{kept_get, kept_then}
 use Rattle.trees.specs.GrowLaws.{atoms_kept}
 
 -- ---- a role atom that is not placed, from atom j on
-is_role : (a : Atom) → (words_of a).0 ≡ 2 → is_role_atom a ≡ true
-is_role (Class k v) e = absurd (omega arith)
-is_role (RoleAtom r u v) e = refl
-is_role (Exists r k v) e = absurd (omega arith)
-is_role (AtMost r q n v) e = absurd (omega arith)
-is_role (AtLeast r q n v) e = absurd (omega arith)
-is_role (Equal u v) e = absurd (omega arith)
+role_test : (a : Atom) → eqb (words_of a).0 2 ≡ is_role_atom a
+role_test (Class k v) = refl
+role_test (RoleAtom r u v) = refl
+role_test (Exists r k v) = refl
+role_test (AtMost r q n v) = refl
+role_test (AtLeast r q n v) = refl
+role_test (Equal u v) = refl
 
-no_role : (a : Atom) → ((words_of a).0 ≡ 2 → ⊥) → is_role_atom a ≡ false
-no_role (Class k v) e = refl
-no_role (RoleAtom r u v) e = absurd (e refl)
-no_role (Exists r k v) e = refl
-no_role (AtMost r q n v) e = refl
-no_role (AtLeast r q n v) e = refl
-no_role (Equal u v) e = refl
+or_true : (b : Bool) → (b || true) ≡ true
+or_true true = refl
+or_true false = refl
 
-and_false : (b : Bool) → (b && false) ≡ false
-and_false true = refl
-and_false false = refl
+disconnected_back : (l : List Atom) (flags : List Bool) (k : ℕ) → any_disconnected (drop k l) (drop k flags) ≡ true → any_disconnected l flags ≡ true
+unfolding any_disconnected
+disconnected_back l flags zero e = e
+disconnected_back [] flags (suc k) e = e
+disconnected_back (a ∷ l) [] (suc k) e = absurd (no_flags (drop k l) e)
+  where
+    no_flags : (m : List Atom) → any_disconnected m [] ≡ true → ⊥
+    no_flags [] z = absurd (let n : ◌≡◌ {A = ℕ} 0 1 = cc in omega arith)
+    no_flags (b ∷ m) z = absurd (let n : ◌≡◌ {A = ℕ} 0 1 = cc in omega arith)
+disconnected_back (a ∷ l) (p ∷ flags) (suc k) e = rw (disconnected_back l flags k e) (or_true (is_role_atom a && not p))
 
--- the atoms from j on answer as all do
-pub record Loose (w : List ℕ) (flags : List Bool) (base count j : ℕ) : Type 0 where
-  pub here : j ≤ count
-  pub left : (l : List Atom) → AtomsAre w base count l → any_disconnected l (take count flags) ≡ any_disconnected (drop j l) (drop j (take count flags))
+module _ (w : List ℕ) (flags : List Bool) (base count : ℕ) (long : count ≤ length flags) (l : List Atom) (A : AtomsAre w base count l) where
+  -- the atoms from j on
+  abbrev pub loose : ℕ → Bool
+  loose j = any_disconnected (drop j l) (drop j (take count flags))
 
-module _ (w : List ℕ) (flags : List Bool) (base count j : ℕ) (L : Loose w flags base count j) where
-  module _ (h : j < count) (long : count ≤ length flags) where
-    loose_one : (l : List Atom) (A : AtomsAre w base count l) → any_disconnected (drop j l) (drop j (take count flags))
-        ≡ ((is_role_atom (atom_at_lem w base count j l A h).atom && not (get_or flags j false)) || any_disconnected (drop (j + 1) l) (drop (j + 1) (take count flags)))
+  module _ (j : ℕ) (h : j < count) where
+    loose_one : loose j ≡ ((eqb (get_or w (6 * (base + j)) 0) 2 && not (get_or flags j false)) || loose (j + 1))
     unfolding any_disconnected
-    loose_one l A = rw ((atom_at_lem w base count j l A h).split, flags_from flags j count h long) refl
-
-    pub loose_found : get_or w (6 * (base + j)) 0 ≡ 2 → get_or flags j false ≡ false → (l : List Atom) → AtomsAre w base count l → true ≡ any_disconnected l (take count flags)
-    loose_found e f l A =
+    loose_one =
         let a = atom_at_lem w base count j l A h in
-        sym (L.left l A ∙ loose_one l A ∙ rw (is_role a.atom (sym a.words.kind ∙ e), f) refl)
+        let e : eqb (get_or w (6 * (base + j)) 0) 2 ≡ is_role_atom a.atom = ap (λ (x : ℕ). eqb x 2) a.words.kind ∙ role_test a.atom in
+        rw (a.split, flags_from flags j count h long, e) refl
 
-    pub loose_placed : get_or flags j false ≡ true → Loose w flags base count (j + 1)
-    loose_placed f = record { here = omega arith; left = λ l A. L.left l A ∙ loose_one l A ∙ rw (f, and_false (is_role_atom (atom_at_lem w base count j l A h).atom)) refl }
+    pub loose_found : (eqb (get_or w (6 * (base + j)) 0) 2 && not (get_or flags j false)) ≡ true → loose j ≡ true
+    loose_found e = loose_one ∙ rw e refl
 
-    pub loose_other : (get_or w (6 * (base + j)) 0 ≡ 2 → ⊥) → Loose w flags base count (j + 1)
-    loose_other e = record {
-      here = omega arith;
-      left = λ l A. let a = atom_at_lem w base count j l A h in L.left l A ∙ loose_one l A ∙ rw (no_role a.atom (λ q. e (a.words.kind ∙ q))) refl;
-    }
+    pub loose_on : (eqb (get_or w (6 * (base + j)) 0) 2 && not (get_or flags j false)) ≡ false → loose j ≡ loose (j + 1)
+    loose_on e = loose_one ∙ rw e refl
 
-  pub loose_end : count ≤ j → (l : List Atom) → AtomsAre w base count l → false ≡ any_disconnected l (take count flags)
+  pub loose_back : (k : ℕ) → loose k ≡ true → loose 0 ≡ true
+  loose_back k e = disconnected_back l (take count flags) k e
+
+  pub loose_end : loose count ≡ false
   unfolding any_disconnected
-  loose_end h l A =
-      let z : drop j l ≡ [] = drop_of_length-le l {i = j} (omega (arith, A.long)) in
-      sym (L.left l A ∙ rw z refl)
+  loose_end = let z : drop count l ≡ [] = drop_of_length-le l {i = count} (omega (arith, A.long)) in rw z refl
 
 -- ---- the root alone
 abbrev pub rooted : List ℕ → ℕ → List ℕ

@@ -85,12 +85,7 @@ fn any_disconnected(scratch: &[u8], placed: &[bool], atoms: Atoms) -> bool
     requires { (6 * (atoms.base + atoms.count) ≤ bound_at) × (atoms.count ≤ length placed.now) × (4 * work_words ≤ length scratch.now) }
     ensures { (l : List Atom) → AtomsAre (words scratch.now) atoms.base atoms.count l → result ≡ any_disconnected l (take atoms.count placed.now) }
 {
-    for j in 0..atoms.count as usize {
-        if atom::kind(scratch, atoms.base + j) == ROLE && !placed[j] {
-            return true;
-        }
-    }
-    false
+    (0..atoms.count as usize).any(|j| atom::kind(scratch, atoms.base + j) == ROLE && !placed[j])
 }
 
 // How many variables are bound; none where a role atom is disconnected.

@@ -15,7 +15,7 @@ use Rattle.rules.specs.Deck.{Known, Told, fine, refused, read_deck}
 use Rattle.rules.specs.DeckLaws.{DeckIn, read_in}
 use Rattle.rules.specs.Semantics.{Interpretation}
 use Rattle.rules.specs.Statements.{Proper}
-use Rattle.deck.specs.declared.Refused.{Refused}
+use Rattle.ir.specs.declared.answer.Refused.{Refused}
 use Rattle.deck.specs.declared.state.State.{State as Reader}
 use Rattle.deck.specs.Records.{known_in, told_of}
 use Rattle.ontology.specs.Loads as Loads

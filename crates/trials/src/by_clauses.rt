@@ -31,10 +31,7 @@ fn tested(
     ensures { (I : Interpretation) (roles : ℕ) (l : List Clause) → Clausal I roles size count l state.now (words clauses.now) (words atoms.now) (words store.now) (words scratch.old) → said_in (words scratch.new) result ≡ unless_denied (clauses_verdict I l) (any wide_clause l) }
 {
     if vars::wide(clauses, atoms, count) {
-        return Err(Refused {
-            refusal: Refusal::WideClause,
-            line: 0,
-        });
+        return Err(Refused::from(Refusal::WideClause));
     }
     Ok(verdict::clauses_verdict(state, clauses, atoms, store, scratch, count, size))
 }

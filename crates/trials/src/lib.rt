@@ -1,6 +1,8 @@
 // The test of a state: try_axioms and try_clauses. Neither asks anything of what it is lent. Each contract gives the reply, and every
 // byte of every table at exit, as a function of the deck's bytes, the state's bytes and the tables' lengths alone, and says what the
 // clauses in these bytes mean, and what the other test will say.
+// The tables are slices each by itself: so the C interface lends them. The two entries and the two of `tell` stand side by side: the
+// judge as a closure would have a contract of its own, and each would still be what it is, its promises and one call.
 #![tactic(auto)]
 
 mod by_axioms;

@@ -28,7 +28,7 @@ pub fn limits(deck: &[u8], scratch: &mut [u8], fresh: u32) -> Limits
     }
 }
 
-// Refusal 13, at the state's line.
+// Refusal 13, at the state's line. No From: neither type is of this crate.
 pub fn bad_state(bad: BadLine) -> Refused
     ensures { result ≡ record { refusal = BadState; line = bad.line } }
 {

@@ -1,6 +1,6 @@
 use mathlib.Core.Path.{◌≡◌, refl, ◌∙◌}
 use mathlib.Core.List.{List}
-use Prim.Native.Nat.{ℕ, ◌+◌, ◌-◌, ◌≤◌}
+use Prim.Native.Nat.{ℕ, ◌+◌, ◌-◌, ◌%◌, ◌≤◌}
 use native.Mathlib.Omega.{arith}
 use lib.ListN.{length, replicate}
 use lib.Seq.{sets}
@@ -15,19 +15,17 @@ spaced s ys at h e =
     let f : ys ≡ spaces 11 = e ∙ rw (mid_len at (at + 11) s h, k) refl in
     rw f (back_part at (at + 11) s (spaces 11) (omega arith) h (omega arith))
 
-pub loop-rest-init : goal.loop-rest-init
-loop-rest-init c =
+pub loop-j-init : goal.loop-j-init
+loop-j-init c =
     let a = c.args in
-    (written_none a.out.now a.at a.number _ c.ranges.number.fits (spaced a.out.now c.fill.new.self a.at c.requires (c.fill.ensures.after (λ y h. h))), omega arith, omega arith)
+    written_none a.out.now a.at a.number _ c.ranges.number.fits (spaced a.out.now c.fill.new.self a.at c.requires (c.fill.ensures.after (λ y h. h)))
 
-pub loop-rest-preserved : goal.loop-rest-preserved
-loop-rest-preserved c =
-    let l = c.loop-rest in
-    let w = written_more _ c.args.at c.args.number l.rest l.j l.out l.invariant.0 c.loop-rest-test.true in
-    (w, w.number.some, omega arith)
+pub loop-j-preserved : goal.loop-j-preserved
+loop-j-preserved c = let l = c.loop-j in written_more _ c.args.at c.args.number l.rest (l.j - 1) l.out l.invariant (omega (arith, c.if-rest-eq0.false))
 
-pub returns : goal.returns
-returns c =
-    let l = c.loop-rest in
+pub returns-then-rest-eq0 : goal.returns-then-rest-eq0
+returns-then-rest-eq0 c =
+    let l = c.loop-j in
     let a = c.args in
-    written_end a.out.now a.at a.number l.rest l.j _ l.out (spaced a.out.now c.fill.new.self a.at c.requires (c.fill.ensures.after (λ y h. h))) l.invariant.0 (omega arith)
+    let e : l.rest % 10 ≡ l.rest = omega (arith, c.if-rest-eq0.true) in
+    rw e (written_end a.out.now a.at a.number l.rest (l.j - 1) _ l.out (spaced a.out.now c.fill.new.self a.at c.requires (c.fill.ensures.after (λ y h. h))) l.invariant (omega (arith, c.if-rest-eq0.true)))

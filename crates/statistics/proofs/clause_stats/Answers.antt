@@ -7,7 +7,10 @@ use Rattle.statistics.specs.CountLaws.{within_more, counted_start, counted_withi
 use Rattle.statistics.proofs.clause_stats.Goals as goal
 
 pub loop-i-init : goal.loop-i-init
-loop-i-init c = let a = c.args in counted_start (words a.clauses.now) (words a.atoms.now) a.n a.deferred a.decomposed _ refl
+loop-i-init c =
+    let a = c.args in
+    let d = c.default.ensures in
+    counted_start (words a.clauses.now) (words a.atoms.now) a.n a.deferred a.decomposed _ (rw (d.0, d.1.0, d.1.1.0, d.1.1.1.0, d.1.1.1.1.0, d.1.1.1.1.1.1.1) refl)
 
 pub body_of-body-requires : goal.body_of-body-requires
 body_of-body-requires c = let a = c.args in there_at (words a.clauses.now) (words a.atoms.now) a.n c.requires.0 c.loop-i.i c.loop-i-test.true

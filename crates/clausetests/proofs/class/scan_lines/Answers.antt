@@ -1,4 +1,4 @@
-use mathlib.Core.Path.{sym, ap, ◌∙◌}
+use mathlib.Core.Path.{refl, sym, ap, ◌∙◌}
 use Prim.Native.Nat.{suc}
 use native.Mathlib.Omega.{arith}
 use lib.ListN.{length, drop}
@@ -9,32 +9,31 @@ use Rattle.clausetests.proofs.class.scan_lines.Goals as goal
 pub loop-p-init : goal.loop-p-init
 loop-p-init c = let a = c.args in left_first a.text.now a.c a.from c.requires.0
 
-pub returns-then-n-eq0 : goal.returns-then-n-eq0
-returns-then-n-eq0 c =
+pub returns-in_default : goal.returns-in_default
+returns-in_default c =
     let a = c.args in
     let L = c.loop-p in
-    let R = c.fields-n in
-    set_none a.size ∙ ap (set_of a.size) (sym (left_broken a.text.now a.c L.p (scan_by (suc (length (drop a.from a.text.now))) (drop a.from a.text.now) a.c) L.invariant R.result c.loop-p-test.true R.ensures.result_value c.if-n-eq0.true))
+    set_none a.size ∙ ap (set_of a.size) (sym (left_broken a.text.now a.c L.p (scan_by (suc (length (drop a.from a.text.now))) (drop a.from a.text.now) a.c) L.invariant 0 c.loop-p-test.true c.in_default.ensures.result_value refl))
 
 pub is_line-requires : goal.is_line-requires
-is_line-requires c = omega (arith, c.fields-n.ensures.result_in_bounds)
+is_line-requires c = omega (arith, c.in-Some.ensures.result_in_bounds.1)
 
 pub line_set-requires : goal.line_set-requires
-line_set-requires c = (omega (arith, c.fields-n.ensures.result_in_bounds), c.requires.1)
+line_set-requires c = (omega (arith, c.in-Some.ensures.result_in_bounds.1), c.requires.1)
 
 pub returns-then-is_line : goal.returns-then-is_line
 returns-then-is_line c =
     let a = c.args in
     let L = c.loop-p in
-    let R = c.fields-n in
-    c.line_set.ensures ∙ ap (set_of a.size) (sym (left_found a.text.now a.c L.p (scan_by (suc (length (drop a.from a.text.now))) (drop a.from a.text.now) a.c) L.invariant R.result c.loop-p-test.true R.ensures.result_value c.if-n-eq0.false (sym c.is_line.ensures ∙ c.if-is_line.true)))
+    let R = c.in-Some in
+    c.line_set.ensures ∙ ap (set_of a.size) (sym (left_found a.text.now a.c L.p (scan_by (suc (length (drop a.from a.text.now))) (drop a.from a.text.now) a.c) L.invariant R.n c.loop-p-test.true R.ensures.result_value (λ z. absurd (omega (arith, z, R.ensures.result_in_bounds.0))) (sym c.is_line.ensures ∙ c.if-is_line.true)))
 
 pub loop-p-preserved : goal.loop-p-preserved
 loop-p-preserved c =
     let a = c.args in
     let L = c.loop-p in
-    let R = c.fields-n in
-    left_next a.text.now a.c L.p (scan_by (suc (length (drop a.from a.text.now))) (drop a.from a.text.now) a.c) L.invariant R.result c.loop-p-test.true R.ensures.result_value c.if-n-eq0.false R.ensures.result_in_bounds (sym c.is_line.ensures ∙ c.if-is_line.false)
+    let R = c.in-Some in
+    left_next a.text.now a.c L.p (scan_by (suc (length (drop a.from a.text.now))) (drop a.from a.text.now) a.c) L.invariant R.n c.loop-p-test.true R.ensures.result_value (λ z. absurd (omega (arith, z, R.ensures.result_in_bounds.0))) R.ensures.result_in_bounds.1 (sym c.is_line.ensures ∙ c.if-is_line.false)
 
 pub returns : goal.returns
 returns c =

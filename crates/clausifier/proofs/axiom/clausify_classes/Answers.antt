@@ -9,38 +9,38 @@ use Rattle.clausifier.proofs.axiom.clausify_classes.Goals as goal
 
 pub clausify_gci-requires : goal.clausify_gci-requires
 clausify_gci-requires c =
-    let q = gci_asks (words c.args.scratch.now) c.args.lent.now.counters c.args.kind c.args.at c.args.count c.requires.1 c.in-21.is c.get_word-a.result c.get_word-b.result c.get_word-a.ensures c.get_word-b.ensures in
+    let q = gci_asks (words c.args.scratch.now) c.args.lent.now.counters c.args.line.kind c.args.line.at c.args.line.count c.requires.1 c.in-21.is c.get_word-a.result c.get_word-b.result c.get_word-a.ensures c.get_word-b.ensures in
     (c.requires.0, q.0, q.1)
 
-pub overflow_sub-count : goal.overflow_sub-count
-overflow_sub-count c =
-    omega (arith, equivalent_fits (words c.args.scratch.now) c.args.lent.now.counters c.args.kind c.args.at c.args.count c.requires.1 c.in-22.is)
+pub overflow_sub-line : goal.overflow_sub-line
+overflow_sub-line c =
+    omega (arith, equivalent_fits (words c.args.scratch.now) c.args.lent.now.counters c.args.line.kind c.args.line.at c.args.line.count c.requires.1 c.in-22.is)
 
 pub equivalent-requires : goal.equivalent-requires
 equivalent-requires c =
-    (c.requires.0, equivalent_asks (words c.args.scratch.now) c.args.lent.now.counters c.args.kind c.args.at c.args.count c.requires.1 c.in-22.is)
+    (c.requires.0, equivalent_asks (words c.args.scratch.now) c.args.lent.now.counters c.args.line.kind c.args.line.at c.args.line.count c.requires.1 c.in-22.is)
 
-pub overflow_sub-count-in-23 : goal.overflow_sub-count-in-23
-overflow_sub-count-in-23 c =
-    omega (arith, disjoint_fits (words c.args.scratch.now) c.args.lent.now.counters c.args.kind c.args.at c.args.count c.requires.1 c.in-23.is)
+pub overflow_sub-line-in-23 : goal.overflow_sub-line-in-23
+overflow_sub-line-in-23 c =
+    omega (arith, disjoint_fits (words c.args.scratch.now) c.args.lent.now.counters c.args.line.kind c.args.line.at c.args.line.count c.requires.1 c.in-23.is)
 
 pub disjoint-requires : goal.disjoint-requires
 disjoint-requires c =
-    (c.requires.0, disjoint_asks (words c.args.scratch.now) c.args.lent.now.counters c.args.kind c.args.at c.args.count c.requires.1 c.in-23.is)
+    (c.requires.0, disjoint_asks (words c.args.scratch.now) c.args.lent.now.counters c.args.line.kind c.args.line.at c.args.line.count c.requires.1 c.in-23.is)
 
-pub overflow_sub-count-in-24 : goal.overflow_sub-count-in-24
-overflow_sub-count-in-24 c =
-    omega (arith, union_fits (words c.args.scratch.now) c.args.lent.now.counters c.args.kind c.args.at c.args.count c.requires.1 c.in-24.is c.get_word-a.result c.get_word-a.ensures)
+pub overflow_sub-line-in-24 : goal.overflow_sub-line-in-24
+overflow_sub-line-in-24 c =
+    omega (arith, union_fits (words c.args.scratch.now) c.args.lent.now.counters c.args.line.kind c.args.line.at c.args.line.count c.requires.1 c.in-24.is c.get_word-a.result c.get_word-a.ensures)
 
 pub union-requires : goal.union-requires
 union-requires c =
-    let q = union_asks (words c.args.scratch.now) c.args.lent.now.counters c.args.kind c.args.at c.args.count c.requires.1 c.in-24.is c.get_word-a.result c.get_word-a.ensures in
+    let q = union_asks (words c.args.scratch.now) c.args.lent.now.counters c.args.line.kind c.args.line.at c.args.line.count c.requires.1 c.in-24.is c.get_word-a.result c.get_word-a.ensures in
     (c.requires.0, q.0, q.1)
 
 pub domain_or_range-requires : goal.domain_or_range-requires
 domain_or_range-requires c =
     let m = c.in_default.in_default-own.rest in
-    let q = domain_asks (words c.args.scratch.now) c.args.lent.now.counters c.args.kind c.args.at c.args.count c.requires.1 c.requires.2 m.0.0.0.1 m.0.0.1 m.0.1 m.1 c.get_word-a.result c.get_word-c.result c.get_word-a.ensures c.get_word-c.ensures in
+    let q = domain_asks (words c.args.scratch.now) c.args.lent.now.counters c.args.line.kind c.args.line.at c.args.line.count c.requires.1 c.requires.2 m.0.0.0.1 m.0.0.1 m.0.1 m.1 c.get_word-a.result c.get_word-c.result c.get_word-a.ensures c.get_word-c.ensures in
     (c.requires.0.encoding.reading, c.requires.0.good, q.0, q.1, c.requires.0.queue)
 
 pub returns-in-21 : goal.returns-in-21
@@ -48,7 +48,7 @@ returns-in-21 c =
     let r = c.clausify_gci in
     record {
       references = r.ensures.references;
-      fact = gci_arm (words c.args.scratch.now) c.args.lent.now.counters c.args.kind c.args.at c.args.count c.requires.1 c.in-21.is c.get_word-a.result c.get_word-b.result c.get_word-a.ensures c.get_word-b.ensures _ _ _ r.ensures.clausified;
+      fact = gci_arm (words c.args.scratch.now) c.args.lent.now.counters c.args.line.kind c.args.line.at c.args.line.count c.requires.1 c.in-21.is c.get_word-a.result c.get_word-b.result c.get_word-a.ensures c.get_word-b.ensures _ _ _ r.ensures.clausified;
       clausifying_after = r.ensures.clausifying_after;
     }
 
@@ -57,7 +57,7 @@ returns-in-22 c =
     let r = c.equivalent in
     record {
       references = r.ensures.references;
-      fact = equivalent_arm (words c.args.scratch.now) c.args.lent.now.counters c.args.kind c.args.at c.args.count c.requires.1 c.in-22.is _ _ _ r.ensures.clausified;
+      fact = equivalent_arm (words c.args.scratch.now) c.args.lent.now.counters c.args.line.kind c.args.line.at c.args.line.count c.requires.1 c.in-22.is _ _ _ r.ensures.clausified;
       clausifying_after = r.ensures.clausifying_after;
     }
 
@@ -66,7 +66,7 @@ returns-in-23 c =
     let r = c.disjoint in
     record {
       references = r.ensures.references;
-      fact = disjoint_arm (words c.args.scratch.now) c.args.lent.now.counters c.args.kind c.args.at c.args.count c.requires.1 c.in-23.is _ _ _ r.ensures.fact;
+      fact = disjoint_arm (words c.args.scratch.now) c.args.lent.now.counters c.args.line.kind c.args.line.at c.args.line.count c.requires.1 c.in-23.is _ _ _ r.ensures.fact;
       clausifying_after = r.ensures.clausifying_after;
     }
 
@@ -75,7 +75,7 @@ returns-in-24 c =
     let r = c.union in
     record {
       references = r.ensures.references;
-      fact = union_arm (words c.args.scratch.now) c.args.lent.now.counters c.args.kind c.args.at c.args.count c.requires.1 c.in-24.is c.get_word-a.result c.get_word-a.ensures _ _ _ r.ensures.fact;
+      fact = union_arm (words c.args.scratch.now) c.args.lent.now.counters c.args.line.kind c.args.line.at c.args.line.count c.requires.1 c.in-24.is c.get_word-a.result c.get_word-a.ensures _ _ _ r.ensures.fact;
       clausifying_after = r.ensures.clausifying_after;
     }
 
@@ -85,6 +85,6 @@ returns-in_default c =
     let r = c.domain_or_range in
     let D = r.ensures.did.0 in record {
       references = r.ensures.references;
-      fact = domain_arm (words c.args.scratch.now) c.args.lent.now.counters c.args.kind c.args.at c.args.count c.requires.1 c.requires.2 m.0.0.0.1 m.0.0.1 m.0.1 m.1 c.get_word-a.result c.get_word-c.result c.get_word-a.ensures c.get_word-c.ensures (eqb c.args.kind 26) refl _ _ (done r.new.lent.counters r.result) c.requires.0.encoding.reading.ready.held r.ensures.did;
+      fact = domain_arm (words c.args.scratch.now) c.args.lent.now.counters c.args.line.kind c.args.line.at c.args.line.count c.requires.1 c.requires.2 m.0.0.0.1 m.0.0.1 m.0.1 m.1 c.get_word-a.result c.get_word-c.result c.get_word-a.ensures c.get_word-c.ensures (eqb c.args.line.kind 26) refl _ _ (done r.new.lent.counters r.result) c.requires.0.encoding.reading.ready.held r.ensures.did;
       clausifying_after = clausifying_after c.args.scratch.now _ c.args.lent.now.counters (done r.new.lent.counters r.result) c.requires.0 r.auto.scratch D.frame D.good D.kept;
     }

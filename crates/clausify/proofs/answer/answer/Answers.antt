@@ -13,7 +13,7 @@ settled-requires c =
     let b = c.blank in
     let lengths = same_lent a.clauses.now a.atoms.now a.deferrals.now a.scratch.now b.new.clauses b.new.atoms b.new.deferrals b.auto.clauses b.auto.atoms b.auto.deferrals in
     let e = b.ensures in (
-      ap sizes_ok lengths ∙ sym c.requires ∙ c.if-fit.true,
+      ap sizes_ok lengths ∙ sym c.sizes_ok-fit.ensures ∙ c.if-fit.true,
       record {
         clauses = e.clauses_after ∙ ap (λ (n : ℕ). replicate n 0) (sym b.auto.clauses);
         atoms = e.atoms_after ∙ ap (λ (n : ℕ). replicate n 0) (sym b.auto.atoms);
@@ -36,4 +36,4 @@ returns-else-fit c =
     let t = lent a.clauses.now a.atoms.now a.deferrals.now a.scratch.now in
     let b = c.blank in
     let e = b.ensures in
-    answered_unsized a.deck.now t b.new.clauses b.new.atoms b.new.deferrals (sym c.if-fit.false ∙ c.requires) e.clauses_after e.atoms_after e.deferrals_after
+    answered_unsized a.deck.now t b.new.clauses b.new.atoms b.new.deferrals (sym c.if-fit.false ∙ c.sizes_ok-fit.ensures) e.clauses_after e.atoms_after e.deferrals_after

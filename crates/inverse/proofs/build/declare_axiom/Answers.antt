@@ -3,13 +3,13 @@ use native.Mathlib.Omega.{arith}
 use Rattle.inverse.specs.AxiomLaws.{axiom_idle, first_small, second_small, axiom_entry}
 use Rattle.inverse.proofs.build.declare_axiom.Goals as goal
 
-pub returns-then-number-ne32-clause-mapped : goal.returns-then-number-ne32-clause-mapped
-returns-then-number-ne32-clause-mapped c = axiom_idle c.args.scratch.now _ _ c.requires.0 c.requires.1 _ c.number.ensures c.if-number-ne32.true
+pub returns-then-number-ne-INVERSE-clause-mapped : goal.returns-then-number-ne-INVERSE-clause-mapped
+returns-then-number-ne-INVERSE-clause-mapped c = axiom_idle c.args.scratch.now _ _ c.requires.0 c.requires.1 _ c.number.ensures c.if-number-ne-INVERSE.true
 
 pub declare-requires : goal.declare-requires
 declare-requires c =
-    let k = sym c.number.ensures ∙ c.if-number-ne32.false in
+    let k = sym c.number.ensures ∙ c.if-number-ne-INVERSE.false in
     (first_small c.args.scratch.now _ _ c.requires.0 c.requires.1 k _ c.number-r.ensures, second_small c.args.scratch.now _ _ c.requires.0 c.requires.1 k _ c.number-s.ensures, omega (arith, c.requires.0.space))
 
 pub returns-clause-mapped : goal.returns-clause-mapped
-returns-clause-mapped c = axiom_entry c.args.scratch.now _ _ c.requires.0 c.requires.1 (sym c.number.ensures ∙ c.if-number-ne32.false) _ _ _ c.number-r.ensures c.number-s.ensures c.declare.ensures.mapped
+returns-clause-mapped c = axiom_entry c.args.scratch.now _ _ c.requires.0 c.requires.1 (sym c.number.ensures ∙ c.if-number-ne-INVERSE.false) _ _ _ c.number-r.ensures c.number-s.ensures c.declare.ensures.mapped

@@ -1,4 +1,3 @@
-use Prim.Native.Nat.{◌-◌, ◌≤◌}
 use Rattle.words.specs.Words.{words}
 use Rattle.ontology.specs.Layout.{axioms_of}
 use Rattle.rows.specs.RowLaws.{Left}

@@ -1,4 +1,3 @@
-use Prim.Native.Nat.{◌-◌, ◌≤◌}
 use Rattle.words.specs.Words.{words}
 use Rattle.pool.specs.Layout.{pool_of}
 use Rattle.rows.specs.RowLaws.{Left}

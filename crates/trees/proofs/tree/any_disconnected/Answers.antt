@@ -1,23 +1,23 @@
-use borrow.Author.Tests.{not-true, not-false}
-use mathlib.Core.Path.{sym, ◌∙◌}
+use mathlib.Core.Bool.{Bool}
+use mathlib.Core.Path.{refl}
+use Prim.Native.Nat.{ℕ}
+use native.Mathlib.Omega.{arith}
+use borrow.Author.Tests.{tests}
+use Rattle.std.proofs.Common.{rules}
+use Rattle.std.proofs.lemmas.Iterator.{YieldsList-from_range, cases_from_any}
 use Rattle.words.specs.Words.{words}
-use Rattle.trees.specs.TreeLaws.{loose_found, loose_placed, loose_other, loose_end}
+use Rattle.branches.specs.RangeLaws.{Passes, Fails, any_answered}
+use Rattle.trees.specs.TreeLaws.{loose, loose_found, loose_on, loose_back, loose_end}
 use Rattle.trees.proofs.tree.any_disconnected.Goals as goal
-use Rattle.trees.proofs.tree.any_disconnected.Goals.{else-kind-eq-ROLE-via-then-kind-eq-ROLE+else-not-placed-j, else-kind-eq-ROLE-via-else-kind-eq-ROLE}
-
-pub returns-then-not-placed-j : goal.returns-then-not-placed-j
-returns-then-not-placed-j c =
-    let L = c.loop-j in
-    loose_found (words c.args.scratch.now) c.args.placed.now c.args.atoms.base c.args.atoms.count L.j L.invariant c.loop-j-test.true c.requires.1 (sym c.kind.ensures ∙ c.if-kind-eq-ROLE.true) (not-true _ c.if-not-placed-j.true-raw)
-
-pub loop-j-preserved : goal.loop-j-preserved
-loop-j-preserved c =
-    let L = c.loop-j in
-    let h = c.loop-j-test.true in
-    elim c.else-kind-eq-ROLE.branch [
-      | else-kind-eq-ROLE-via-then-kind-eq-ROLE+else-not-placed-j k ↦ loose_placed (words c.args.scratch.now) c.args.placed.now c.args.atoms.base c.args.atoms.count L.j L.invariant h c.requires.1 (not-false _ k.if-not-placed-j.false-raw)
-      | else-kind-eq-ROLE-via-else-kind-eq-ROLE k ↦ loose_other (words c.args.scratch.now) c.args.placed.now c.args.atoms.base c.args.atoms.count L.j L.invariant h c.requires.1 (λ e. k.if-kind-eq-ROLE.false (c.kind.ensures ∙ e))
-    ]
 
 pub returns : goal.returns
-returns c = let L = c.loop-j in loose_end (words c.args.scratch.now) c.args.placed.now c.args.atoms.base c.args.atoms.count L.j L.invariant c.loop-j-test.false
+returns c =
+    let a = c.args in
+    let w = words a.scratch.now in
+    let n = a.atoms.count in
+    λ l A.
+        let f : ℕ → Bool = loose w a.placed.now a.atoms.base n c.requires.1 l A in
+        any_answered f n (loose_back w a.placed.now a.atoms.base n c.requires.1 l A) (loose_end w a.placed.now a.atoms.base n c.requires.1 l A) c.any.result
+        (cases_from_any _ _ c.any.result (Passes f n) (Fails f n) c.any.ensures.ran (YieldsList-from_range 0 n n refl (omega arith))
+            (λ x q k h. loose_found w a.placed.now a.atoms.base n c.requires.1 l A x h (search (rules, tests)))
+            (λ x q k. (search (rules, tests), λ h. loose_on w a.placed.now a.atoms.base n c.requires.1 l A x h (search (rules, tests)))))
