@@ -94,6 +94,7 @@ fn repeats(row: &Row, t: &[u8], kind: usize, concepts: usize) -> bool
     requires { IsConceptLine row.now kind × ConceptsHeld row.now.deck.now t.now concepts }
     ensures { result ≡ any (same_concept (concept_of kind (numbers row.now))) (concepts_in row.now.deck.now (words t.now) concepts) }
 {
+    // along a chain of links, for which there is no range
     let mut next = table::head(t, row.hash());
     while let Some(i) = next {
         if row.same_numbers(&concept_row(row.deck, t, concepts, i)) {

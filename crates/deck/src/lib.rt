@@ -58,6 +58,7 @@ fn read_lines(deck: &[u8], t: &mut [u8]) -> Result<State, Refused>
     let mut st = State::default();
     let mut begin: usize = 0;
     let mut line: u32 = 1;
+    // a line says how long it is, so that no range gives the lines
     while begin < deck.len() {
         let Some(fields) = text::fields(deck, begin) else {
             return Err(Refused {
@@ -84,10 +85,7 @@ pub fn read(deck: &[u8], t: &mut [u8]) -> Result<State, Refused>
     ensures kept { Kept deck.now t.new result }
 {
     if 65536 < deck.len() {
-        return Err(Refused {
-            refusal: Refusal::BadColumns,
-            line: 0,
-        });
+        return Err(Refused::from(Refusal::BadColumns));
     }
     words::clear_words(t, 5120, 1024);
     read_lines(deck, t)

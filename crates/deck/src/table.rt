@@ -41,6 +41,7 @@ pub fn concept_line(t: &[u8], i: usize) -> Line
     line(t, 3 * i)
 }
 
+// One word of a record, by its own name.
 pub fn concept_depth(t: &[u8], i: usize) -> usize
     requires { 12 * i + 12 ≤ length t.now }
     ensures { result ≡ get_or (words t.now) (3 * i + 2) 0 }

@@ -76,6 +76,7 @@ pub fn find(scratch: &[u8], k: Counters, x: Record, at: usize) -> Option<u32>
     requires { Ready scratch.now k × Asked scratch.now x at }
     ensures { found_of result ≡ find (concept_over (words scratch.now) at x) (pool_of (words scratch.now) k.concepts) }
 {
+    // along a chain of links, for which there is no range
     let mut next = record::head(scratch, hash(scratch, x, at));
     while let Some(c) = next {
         if same(scratch, k, c, x, at) {

@@ -63,6 +63,7 @@ fn word(scratch: &[u8], c: u32, j: usize) -> u32
     words::get_word(scratch, i)
 }
 
+// Each word of a record has its own function, by the name of the field.
 pub fn kind(scratch: &[u8], c: u32) -> u32
     requires { (c < most_concepts) × (pool_bytes ≤ length scratch.now) }
     ensures { result ≡ field (words scratch.now) c 0 }

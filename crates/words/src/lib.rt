@@ -30,7 +30,8 @@ pub fn clear(s: &mut [u8])
     s.fill(0);
 }
 
-// Zeros in n words from word `at` on.
+// Zeros in n words from word `at` on. This and the two below tell the part of a table in words: a slice of its bytes would be made by each
+// caller of the same numbers times four.
 pub fn clear_words(s: &mut [u8], at: usize, n: usize)
     requires { 4 * (at + n) ≤ length s.old }
     ensures { words s.new ≡ sets (words s.old) at (replicate n 0) }
