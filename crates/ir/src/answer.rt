@@ -19,7 +19,7 @@ pub struct Refused {
 
 // About no one line.
 impl From<Refusal> for Refused {
-    ghost from_gives = { λ refusal e. (e.refusal ≡ refusal) × (e.line ≡ 0) };
+    ghost from_gives = { λ refusal e. e ≡ record { refusal = refusal; line = 0 } };
 
     fn from(refusal: Refusal) -> Refused {
         Refused { refusal, line: 0 }

@@ -7,7 +7,7 @@ use Rattle.deck.proofs.read.Goals as goal
 
 pub returns-then-deck-gt65536 : goal.returns-then-deck-gt65536
 unfolding read_deck
-returns-then-deck-gt65536 c = record { result_after = rw (lt-ltb _ _ c.if-deck-gt65536.true) refl; kept = tt }
+returns-then-deck-gt65536 c = record { result_after = rw (lt-ltb _ _ c.if-deck-gt65536.true, c.from.ensures) refl; kept = tt }
 
 pub clear_words-requires : goal.clear_words-requires
 clear_words-requires c = omega (arith, c.requires)
