@@ -1,17 +1,6 @@
 // The cases' decks. Concept i is class i, as far as there are classes; the last class is the consequent.
 ghost use Rattle.std.specs.Prelude.{◌≤◌, length};
 
-// The number behind what is written, where there is room; where it ends.
-fn put(out: &mut [u8], at: usize, number: u32) -> usize {
-    if out.len() < 11 {
-        return at;
-    }
-    if out.len() - 11 < at {
-        return at;
-    }
-    rows::put_field(out, at, number)
-}
-
 fn end(out: &mut [u8], at: usize) -> usize {
     if out.len() <= at {
         return at;
@@ -23,7 +12,7 @@ fn end(out: &mut [u8], at: usize) -> usize {
 pub fn line(out: &mut [u8], at: usize, numbers: &[u32]) -> usize {
     let mut p = at;
     for number in numbers {
-        p = put(out, p, *number);
+        p = rows::put_field_if_room(out, p, *number);
     }
     end(out, p)
 }
@@ -53,9 +42,9 @@ fn lines(out: &mut [u8], at: usize, kind: u32, from: u32, to: u32, b: u32) -> us
 
 // And (7) or Or (8) of the concepts from `from` on, below `to`.
 fn list(out: &mut [u8], at: usize, kind: u32, from: u32, to: u32) -> usize {
-    let mut p = put(out, at, kind);
+    let mut p = rows::put_field_if_room(out, at, kind);
     for i in from..to {
-        p = put(out, p, i);
+        p = rows::put_field_if_room(out, p, i);
     }
     end(out, p)
 }

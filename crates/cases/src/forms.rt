@@ -3,34 +3,26 @@ ghost use Rattle.std.specs.Prelude.{◌≤◌, ◌<◌};
 
 use tables::read;
 
-// Word i, 0 past the end.
-pub fn word(t: &[u8], i: usize) -> u32 {
-    if i < t.len() / 4 {
-        return words::get_word(t, i);
-    }
-    0
-}
-
 // Atom j from atom `first` on is the class of the variable.
 fn is_class(atoms: &[u8], first: u32, j: u32, class: u32, variable: u32) -> bool {
     let at = 6 * (first as usize + j as usize);
-    word(atoms, at) == 1
-        && word(atoms, at + 1) == 0
-        && word(atoms, at + 2) as u64 == class as u64 + 1
-        && word(atoms, at + 3) == 0
-        && word(atoms, at + 4) == variable
-        && word(atoms, at + 5) == 0
+    words::word_or_zero(atoms, at) == 1
+        && words::word_or_zero(atoms, at + 1) == 0
+        && words::word_or_zero(atoms, at + 2) as u64 == class as u64 + 1
+        && words::word_or_zero(atoms, at + 3) == 0
+        && words::word_or_zero(atoms, at + 4) == variable
+        && words::word_or_zero(atoms, at + 5) == 0
 }
 
 // Role 0 from X to the variable.
 fn is_role(atoms: &[u8], first: u32, j: u32, variable: u32) -> bool {
     let at = 6 * (first as usize + j as usize);
-    word(atoms, at) == 2
-        && word(atoms, at + 1) == 0
-        && word(atoms, at + 2) == 0
-        && word(atoms, at + 3) == 0
-        && word(atoms, at + 4) == 0
-        && word(atoms, at + 5) == variable
+    words::word_or_zero(atoms, at) == 2
+        && words::word_or_zero(atoms, at + 1) == 0
+        && words::word_or_zero(atoms, at + 2) == 0
+        && words::word_or_zero(atoms, at + 3) == 0
+        && words::word_or_zero(atoms, at + 4) == 0
+        && words::word_or_zero(atoms, at + 5) == variable
 }
 
 // The role from X to the variable, then the class of the variable.

@@ -19,7 +19,7 @@ ghost use Rattle.std.specs.Prelude.{◌≤◌, length};
 use clausify::numbers::Numbers;
 use std::io;
 
-#[derive(Clone, Copy)]
+#[derive(Clone, Copy, Default)]
 struct Row {
     refused: u32,
     clauses: u32,
@@ -34,13 +34,7 @@ struct Row {
 fn refused(number: u32) -> Row {
     Row {
         refused: number,
-        clauses: 0,
-        due: 0,
-        fresh: 0,
-        deferrals: 0,
-        line: 0,
-        kind: 0,
-        decomposed: 0,
+        ..Row::default()
     }
 }
 
@@ -52,8 +46,8 @@ fn accepted(clauses: &[u8], atoms: &[u8], deferrals: &[u8], case: u32, n: Number
         due: forms::count(clauses, atoms, case, n.stats.total, &mut met),
         fresh: n.fresh_ids,
         deferrals: n.stats.deferred,
-        line: forms::word(deferrals, 0),
-        kind: forms::word(deferrals, 1),
+        line: words::word_or_zero(deferrals, 0),
+        kind: words::word_or_zero(deferrals, 1),
         decomposed: n.stats.decomposed,
     }
 }

@@ -5,22 +5,9 @@ use ir::answer::Refused;
 use std::num;
 use tables::read;
 
-// Word i, 0 past the end.
-fn word(t: &[u8], i: usize) -> u32 {
-    if i < t.len() / 4 {
-        return words::get_word(t, i);
-    }
-    0
-}
-
 // Zeros from word `from` on.
 pub fn is_clear(t: &[u8], from: usize) -> bool {
-    for i in from..t.len() / 4 {
-        if words::get_word(t, i) != 0 {
-            return false;
-        }
-    }
-    true
+    (from..t.len() / 4).all(|i| words::get_word(t, i) == 0)
 }
 
 // Where the next number ends, if it is w.
@@ -94,13 +81,18 @@ fn meet_word(data: &[u8], at: usize, stored: bool, w: u32) -> Option<usize> {
 fn meet_atom(data: &[u8], atoms: &[u8], k: u32, from: usize) -> Option<usize> {
     let x = data::number(data, from);
     let start = 6 * (k as usize);
-    if x.value / 32 != word(atoms, start) {
+    if x.value / 32 != words::word_or_zero(atoms, start) {
         return None;
     }
     let mut at = x.at;
     let mut bits = x.value % 32;
     for j in 1..6 {
-        at = meet_word(data, at, bits % 2 == 1, word(atoms, start + j))?;
+        at = meet_word(
+            data,
+            at,
+            bits % 2 == 1,
+            words::word_or_zero(atoms, start + j),
+        )?;
         bits /= 2;
     }
     Some(at)

@@ -8,20 +8,10 @@ pub struct Stored {
     pub at: usize,
 }
 
-fn wide(b: u8) -> u32
-    ensures { result < 256 }
-{
-    b as u32
-}
-
-// 0 past the end.
 fn byte(data: &[u8], at: usize) -> u32
     ensures { result < 256 }
 {
-    if at < data.len() {
-        return wide(data[at]);
-    }
-    0
+    u32::from(raw(data, at))
 }
 
 pub fn number(data: &[u8], at: usize) -> Stored {
@@ -70,10 +60,7 @@ fn long(data: &[u8], at: usize, low: u32) -> Stored
     }
 }
 
-// As they stand.
+// A byte as it stands; 0 past the end.
 pub fn raw(data: &[u8], at: usize) -> u8 {
-    if at < data.len() {
-        return data[at];
-    }
-    0
+    data.get(at).copied().unwrap_or(0)
 }

@@ -10,17 +10,6 @@ pub struct Place {
     pub end: usize,
 }
 
-// In 11 columns, where there is room.
-fn put(out: &mut [u8], end: usize, number: u32) -> usize {
-    if out.len() < 11 {
-        return end;
-    }
-    if out.len() - 11 < end {
-        return end;
-    }
-    rows::put_field(out, end, number)
-}
-
 fn put_byte(out: &mut [u8], end: usize, b: u8) -> usize {
     if out.len() <= end {
         return end;
@@ -34,7 +23,7 @@ fn put_number(data: &[u8], out: &mut [u8], p: Place) -> Place {
     let x = data::number(data, p.at);
     Place {
         at: x.at,
-        end: put(out, p.end, x.value),
+        end: rows::put_field_if_room(out, p.end, x.value),
     }
 }
 

@@ -15,7 +15,7 @@ mod decks;
 
 use std::{io, num};
 
-#[derive(Clone, Copy)]
+#[derive(Clone, Copy, Default)]
 struct Sums {
     decks: u32,
     accepted: u32,
@@ -82,12 +82,7 @@ fn run_decks(
     deferrals: &mut [u8],
     scratch: &mut [u8],
 ) -> Sums {
-    let mut sums = Sums {
-        decks: 0,
-        accepted: 0,
-        refused: 0,
-        differences: 0,
-    };
+    let mut sums = Sums::default();
     let mut at = from;
     for _ in 0..n {
         if data.len() <= at {

@@ -33,7 +33,18 @@ pub fn put_field(out: &mut [u8], at: usize, number: u32) -> usize
     at + 11
 }
 
-// The same for n words of a table from word `from` on: they are bytes there, and put_line has numbers.
+// The same where there is room for it; where there is none, nothing.
+pub fn put_field_if_room(out: &mut [u8], at: usize, number: u32) -> usize
+    ensures room { at + 11 ≤ length out.old → Put out.old at (field_text number) out.new result }
+    ensures none { length out.old < at + 11 → (out.new ≡ out.old) × (result ≡ at) }
+{
+    if out.len() < 11 || out.len() - 11 < at {
+        return at;
+    }
+    put_field(out, at, number)
+}
+
+// As put_field for n words of a table from word `from` on: they are bytes there, and put_line has numbers.
 pub fn put_words(t: &[u8], from: usize, n: usize, out: &mut [u8], at: usize) -> usize
     requires { (4 * (from + n) ≤ length t.now) × (at + 11 * n ≤ length out.old) }
     ensures { Put out.old at (columns_text (take n (drop from (words t.now)))) out.new result }

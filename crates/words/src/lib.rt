@@ -14,6 +14,13 @@ pub fn get_word(s: &[u8], i: usize) -> u32
     u32::from_le_bytes([s[at], s[at + 1], s[at + 2], s[at + 3]])
 }
 
+// Word i, 0 past the end.
+pub fn word_or_zero(s: &[u8], i: usize) -> u32
+    ensures { result ≡ get_or (words s.now) i 0 }
+{
+    if i < s.len() / 4 { get_word(s, i) } else { 0 }
+}
+
 // Word i becomes w.
 pub fn put_word(s: &mut [u8], i: usize, w: u32)
     requires { 4 * i + 4 ≤ length s.old }
