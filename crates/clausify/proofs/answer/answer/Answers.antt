@@ -36,4 +36,4 @@ returns-else-fit c =
     let t = lent a.clauses.now a.atoms.now a.deferrals.now a.scratch.now in
     let b = c.blank in
     let e = b.ensures in
-    answered_unsized a.deck.now t b.new.clauses b.new.atoms b.new.deferrals (sym c.if-fit.false ∙ c.sizes_ok-fit.ensures) e.clauses_after e.atoms_after e.deferrals_after
+    rw c.from.ensures (answered_unsized a.deck.now t b.new.clauses b.new.atoms b.new.deferrals (sym c.if-fit.false ∙ c.sizes_ok-fit.ensures) e.clauses_after e.atoms_after e.deferrals_after)
