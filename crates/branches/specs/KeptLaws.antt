@@ -1,6 +1,7 @@
 -- Whether atoms mention one of the variables from word m on. Assumes nothing.
-use Rattle.std.specs.Prelude.{Bool, true, false, ◌||◌, ◌≡◌, List, ℕ, ◌+◌, ◌*◌, ◌≤◌, ◌<◌, length, get_or, drop}
-use Rattle.std.proofs.Common.{sym, ap, ◌∙◌, arith}
+use Rattle.std.specs.Prelude.{Bool, true, false, ◌||◌, ◌≡◌, refl, List, [], ◌∷◌, ℕ, zero, suc, ◌+◌, ◌*◌, ◌≤◌, ◌<◌, length, get_or, drop}
+use Rattle.std.proofs.Math.Bool.{or-true}
+use Rattle.std.proofs.Common.{sym, ap, ◌∙◌, arith, drop_of_length-le}
 use Rattle.words.specs.Words.{words}
 use Rattle.ir.specs.Records.{words_of}
 use Rattle.ir.specs.declared.atom.Atom.{Atom}
@@ -10,7 +11,6 @@ use Rattle.rules.specs.Branches.{tree_vars, mentions}
 use Rattle.rules.specs.EachLaws.{each_drop}
 use Rattle.branches.specs.Wide.{AtomsAre}
 use Rattle.branches.specs.Memo.{Tame, TameThere}
-use Rattle.branches.specs.Renumbered.{run}
 use Rattle.branches.specs.AtomsLaws.{WordsAre, atom_at_lem, atoms_long}
 
 -- ---- the variables of a class or role atom
@@ -30,20 +30,19 @@ kind_small w base count i T h =
 pub tame_long : (s : List ℕ) (base count i : ℕ) → TameThere (words s) base count → i < count → 24 * (base + i) + 24 ≤ length s
 tame_long s base count i T h = atoms_long s base count i (record { list = T.list; are = T.are }) h
 
--- ---- the atoms before atom i mention none of the variables
-pub record Asking (m : ℕ) (w : List ℕ) (keep base count i : ℕ) : Type 0 where
-  pub here : i ≤ count
-  pub left : (l : List Atom) → AtomsAre w base count l → mentions (run w m keep) l ≡ mentions (run w m keep) (drop i l)
+-- ---- from atom i on
+module _ (kept : List ℕ) where
+  pub mentions_back : (l : List Atom) (i : ℕ) → mentions kept (drop i l) ≡ true → mentions kept l ≡ true
+  mentions_back [] zero e = e
+  mentions_back [] (suc i) e = e
+  mentions_back (a ∷ l) zero e = e
+  mentions_back (a ∷ l) (suc i) e = rw (mentions_back l i e) (or-true (any (contains kept) (tree_vars a)))
 
-module _ (m : ℕ) (w : List ℕ) (keep base count i : ℕ) (Q : Asking m w keep base count i) where
-  module _ (h : i < count) (r : Bool) (R : (a : Atom) → WordsAre w (6 * (base + i)) a → r ≡ any (contains (run w m keep)) (tree_vars a)) where
-    first_is : (l : List Atom) → AtomsAre w base count l → mentions (run w m keep) l ≡ (r || mentions (run w m keep) (drop (i + 1) l))
-    first_is l A =
+  module _ (w : List ℕ) (base count : ℕ) (l : List Atom) (A : AtomsAre w base count l) where
+    pub mentions_from : (i : ℕ) → i < count → (r : Bool) → ((a : Atom) → WordsAre w (6 * (base + i)) a → r ≡ any (contains kept) (tree_vars a)) → mentions kept (drop i l) ≡ (r || mentions kept (drop (i + 1) l))
+    mentions_from i h r R =
         let N = atom_at_lem w base count i l A h in
-        Q.left l A ∙ ap (mentions (run w m keep)) N.split ∙ ap (λ (b : Bool). b || mentions (run w m keep) (drop (i + 1) l)) (sym (R N.atom N.words))
+        ap (mentions kept) N.split ∙ ap (λ (b : Bool). b || mentions kept (drop (i + 1) l)) (sym (R N.atom N.words))
 
-    pub asking_found : r ≡ true → (l : List Atom) (kept : List ℕ) → AtomsAre w base count l → run w m keep ≡ kept → true ≡ mentions kept l
-    asking_found e l kept A k = sym (ap (λ (t : List ℕ). mentions t l) (sym k) ∙ first_is l A ∙ ap (λ (b : Bool). b || mentions (run w m keep) (drop (i + 1) l)) e)
-
-    pub asking_on : r ≡ false → Asking m w keep base count (i + 1)
-    asking_on e = record { here = omega arith; left = λ l A. first_is l A ∙ ap (λ (b : Bool). b || mentions (run w m keep) (drop (i + 1) l)) e }
+    pub mentions_end : mentions kept (drop count l) ≡ false
+    mentions_end = let z = drop_of_length-le l {i = count} (omega (arith, A.long)) in rw z refl

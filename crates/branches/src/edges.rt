@@ -42,12 +42,8 @@ pub fn mentions_kept(scratch: &[u8], atoms: Atoms, keep: u32) -> bool
     requires { TameThere (words scratch.now) atoms.base atoms.count × (keep ≤ 512) × (4 * work_words ≤ length scratch.now) }
     ensures { (l : List Atom) (kept : List ℕ) → AtomsAre (words scratch.now) atoms.base atoms.count l → KeepIs (words scratch.now) keep kept → result ≡ mentions kept l }
 {
-    for i in 0..atoms.count as usize {
-        if any_var(scratch, atoms.base + i, |v| is_kept(scratch, keep, v)) {
-            return true;
-        }
-    }
-    false
+    (0..atoms.count as usize)
+        .any(|i| any_var(scratch, atoms.base + i, |v| is_kept(scratch, keep, v)))
 }
 
 // Atom i is R(root, t).

@@ -25,12 +25,7 @@ use tables::read;
 fn is_plain(body: &[u8]) -> bool
     ensures { (l : List Atom) → Run body.now l → result ≡ not (any (λ a. not (is_tree_atom a)) l) }
 {
-    for i in 0..read::atom_room(body) {
-        if ROLE < atom::kind(body, i) {
-            return false;
-        }
-    }
-    true
+    (0..read::atom_room(body)).all(|i| atom::kind(body, i) <= ROLE)
 }
 
 // v among the n variables to keep, but for X; how many they are then.

@@ -1,20 +1,40 @@
+use mathlib.Core.Bool.{Bool, true, false}
+use mathlib.Core.List.{List}
+use mathlib.Core.Path.{◌≡◌, refl, sym, ap, ◌∙◌}
+use Prim.Native.Nat.{ℕ, ◌+◌, ◌*◌, ◌<◌}
+use lib.ListN.{drop}
 use native.Mathlib.Omega.{arith}
+use borrow.Author.Tests.{tests}
 use Rattle.std.proofs.Common.{rules}
+use Rattle.std.proofs.lemmas.Iterator.{YieldsList-from_range, cases_from_any, serves_from_Range}
 use Rattle.words.specs.Words.{words}
 use Rattle.rules.specs.Base.{contains}
+use Rattle.rules.specs.Branches.{mentions}
 use Rattle.branches.specs.Layout.{keep_at}
 use Rattle.branches.specs.Renumbered.{run}
-use Rattle.branches.specs.KeptLaws.{kind_small, tame_long, asking_found, asking_on}
+use Rattle.branches.specs.RangeLaws.{Passes, Fails, any_answered}
+use Rattle.branches.specs.KeptLaws.{kind_small, tame_long, mentions_back, mentions_from, mentions_end}
 use Rattle.branches.proofs.edges.mentions_kept.Goals as goal
 
-pub overflow_add-atoms : goal.overflow_add-atoms
-overflow_add-atoms c = omega (arith, tame_long c.args.scratch.now c.args.atoms.base c.args.atoms.count c.loop-i.i c.requires.0 c.loop-i-test.true, c.well_formed.0)
+pub any-requires-clause-callable : goal.any-requires-clause-callable
+any-requires-clause-callable c =
+    let a = c.args in
+    let s = a.scratch.now in
+    serves_from_Range (λ x q k. search (rules, tests)) (λ x lo hi.
+        let long = tame_long s a.atoms.base a.atoms.count x c.requires.0 hi in
+        let small = kind_small (words s) a.atoms.base a.atoms.count x c.requires.0 hi in
+        search (rules, long, small))
 
-pub any_var-requires-clause-there : goal.any_var-requires-clause-there
-any_var-requires-clause-there c = let i = c.loop-i.i in let h = c.loop-i-test.true in (tame_long c.args.scratch.now c.args.atoms.base c.args.atoms.count i c.requires.0 h, kind_small (words c.args.scratch.now) c.args.atoms.base c.args.atoms.count i c.requires.0 h)
-
-pub returns-then-any_var : goal.returns-then-any_var
-returns-then-any_var c = let L = c.loop-i in let r = c.any_var in λ l kept D K. asking_found keep_at (words c.args.scratch.now) c.args.keep c.args.atoms.base c.args.atoms.count L.i L.invariant c.loop-i-test.true r.result (λ a W. r.ensures (contains (run (words c.args.scratch.now) keep_at c.args.keep)) a (λ x b P. search rules) W) c.if-any_var.true l kept D K.are
-
-pub loop-i-preserved : goal.loop-i-preserved
-loop-i-preserved c = let L = c.loop-i in let r = c.any_var in asking_on keep_at (words c.args.scratch.now) c.args.keep c.args.atoms.base c.args.atoms.count L.i L.invariant c.loop-i-test.true r.result (λ a W. r.ensures (contains (run (words c.args.scratch.now) keep_at c.args.keep)) a (λ x b P. search rules) W) c.if-any_var.false
+pub returns : goal.returns
+returns c =
+    let a = c.args in
+    let w = words a.scratch.now in
+    let n = a.atoms.count in
+    let kept = run w keep_at a.keep in
+    λ l k A K.
+        let f : ℕ → Bool = λ j. mentions kept (drop j l) in
+        any_answered f n (λ k. mentions_back kept l k) (mentions_end kept w a.atoms.base n l A) c.any.result
+        (cases_from_any _ _ c.any.result (Passes f n) (Fails f n) c.any.ensures.ran (YieldsList-from_range 0 n n refl (omega arith))
+            (λ x q k h. mentions_from kept w a.atoms.base n l A x h true (λ b W. search (rules, tests, W)))
+            (λ x q k. (search (rules, tests), λ h. mentions_from kept w a.atoms.base n l A x h false (λ b W. search (rules, tests, W)))))
+        ∙ ap (λ (t : List ℕ). mentions t l) K.are
