@@ -1,5 +1,5 @@
--- What `any` over a range answers, of a test that is known from each place on. Assumes nothing.
-use Rattle.std.specs.Prelude.{Bool, true, false, ◌≡◌, refl, ℕ, zero, suc, ◌+◌, ◌<◌, ◌≤◌, length, get_or}
+-- What `any` and `all` over a range answer, of a test that is known from each place on. Assumes nothing.
+use Rattle.std.specs.Prelude.{Bool, true, false, not, ◌≡◌, refl, ℕ, zero, suc, ◌+◌, ◌<◌, ◌≤◌, length, get_or}
 use Rattle.std.proofs.Common.{sym, ap, ◌∙◌, arith}
 use Rattle.std.specs.Bool.{MatchBool}
 use Rattle.std.specs.List.{range_with_len, AllWithin, HoldsAt}
@@ -28,3 +28,9 @@ module _ (f : ℕ → Bool) (n : ℕ) where
   any_answered back end false p =
       let l : length (range_with_len 0 n) ≡ n = length-range_with_len 0 n in
       sym (fails_to (λ k h. rw (nth k h) at (p k 0 (omega arith) (omega (arith, l))) h) n (omega arith) ∙ end)
+
+  pub all_answered : ((k : ℕ) → f k ≡ true → f 0 ≡ true) → f n ≡ false → (r : Bool)
+      → MatchBool r (AllWithin Fails (range_with_len 0 n) 0 (length (range_with_len 0 n))) ((k : ℕ) × (k < length (range_with_len 0 n)) × HoldsAt Passes (range_with_len 0 n) k)
+      → r ≡ not (f 0)
+  all_answered back end true p = ap not (any_answered back end false p)
+  all_answered back end false p = ap not (any_answered back end true p)

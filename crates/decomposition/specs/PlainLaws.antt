@@ -1,6 +1,7 @@
 -- A search for an atom that is neither a class nor a role atom, in a run of atoms, at atom i. Assumes nothing.
-use Rattle.std.specs.Prelude.{Bool, true, false, not, ◌≡◌, refl, List, ℕ, ◌+◌, ◌*◌, ◌/◌, ◌≤◌, ◌<◌, length, get_or, drop}
-use Rattle.std.proofs.Common.{sym, ap, ◌∙◌, arith}
+use Rattle.std.specs.Prelude.{Bool, true, false, not, ◌≡◌, refl, List, [], ◌∷◌, ℕ, zero, suc, ◌+◌, ◌*◌, ◌/◌, ◌≤◌, ◌<◌, length, get_or, drop}
+use Rattle.std.proofs.Math.Bool.{or-true}
+use Rattle.std.proofs.Common.{arith, drop_of_length-le}
 use Rattle.words.specs.Words.{words}
 use Rattle.ir.specs.Records.{words_of}
 use Rattle.ir.specs.declared.atom.Atom.{Atom}
@@ -31,27 +32,19 @@ no_tree (Equal u v) e = refl
 abbrev pub other : List Atom → Bool
 other l = any (λ a. not (is_tree_atom a)) l
 
--- before atom i of the `count` in the bytes s
-pub record Plain (s : List ℕ) (count i : ℕ) : Type 0 where
-  pub all : count ≡ length s / 24
-  pub here : i ≤ count
-  pub left : (l : List Atom) → Run s l → other l ≡ other (drop i l)
+-- from atom i on, of the `count` in the bytes s
+module _ (s : List ℕ) (count : ℕ) (e : count ≡ length s / 24) (l : List Atom) (R : Run s l) where
+  pub other_found : (i : ℕ) → i < count → 2 < get_or (words s) (6 * i) 0 → other (drop i l) ≡ true
+  other_found i h k = let a = run_atom s count i e l R h in rw (a.split, no_tree a.atom (omega (arith, a.words.kind))) refl
 
-module _ (s : List ℕ) (count i : ℕ) (P : Plain s count i) where
-  -- its kind is x
-  module _ (h : i < count) (x : ℕ) (e : x ≡ get_or (words s) (6 * i) 0) where
-    pub plain_found : 2 < x → (l : List Atom) → Run s l → false ≡ not (other l)
-    plain_found k l R =
-        let a = run_atom s count i P.all l R h in
-        let f : other (drop i l) ≡ true = rw (a.split, no_tree a.atom (omega (arith, a.words.kind))) refl in
-        sym (ap not (P.left l R ∙ f))
+  pub other_on : (i : ℕ) → i < count → get_or (words s) (6 * i) 0 ≤ 2 → other (drop i l) ≡ other (drop (i + 1) l)
+  other_on i h k = let a = run_atom s count i e l R h in rw (a.split, is_tree a.atom (omega (arith, a.words.kind))) refl
 
-    pub plain_on : x ≤ 2 → Plain s count (i + 1)
-    plain_on k = record {
-      all = P.all;
-      here = omega arith;
-      left = λ l R.
-          let a = run_atom s count i P.all l R h in
-          let f : other (drop i l) ≡ other (drop (i + 1) l) = rw (a.split, is_tree a.atom (omega (arith, a.words.kind))) refl in
-          P.left l R ∙ f;
-    }
+  pub other_end : other (drop count l) ≡ false
+  other_end = let z : length l ≤ count = omega (arith, R.long) in rw (drop_of_length-le l z) refl
+
+pub other_back : (l : List Atom) (i : ℕ) → other (drop i l) ≡ true → other l ≡ true
+other_back [] zero k = k
+other_back [] (suc i) k = k
+other_back (a ∷ l) zero k = k
+other_back (a ∷ l) (suc i) k = rw (other_back l i k) (or-true (not (is_tree_atom a)))
