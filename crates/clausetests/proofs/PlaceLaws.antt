@@ -21,7 +21,7 @@ use Rattle.states.specs.Masks.{mask_of}
 use Rattle.states.specs.LiteralLaws.{Distinct}
 use Rattle.sets.specs.Kept.{set_at}
 use Rattle.sets.specs.Places.{vars_at}
-use Rattle.clausetests.specs.declared.vars.Vars.{Vars}
+use Rattle.clausetests.specs.declared.listed.Vars.{Vars}
 use Rattle.clausetests.specs.Vars.{four, VarsAs, few, many}
 use Rattle.clausetests.specs.Given.{AtomThere, OneIs, PairWith}
 use Rattle.clausetests.specs.Fitting.{pair_at, Tables, turned, only_in, both_in, one_with, two_with, Changed, Meant, MeantThere}

@@ -22,7 +22,7 @@ use Rattle.states.specs.MaskLaws.{mask_same}
 use Rattle.sets.specs.Places.{vars_at, shown_at}
 use Rattle.tables.specs.Tabled.{Run}
 use Rattle.tables.specs.AtomLaws.{no_atom, read_is, run_nth}
-use Rattle.clausetests.specs.declared.vars.Vars.{Vars}
+use Rattle.clausetests.specs.declared.listed.Vars.{Vars}
 use Rattle.clausetests.specs.Given.{NamesRoles}
 use Rattle.clausetests.specs.Fitting.{Tables, atom_one, atom_two, one_with, two_with, ones_with, twos_with, Changed, Meant, MeantThere, RunMeant, ClauseMeant}
 use Rattle.clausetests.proofs.FittingLaws.{and_assoc, changed_none, changed_then, given_kept}

@@ -24,7 +24,7 @@ use Rattle.sets.specs.Places.{vars_at, shown_at}
 use Rattle.sets.specs.Verdicts.{shown}
 use Rattle.tables.specs.Tabled.{Run, Tabled, ClauseThere, no_clause}
 use Rattle.tables.specs.ClauseLaws.{clause_at, clause_split}
-use Rattle.clausetests.specs.declared.vars.Vars.{Vars}
+use Rattle.clausetests.specs.declared.listed.Vars.{Vars}
 use Rattle.clausetests.specs.Vars.{VarsAs, few, many}
 use Rattle.clausetests.specs.Given.{Given, NamesRoles}
 use Rattle.clausetests.specs.Fitting.{clause_one, clause_two, Changed, Meant, ClauseMeant}

@@ -18,7 +18,7 @@ use Rattle.sets.specs.Laid.{KeptTo}
 use Rattle.tables.specs.Tabled.{Run}
 use Rattle.clausetests.specs.declared.fitting.Side.{Side}
 use Rattle.clausetests.specs.declared.fitting.Side.TheVariants.{Body, Head}
-use Rattle.clausetests.specs.declared.vars.Vars.{Vars}
+use Rattle.clausetests.specs.declared.listed.Vars.{Vars}
 use Rattle.clausetests.specs.Vars.{VarsAs}
 use Rattle.clausetests.specs.Given.{Given, NamesRoles}
 

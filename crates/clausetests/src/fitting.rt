@@ -14,7 +14,7 @@ ghost use Rattle.tables.specs.AtomLaws.{no_atom};
 ghost use Rattle.clausetests.specs.Given.{Given, NamesRoles, PairWith, AtomThere};
 ghost use Rattle.clausetests.specs.Fitting.{pairs, pair_at, Tables, is_head, turned, one_with, two_with, ones_with, twos_with, clause_one, clause_two, Changed, Meant, MeantThere, RunMeant, ClauseMeant};
 
-use crate::vars::Vars;
+use crate::listed::Vars;
 use crate::{State, atom, vars};
 use ir::atom::Atom;
 use ir::record;

@@ -4,6 +4,7 @@
 pub mod atom;
 pub mod class;
 pub mod fitting;
+pub mod listed;
 pub mod search;
 pub mod vars;
 pub mod verdict;

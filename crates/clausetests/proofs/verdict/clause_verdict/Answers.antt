@@ -21,13 +21,13 @@ clause_tables-requires c =
     let A = c.args in
     let H = c.requires in
     here_meant A.state.now.size A.i A.state.now.text.now A.clauses.now A.atoms.now A.state.now.store.now A.scratch.now H _ _ c.clause_vars-v.result (c.body_of-body.ensures H.clause H.is.at) (c.head_of-head.ensures H.clause H.is.at)
-    (c.clause_vars-v.ensures.1 (H.clause.body ++ H.clause.head) (c.atoms_of.ensures H.clause H.is.at))
+    (c.clause_vars-v.ensures (H.clause.body ++ H.clause.head) (c.atoms_of.ensures H.clause H.is.at))
 
 pub search-requires : goal.search-requires
 search-requires c =
     let A = c.args in
     let H = c.requires in (
-      here_few A.state.now.size A.i A.state.now.text.now A.clauses.now A.atoms.now A.state.now.store.now A.scratch.now H c.clause_vars-v.result (c.clause_vars-v.ensures.1 (H.clause.body ++ H.clause.head) (c.atoms_of.ensures H.clause H.is.at)),
+      here_few A.state.now.size A.i A.state.now.text.now A.clauses.now A.atoms.now A.state.now.store.now A.scratch.now H c.clause_vars-v.result (c.clause_vars-v.ensures (H.clause.body ++ H.clause.head) (c.atoms_of.ensures H.clause H.is.at)),
       here_small A.state.now.size A.i A.state.now.text.now A.clauses.now A.atoms.now A.state.now.store.now A.scratch.now H,
       rw c.clause_tables.auto.scratch H.space,
     )
@@ -41,9 +41,9 @@ returns-in-Some c =
     let A = c.args in
     let H = c.requires in
     let v = c.clause_vars-v.result in
-    let l = here_few A.state.now.size A.i A.state.now.text.now A.clauses.now A.atoms.now A.state.now.store.now A.scratch.now H v (c.clause_vars-v.ensures.1 (H.clause.body ++ H.clause.head) (c.atoms_of.ensures H.clause H.is.at)) in record {
+    let l = here_few A.state.now.size A.i A.state.now.text.now A.clauses.now A.atoms.now A.state.now.store.now A.scratch.now H v (c.clause_vars-v.ensures (H.clause.body ++ H.clause.head) (c.atoms_of.ensures H.clause H.is.at)) in record {
       result_after = (λ I roles x S.
-          let R = c.clause_vars-v.ensures.1 (x.body ++ x.head) (c.atoms_of.ensures x S.at) in
+          let R = c.clause_vars-v.ensures (x.body ++ x.head) (c.atoms_of.ensures x S.at) in
           let M = clause_meant I roles A.state.now.size x A.i A.state.now.text.now (words A.clauses.now) (words A.atoms.now) (words A.state.now.store.now) (words A.scratch.now) S v R in
           verdict_some A.i (clause_broken I x) (take v.n c.in-Some.found) _
           (found_broken I roles A.state.now.size x A.i A.state.now.text.now (words A.clauses.now) (words A.atoms.now) (words A.state.now.store.now) (words A.scratch.now) S v R (Code.Some c.in-Some.found)
@@ -58,7 +58,7 @@ returns c =
     let A = c.args in
     let v = c.clause_vars-v.result in record {
       result_after = (λ I roles x S.
-          let R = c.clause_vars-v.ensures.1 (x.body ++ x.head) (c.atoms_of.ensures x S.at) in
+          let R = c.clause_vars-v.ensures (x.body ++ x.head) (c.atoms_of.ensures x S.at) in
           let M = clause_meant I roles A.state.now.size x A.i A.state.now.text.now (words A.clauses.now) (words A.atoms.now) (words A.state.now.store.now) (words A.scratch.now) S v R in
           verdict_none A.i (clause_broken I x)
           (found_broken I roles A.state.now.size x A.i A.state.now.text.now (words A.clauses.now) (words A.atoms.now) (words A.state.now.store.now) (words A.scratch.now) S v R Code.None
