@@ -19,7 +19,7 @@ use branches::{edges, memo, vars};
 use ir::atom::Atom;
 use ir::record;
 use ir::refusal::Refusal;
-use trees::group::{Child, Children};
+use trees::children::{Child, Children};
 use trees::{group, tree};
 
 // What the children so far have come to: the numbers, where the result ends, and whether a child is named.
@@ -122,7 +122,7 @@ fn name_groups(
     root: u32,
     keep: u32,
 ) -> Result<Option<(Naming, u32)>, Refusal>
-    requires { LaidThere (words scratch.old) (tops children.now.each) (counts children.now.each) atoms.base atoms.count children.now.len × (children.now.len ≤ length children.now.each) × (atoms.count ≤ 256) × (body_at ≤ atoms.base) × (atoms.base + atoms.count ≤ copy_at) × NamedThere (words scratch.old) s × (s.first ≤ 1100000) × (keep ≤ 512) × (4 * work_words ≤ length scratch.old) }
+    requires { LaidThere (words scratch.old) (tops children.now.each) (counts children.now.each) atoms.base atoms.count children.now.len × (atoms.count ≤ 256) × (body_at ≤ atoms.base) × (atoms.base + atoms.count ≤ copy_at) × NamedThere (words scratch.old) s × (s.first ≤ 1100000) × (keep ≤ 512) × (4 * work_words ≤ length scratch.old) }
     ensures reduced_by { (g : Groups) (z : Rules.Naming) (kept : List ℕ) (f : ℕ) → Laid (words scratch.old) (tops children.now.each) (counts children.now.each) atoms.base atoms.count g children.now.len → NamedHeld (words scratch.old) s z → KeepIs (words scratch.old) keep kept → atoms.count ≤ f → ReducedBy (words scratch.new) atoms.base atoms.count (g.root_atoms ++ all_of g.groups) kept s (groups_rule f root kept g z) result }
     ensures only_names { OnlyNames atoms.base atoms.count (words scratch.old) (words scratch.new) }
 {

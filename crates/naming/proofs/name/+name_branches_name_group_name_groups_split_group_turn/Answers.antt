@@ -87,7 +87,7 @@ name_branches-name_groups-requires t c =
     let few = laid_few w2 tops counts base count groups made laid in
     let long2 = same_words_lem the-tree.new.scratch the-arrange.new.scratch the-arrange.auto.scratch in
     let mt : 5 * count + 4 ≡ t = c.decreases in
-    (omega (arith, mt), (record { groups = made; laid = laid }, rw c.if-arrange.true at the-arrange.ensures.within, c.requires.1, c.requires.2, c.requires.3, laid_named w0 w1 w2 base count s long1 long2 c.requires.2 c.requires.3 the-tree.ensures.only_tree the-arrange.ensures.only_records c.requires.4, c.requires.5, c.requires.6, omega (arith, the-arrange.auto.scratch, the-tree.auto.scratch, c.requires.7)))
+    (omega (arith, mt), (record { groups = made; laid = laid }, c.requires.1, c.requires.2, c.requires.3, laid_named w0 w1 w2 base count s long1 long2 c.requires.2 c.requires.3 the-tree.ensures.only_tree the-arrange.ensures.only_records c.requires.4, c.requires.5, c.requires.6, omega (arith, the-arrange.auto.scratch, the-tree.auto.scratch, c.requires.7)))
 
 pub name_branches-returns-then-arrange-clause-reduced_by : goal.name_branches-returns-then-arrange-clause-reduced_by
 name_branches-returns-then-arrange-clause-reduced_by t c =
@@ -160,8 +160,8 @@ name_groups-behind-requires t c =
     let root = c.args.root in
     let keep = c.args.keep in
     let s = c.args.s in
-    let q : groups ≤ length counts = omega (arith, c.requires.1, counts_long c.args.children.now.each) in
-    (c.requires.1, omega (arith, sum_fits w0 tops counts base count groups root keep s c.requires.0.groups c.requires.0.laid q, c.requires.2), omega arith)
+    let q : groups ≤ length counts = omega (arith, c.args.children.now.within, counts_long c.args.children.now.each) in
+    omega (arith, sum_fits w0 tops counts base count groups root keep s c.requires.0.groups c.requires.0.laid q, c.requires.1)
 
 pub name_groups-overflow_sub-p : goal.name_groups-overflow_sub-p
 name_groups-overflow_sub-p t c =
@@ -175,7 +175,7 @@ name_groups-overflow_sub-p t c =
     let root = c.args.root in
     let keep = c.args.keep in
     let s = c.args.s in
-    let q : groups ≤ length counts = omega (arith, c.requires.1, counts_long c.args.children.now.each) in
+    let q : groups ≤ length counts = omega (arith, c.args.children.now.within, counts_long c.args.children.now.each) in
     let e : the-behind.result ≡ sum (take groups counts) = the-behind.ensures in omega (arith, e, sum_fits w0 tops counts base count groups root keep s c.requires.0.groups c.requires.0.laid q)
 
 pub name_groups-loop-child-init : goal.name_groups-loop-child-init
@@ -190,13 +190,13 @@ name_groups-loop-child-init t c =
     let root = c.args.root in
     let keep = c.args.keep in
     let s = c.args.s in
-    let q : groups ≤ length counts = omega (arith, c.requires.1, counts_long c.args.children.now.each) in
+    let q : groups ≤ length counts = omega (arith, c.args.children.now.within, counts_long c.args.children.now.each) in
     (refl, walk_start w0 tops counts base count groups root keep s _ q (ap (λ (x : ℕ). base + (count - x)) the-behind.ensures))
 
 pub name_groups-turn-requires : goal.name_groups-turn-requires
 name_groups-turn-requires t c =
     let the-loop = c.loop-child in
-    let h : c.loop-child.child-index < c.args.children.now.len = omega (arith, c.loop-child-test.true, length-take-le c.args.children.now.len c.args.children.now.each c.requires.1) in
+    let h : c.loop-child.child-index < c.args.children.now.len = omega (arith, c.loop-child-test.true, length-take-le c.args.children.now.len c.args.children.now.each c.args.children.now.within) in
     let count = c.args.atoms.count in
     let w0 = words c.args.scratch.now in
     let tops = heads c.args.children.now.each in
@@ -206,15 +206,15 @@ name_groups-turn-requires t c =
     let root = c.args.root in
     let keep = c.args.keep in
     let s = c.args.s in
-    let room : work_words ≤ length w0 = omega (arith, c.requires.8, length_words c.args.scratch.now) in
+    let room : work_words ≤ length w0 = omega (arith, c.requires.7, length_words c.args.scratch.now) in
     let w1 = words the-loop.scratch in
     let mt : 5 * count + 3 ≡ t = c.decreases in
-    (omega (arith, mt, child_most w0 tops counts base count groups root keep s c.requires.3 c.requires.4 c.requires.2 c.requires.6 c.requires.0 c.requires.5 c.requires.7 room w1 the-loop.reached.naming the-loop.reached.any the-loop.p the-loop.reached.end the-loop.child-index the-loop.invariant.1 h _ _ (count_read c.args.children.now.each c.args.children.now.len the-loop.child-index h) (top_read c.args.children.now.each c.args.children.now.len the-loop.child-index h)), (walk_standing w0 tops counts base count groups root keep s c.requires.3 c.requires.4 c.requires.2 c.requires.6 c.requires.0 c.requires.5 c.requires.7 room w1 the-loop.reached.naming the-loop.reached.any the-loop.p the-loop.reached.end the-loop.child-index the-loop.invariant.1 h _ _ (count_read c.args.children.now.each c.args.children.now.len the-loop.child-index h) (top_read c.args.children.now.each c.args.children.now.len the-loop.child-index h), c.requires.7, omega (arith, the-loop.invariant.0, c.requires.8)))
+    (omega (arith, mt, child_most w0 tops counts base count groups root keep s c.requires.2 c.requires.3 c.requires.1 c.requires.5 c.requires.0 c.requires.4 c.requires.6 room w1 the-loop.reached.naming the-loop.reached.any the-loop.p the-loop.reached.end the-loop.child-index the-loop.invariant.1 h _ _ (count_read c.args.children.now.each c.args.children.now.len the-loop.child-index h) (top_read c.args.children.now.each c.args.children.now.len the-loop.child-index h)), (walk_standing w0 tops counts base count groups root keep s c.requires.2 c.requires.3 c.requires.1 c.requires.5 c.requires.0 c.requires.4 c.requires.6 room w1 the-loop.reached.naming the-loop.reached.any the-loop.p the-loop.reached.end the-loop.child-index the-loop.invariant.1 h _ _ (count_read c.args.children.now.each c.args.children.now.len the-loop.child-index h) (top_read c.args.children.now.each c.args.children.now.len the-loop.child-index h), c.requires.6, omega (arith, the-loop.invariant.0, c.requires.7)))
 
 pub name_groups-returns-in_err-reached-clause-reduced_by : goal.name_groups-returns-in_err-reached-clause-reduced_by
 name_groups-returns-in_err-reached-clause-reduced_by t c =
     let the-loop = c.loop-child in
-    let h : c.loop-child.child-index < c.args.children.now.len = omega (arith, c.loop-child-test.true, length-take-le c.args.children.now.len c.args.children.now.each c.requires.1) in
+    let h : c.loop-child.child-index < c.args.children.now.len = omega (arith, c.loop-child-test.true, length-take-le c.args.children.now.len c.args.children.now.each c.args.children.now.within) in
     let the-turn = c.turn in
     let w0 = words c.args.scratch.now in
     let tops = heads c.args.children.now.each in
@@ -225,16 +225,16 @@ name_groups-returns-in_err-reached-clause-reduced_by t c =
     let root = c.args.root in
     let keep = c.args.keep in
     let s = c.args.s in
-    let room : work_words ≤ length w0 = omega (arith, c.requires.8, length_words c.args.scratch.now) in
+    let room : work_words ≤ length w0 = omega (arith, c.requires.7, length_words c.args.scratch.now) in
     let w1 = words the-loop.scratch in
     let w2 = words the-turn.new.scratch in
     let back = err_from_is_err_and c.from_residual.result c.from_residual.ensures.1 in
-    rw (back.1, back.2) (walk_stop w0 tops counts base count groups root keep s c.requires.3 c.requires.4 c.requires.2 c.requires.6 c.requires.0 c.requires.5 c.requires.7 room w1 the-loop.reached.naming the-loop.reached.any the-loop.p the-loop.reached.end the-loop.child-index the-loop.invariant.1 h _ _ (count_read c.args.children.now.each c.args.children.now.len the-loop.child-index h) (top_read c.args.children.now.each c.args.children.now.len the-loop.child-index h) w2 (same_words_lem c.args.scratch.now the-loop.scratch the-loop.invariant.0) the-turn.result the-turn.ensures.fact the-turn.ensures.fact_2 _ c.in_err-reached.was)
+    rw (back.1, back.2) (walk_stop w0 tops counts base count groups root keep s c.requires.2 c.requires.3 c.requires.1 c.requires.5 c.requires.0 c.requires.4 c.requires.6 room w1 the-loop.reached.naming the-loop.reached.any the-loop.p the-loop.reached.end the-loop.child-index the-loop.invariant.1 h _ _ (count_read c.args.children.now.each c.args.children.now.len the-loop.child-index h) (top_read c.args.children.now.each c.args.children.now.len the-loop.child-index h) w2 (same_words_lem c.args.scratch.now the-loop.scratch the-loop.invariant.0) the-turn.result the-turn.ensures.fact the-turn.ensures.fact_2 _ c.in_err-reached.was)
 
 pub name_groups-returns-in_err-reached-clause-only_names : goal.name_groups-returns-in_err-reached-clause-only_names
 name_groups-returns-in_err-reached-clause-only_names t c =
     let the-loop = c.loop-child in
-    let h : c.loop-child.child-index < c.args.children.now.len = omega (arith, c.loop-child-test.true, length-take-le c.args.children.now.len c.args.children.now.each c.requires.1) in
+    let h : c.loop-child.child-index < c.args.children.now.len = omega (arith, c.loop-child-test.true, length-take-le c.args.children.now.len c.args.children.now.each c.args.children.now.within) in
     let the-turn = c.turn in
     let w0 = words c.args.scratch.now in
     let tops = heads c.args.children.now.each in
@@ -245,15 +245,15 @@ name_groups-returns-in_err-reached-clause-only_names t c =
     let root = c.args.root in
     let keep = c.args.keep in
     let s = c.args.s in
-    let room : work_words ≤ length w0 = omega (arith, c.requires.8, length_words c.args.scratch.now) in
+    let room : work_words ≤ length w0 = omega (arith, c.requires.7, length_words c.args.scratch.now) in
     let w1 = words the-loop.scratch in
     let w2 = words the-turn.new.scratch in
-    walk_only w0 tops counts base count groups root keep s c.requires.3 c.requires.4 c.requires.2 c.requires.6 c.requires.0 c.requires.5 c.requires.7 room w1 the-loop.reached.naming the-loop.reached.any the-loop.p the-loop.reached.end the-loop.child-index the-loop.invariant.1 h _ _ (count_read c.args.children.now.each c.args.children.now.len the-loop.child-index h) (top_read c.args.children.now.each c.args.children.now.len the-loop.child-index h) w2 (same_words_lem c.args.scratch.now the-loop.scratch the-loop.invariant.0) the-turn.result the-turn.ensures.fact the-turn.ensures.fact_2
+    walk_only w0 tops counts base count groups root keep s c.requires.2 c.requires.3 c.requires.1 c.requires.5 c.requires.0 c.requires.4 c.requires.6 room w1 the-loop.reached.naming the-loop.reached.any the-loop.p the-loop.reached.end the-loop.child-index the-loop.invariant.1 h _ _ (count_read c.args.children.now.each c.args.children.now.len the-loop.child-index h) (top_read c.args.children.now.each c.args.children.now.len the-loop.child-index h) w2 (same_words_lem c.args.scratch.now the-loop.scratch the-loop.invariant.0) the-turn.result the-turn.ensures.fact the-turn.ensures.fact_2
 
 pub name_groups-overflow_add-p-in-loop-child : goal.name_groups-overflow_add-p-in-loop-child
 name_groups-overflow_add-p-in-loop-child t c =
     let the-loop = c.loop-child in
-    let h : c.loop-child.child-index < c.args.children.now.len = omega (arith, c.loop-child-test.true, length-take-le c.args.children.now.len c.args.children.now.each c.requires.1) in
+    let h : c.loop-child.child-index < c.args.children.now.len = omega (arith, c.loop-child-test.true, length-take-le c.args.children.now.len c.args.children.now.each c.args.children.now.within) in
     let w0 = words c.args.scratch.now in
     let tops = heads c.args.children.now.each in
     let counts = sizes c.args.children.now.each in
@@ -263,14 +263,14 @@ name_groups-overflow_add-p-in-loop-child t c =
     let root = c.args.root in
     let keep = c.args.keep in
     let s = c.args.s in
-    let room : work_words ≤ length w0 = omega (arith, c.requires.8, length_words c.args.scratch.now) in
+    let room : work_words ≤ length w0 = omega (arith, c.requires.7, length_words c.args.scratch.now) in
     let w1 = words the-loop.scratch in
-    omega (arith, walk_child w0 tops counts base count groups root keep s c.requires.3 c.requires.4 c.requires.2 c.requires.6 c.requires.0 c.requires.5 c.requires.7 room w1 the-loop.reached.naming the-loop.reached.any the-loop.p the-loop.reached.end the-loop.child-index the-loop.invariant.1 h _ _ (count_read c.args.children.now.each c.args.children.now.len the-loop.child-index h) (top_read c.args.children.now.each c.args.children.now.len the-loop.child-index h), c.requires.4)
+    omega (arith, walk_child w0 tops counts base count groups root keep s c.requires.2 c.requires.3 c.requires.1 c.requires.5 c.requires.0 c.requires.4 c.requires.6 room w1 the-loop.reached.naming the-loop.reached.any the-loop.p the-loop.reached.end the-loop.child-index the-loop.invariant.1 h _ _ (count_read c.args.children.now.each c.args.children.now.len the-loop.child-index h) (top_read c.args.children.now.each c.args.children.now.len the-loop.child-index h), c.requires.3)
 
 pub name_groups-loop-child-preserved : goal.name_groups-loop-child-preserved
 name_groups-loop-child-preserved t c =
     let the-loop = c.loop-child in
-    let h : c.loop-child.child-index < c.args.children.now.len = omega (arith, c.loop-child-test.true, length-take-le c.args.children.now.len c.args.children.now.each c.requires.1) in
+    let h : c.loop-child.child-index < c.args.children.now.len = omega (arith, c.loop-child-test.true, length-take-le c.args.children.now.len c.args.children.now.each c.args.children.now.within) in
     let the-turn = c.turn in
     let w0 = words c.args.scratch.now in
     let tops = heads c.args.children.now.each in
@@ -281,10 +281,10 @@ name_groups-loop-child-preserved t c =
     let root = c.args.root in
     let keep = c.args.keep in
     let s = c.args.s in
-    let room : work_words ≤ length w0 = omega (arith, c.requires.8, length_words c.args.scratch.now) in
+    let room : work_words ≤ length w0 = omega (arith, c.requires.7, length_words c.args.scratch.now) in
     let w1 = words the-loop.scratch in
     let w2 = words the-turn.new.scratch in
-    (the-turn.auto.scratch ∙ the-loop.invariant.0, walk_next w0 tops counts base count groups root keep s c.requires.3 c.requires.4 c.requires.2 c.requires.6 c.requires.0 c.requires.5 c.requires.7 room w1 the-loop.reached.naming the-loop.reached.any the-loop.p the-loop.reached.end the-loop.child-index the-loop.invariant.1 h _ _ (count_read c.args.children.now.each c.args.children.now.len the-loop.child-index h) (top_read c.args.children.now.each c.args.children.now.len the-loop.child-index h) w2 (same_words_lem c.args.scratch.now the-loop.scratch the-loop.invariant.0) the-turn.result the-turn.ensures.fact the-turn.ensures.fact_2 _ c.in_ok-reached.was)
+    (the-turn.auto.scratch ∙ the-loop.invariant.0, walk_next w0 tops counts base count groups root keep s c.requires.2 c.requires.3 c.requires.1 c.requires.5 c.requires.0 c.requires.4 c.requires.6 room w1 the-loop.reached.naming the-loop.reached.any the-loop.p the-loop.reached.end the-loop.child-index the-loop.invariant.1 h _ _ (count_read c.args.children.now.each c.args.children.now.len the-loop.child-index h) (top_read c.args.children.now.each c.args.children.now.len the-loop.child-index h) w2 (same_words_lem c.args.scratch.now the-loop.scratch the-loop.invariant.0) the-turn.result the-turn.ensures.fact the-turn.ensures.fact_2 _ c.in_ok-reached.was)
 
 pub name_groups-overflow_sub-result : goal.name_groups-overflow_sub-result
 name_groups-overflow_sub-result t c =
@@ -298,9 +298,9 @@ name_groups-overflow_sub-result t c =
     let root = c.args.root in
     let keep = c.args.keep in
     let s = c.args.s in
-    let room : work_words ≤ length w0 = omega (arith, c.requires.8, length_words c.args.scratch.now) in
+    let room : work_words ≤ length w0 = omega (arith, c.requires.7, length_words c.args.scratch.now) in
     let w1 = words the-loop.scratch in
-    omega (arith, walk_low w0 tops counts base count groups root keep s c.requires.3 c.requires.4 c.requires.2 c.requires.6 c.requires.0 c.requires.5 c.requires.7 room w1 the-loop.reached.naming the-loop.reached.any the-loop.p the-loop.reached.end the-loop.child-index the-loop.invariant.1)
+    omega (arith, walk_low w0 tops counts base count groups root keep s c.requires.2 c.requires.3 c.requires.1 c.requires.5 c.requires.0 c.requires.4 c.requires.6 room w1 the-loop.reached.naming the-loop.reached.any the-loop.p the-loop.reached.end the-loop.child-index the-loop.invariant.1)
 
 pub name_groups-overflow_cast-result : goal.name_groups-overflow_cast-result
 name_groups-overflow_cast-result t c =
@@ -314,14 +314,14 @@ name_groups-overflow_cast-result t c =
     let root = c.args.root in
     let keep = c.args.keep in
     let s = c.args.s in
-    let room : work_words ≤ length w0 = omega (arith, c.requires.8, length_words c.args.scratch.now) in
+    let room : work_words ≤ length w0 = omega (arith, c.requires.7, length_words c.args.scratch.now) in
     let w1 = words the-loop.scratch in
-    omega (arith, walk_low w0 tops counts base count groups root keep s c.requires.3 c.requires.4 c.requires.2 c.requires.6 c.requires.0 c.requires.5 c.requires.7 room w1 the-loop.reached.naming the-loop.reached.any the-loop.p the-loop.reached.end the-loop.child-index the-loop.invariant.1, walk_high w0 tops counts base count groups root keep s c.requires.3 c.requires.4 c.requires.2 c.requires.6 c.requires.0 c.requires.5 c.requires.7 room w1 the-loop.reached.naming the-loop.reached.any the-loop.p the-loop.reached.end the-loop.child-index the-loop.invariant.1, the-loop.invariant.1.below, c.requires.2)
+    omega (arith, walk_low w0 tops counts base count groups root keep s c.requires.2 c.requires.3 c.requires.1 c.requires.5 c.requires.0 c.requires.4 c.requires.6 room w1 the-loop.reached.naming the-loop.reached.any the-loop.p the-loop.reached.end the-loop.child-index the-loop.invariant.1, walk_high w0 tops counts base count groups root keep s c.requires.2 c.requires.3 c.requires.1 c.requires.5 c.requires.0 c.requires.4 c.requires.6 room w1 the-loop.reached.naming the-loop.reached.any the-loop.p the-loop.reached.end the-loop.child-index the-loop.invariant.1, the-loop.invariant.1.below, c.requires.1)
 
 pub name_groups-returns-clause-reduced_by : goal.name_groups-returns-clause-reduced_by
 name_groups-returns-clause-reduced_by t c =
     let the-loop = c.loop-child in
-    let over : c.args.children.now.len ≤ c.loop-child.child-index = omega (arith, c.loop-child-test.false, length-take-le c.args.children.now.len c.args.children.now.each c.requires.1) in
+    let over : c.args.children.now.len ≤ c.loop-child.child-index = omega (arith, c.loop-child-test.false, length-take-le c.args.children.now.len c.args.children.now.each c.args.children.now.within) in
     let the-if1 = c.if-reached in
     let w0 = words c.args.scratch.now in
     let tops = heads c.args.children.now.each in
@@ -338,7 +338,7 @@ name_groups-returns-clause-reduced_by t c =
 pub name_groups-returns-then-reached-clause-reduced_by : goal.name_groups-returns-then-reached-clause-reduced_by
 name_groups-returns-then-reached-clause-reduced_by t c =
     let the-loop = c.loop-child in
-    let over : c.args.children.now.len ≤ c.loop-child.child-index = omega (arith, c.loop-child-test.false, length-take-le c.args.children.now.len c.args.children.now.each c.requires.1) in
+    let over : c.args.children.now.len ≤ c.loop-child.child-index = omega (arith, c.loop-child-test.false, length-take-le c.args.children.now.len c.args.children.now.each c.args.children.now.within) in
     let the-if1 = c.if-reached in
     let w0 = words c.args.scratch.now in
     let tops = heads c.args.children.now.each in
@@ -566,9 +566,9 @@ turn-returns-clause-fact t c =
 pub name_groups-shared_ref_as_front-child-items : goal.name_groups-shared_ref_as_front-child-items
 name_groups-shared_ref_as_front-child-items t c =
     let l = c.args.children.now in
-    omega (arith, laid_few (words c.args.scratch.now) (heads l.each) (sizes l.each) c.args.atoms.base c.args.atoms.count l.len c.requires.0.groups c.requires.0.laid, c.requires.2)
+    omega (arith, laid_few (words c.args.scratch.now) (heads l.each) (sizes l.each) c.args.atoms.base c.args.atoms.count l.len c.requires.0.groups c.requires.0.laid, c.requires.1)
 
 pub name_groups-offset_bounds-child-items-child-index : goal.name_groups-offset_bounds-child-items-child-index
 name_groups-offset_bounds-child-items-child-index t c =
     let l = c.args.children.now in
-    omega (arith, laid_few (words c.args.scratch.now) (heads l.each) (sizes l.each) c.args.atoms.base c.args.atoms.count l.len c.requires.0.groups c.requires.0.laid, c.requires.2, c.loop-child-test.true, length-take-le l.len l.each c.requires.1)
+    omega (arith, laid_few (words c.args.scratch.now) (heads l.each) (sizes l.each) c.args.atoms.base c.args.atoms.count l.len c.requires.0.groups c.requires.0.laid, c.requires.1, c.loop-child-test.true, length-take-le l.len l.each c.args.children.now.within)
