@@ -2,7 +2,7 @@
 ghost use Rattle.std.specs.Prelude.{◌≡◌, ◌+◌, ◌*◌, ◌≤◌, length, get_or};
 ghost use Rattle.words.specs.Words.{words};
 
-// The kinds of class and role atoms.
+// The kinds of class and role atoms. (Numbers, as the records have them: an enum would name six kinds to tell two.)
 pub const CLASS: u32 = 1;
 
 pub const ROLE: u32 = 2;

@@ -42,8 +42,11 @@ pub fn mentions_kept(scratch: &[u8], atoms: Atoms, keep: u32) -> bool
     requires { TameThere (words scratch.now) atoms.base atoms.count × (keep ≤ 512) × (4 * work_words ≤ length scratch.now) }
     ensures { (l : List Atom) (kept : List ℕ) → AtomsAre (words scratch.now) atoms.base atoms.count l → KeepIs (words scratch.now) keep kept → result ≡ mentions kept l }
 {
-    (0..atoms.count as usize)
-        .any(|i| any_var(scratch, atoms.base + i, |v| is_kept(scratch, keep, v)))
+    (0..atoms.count as usize).any(|i| any_var(
+        scratch,
+        atoms.base + i,
+        |v| is_kept(scratch, keep, v),
+    ))
 }
 
 // Atom i is R(root, t).

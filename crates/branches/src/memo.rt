@@ -36,7 +36,7 @@ fn is_body(scratch: &[u8], p: usize, n: u32, count: u32) -> bool
     n == count && same_words(scratch, p + 1, scratch, RENUMBERED, count as usize)
 }
 
-// The place of the branch whose body is the `count` renumbered words.
+// The place of the branch whose body is the `count` renumbered words. (A branch says how long it is, so no range gives the branches.)
 fn scan(scratch: &[u8], s: Naming, count: u32) -> Option<u32>
     requires { NamedThere (words scratch.now) s × (count ≤ 256) × (4 * work_words ≤ length scratch.now) }
     ensures { (body : List Atom) (z : Rules.Naming) → BodyHeld renumbered_at (words scratch.now) count body → NamedHeld (words scratch.now) s z → Found s (memo_of z.named body) result }

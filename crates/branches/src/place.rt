@@ -1,4 +1,4 @@
-// A search among words of scratch.
+// A search among words of scratch. (The words stand in lent bytes, so no slice of numbers gives them.)
 ghost use Rattle.std.specs.Prelude.{◌+◌, ◌*◌, ◌≤◌, length};
 ghost use Rattle.words.specs.Words.{words};
 ghost use Rattle.branches.specs.Places.{PlaceIs};

@@ -32,7 +32,8 @@ fn from_root(v: u32, root: u32) -> u32
     if v == root { 0 } else { v }
 }
 
-// The role atoms of a body have more variables than MAX_BODY_VARS, X among them, which stands for the root.
+// The role atoms of a body have more variables than MAX_BODY_VARS, X among them, which stands for the root. (A loop: each turn adds to
+// `seen`, and of what a closure changes `any` says nothing.)
 pub fn is_wide(body: &[u8], root: u32) -> bool
     ensures { (l : List Atom) → Run body.now l → result ≡ ltb max_body_vars (body_var_count_from l root) }
 {

@@ -35,7 +35,8 @@ fn narrowed(scratch: &[u8], mut fits: [u64; 4], j: u32, end: u32, x: u32) -> [u6
     fits
 }
 
-// The least elements for the places from j on and before `end`, of the sets that fit there.
+// The least elements for the places from j on and before `end`, of the sets that fit there. (A loop: a closure in a cycle of calls would
+// need clauses of its own.)
 fn search_from(scratch: &[u8], fits: [u64; 4], j: u32, end: u32, size: u32) -> Option<[u32; 4]>
     requires { (j < end) × (end ≤ 4) × (size ≤ 64) × (scratch_bytes ≤ length scratch.now) }
     ensures { (two : ℕ → ℕ → ℕ → ℕ → Bool) (F : ℕ → ℕ → Bool) → Twos size end two (words scratch.now) → Fits size j end F fits → found_from j (end - j) result ≡ search_by size two (end - j) j F }

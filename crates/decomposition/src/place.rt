@@ -1,5 +1,6 @@
 // Clauses at their new places in the tables, and the named branches behind them. Atoms that move within the atom table are told
-// by number: no part of it can be lent while it is written.
+// by number: no part of it can be lent while it is written. (The tables stay apart: each function has two of them at most, and with all
+// four it would say again what it leaves alone.)
 ghost use Rattle.std.specs.Prelude.{◌≡◌, List, [], ◌∷◌, ◌++◌, map, ◌+◌, ◌*◌, ◌<◌, ◌≤◌, length, take, drop};
 ghost use Rattle.std.proofs.lemmas.List.Edits.{sets};
 ghost use Rattle.words.specs.Words.{words};

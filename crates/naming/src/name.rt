@@ -1,4 +1,5 @@
-// name_branches: each child of the root, with what is below it, becomes one class atom on the root.
+// name_branches: each child of the root, with what is below it, becomes one class atom on the root. (`root`, `t` and `keep` stay apart:
+// each step of the recursion takes other ones of them, and changes one.)
 ghost use Rattle.std.specs.Prelude.{List, ◌++◌, ℕ, ◌+◌, ◌*◌, ◌<◌, ◌≤◌, length};
 ghost use Rattle.words.specs.Words.{words};
 ghost use Rattle.ir.specs.declared.atom.Atom.{Atom};

@@ -8,7 +8,8 @@ pub struct Child {
     pub count: u32,
 }
 
-// In the order of their first atoms, the first `len`.
+// In the order of their first atoms, the first `len`. (That they have 256 atoms at most stays a clause of the two functions that need no
+// more: the others bound the atoms by their turn.)
 #[derive(Drop)]
 pub struct Children {
     pub each: [Child; 256],

@@ -1,4 +1,5 @@
-// The tree of role atoms below a root: the bound variables, and for each the child of the root above it.
+// The tree of role atoms below a root: the bound variables, and for each the child of the root above it. (`placed` and the count n stay
+// apart: one is lent, the other is answered.)
 ghost use Rattle.std.specs.Prelude.{◌≡◌, false, List, is_some, unwrap_or, ◌+◌, ◌*◌, ◌≤◌, ◌<◌, length, get_or, take, replicate};
 ghost use Rattle.words.specs.Words.{words};
 ghost use Rattle.ir.specs.Pick.{pick};

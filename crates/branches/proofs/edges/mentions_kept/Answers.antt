@@ -21,9 +21,9 @@ any-requires-clause-callable c =
     let a = c.args in
     let s = a.scratch.now in
     serves_from_Range (λ x q k. search (rules, tests)) (λ x lo hi.
-        let long = tame_long s a.atoms.base a.atoms.count x c.requires.0 hi in
-        let small = kind_small (words s) a.atoms.base a.atoms.count x c.requires.0 hi in
-        search (rules, long, small))
+    let long = tame_long s a.atoms.base a.atoms.count x c.requires.0 hi in
+    let small = kind_small (words s) a.atoms.base a.atoms.count x c.requires.0 hi in
+    search (rules, long, small))
 
 pub returns : goal.returns
 returns c =
@@ -32,9 +32,9 @@ returns c =
     let n = a.atoms.count in
     let kept = run w keep_at a.keep in
     λ l k A K.
-        let f : ℕ → Bool = λ j. mentions kept (drop j l) in
-        any_answered f n (λ k. mentions_back kept l k) (mentions_end kept w a.atoms.base n l A) c.any.result
-        (cases_from_any _ _ c.any.result (Passes f n) (Fails f n) c.any.ensures.ran (YieldsList-from_range 0 n n refl (omega arith))
-            (λ x q k h. mentions_from kept w a.atoms.base n l A x h true (λ b W. search (rules, tests, W)))
-            (λ x q k. (search (rules, tests), λ h. mentions_from kept w a.atoms.base n l A x h false (λ b W. search (rules, tests, W)))))
-        ∙ ap (λ (t : List ℕ). mentions t l) K.are
+    let f : ℕ → Bool = λ j. mentions kept (drop j l) in
+    any_answered f n (λ k. mentions_back kept l k) (mentions_end kept w a.atoms.base n l A) c.any.result
+    (cases_from_any _ _ c.any.result (Passes f n) (Fails f n) c.any.ensures.ran (YieldsList-from_range 0 n n refl (omega arith))
+    (λ x q k h. mentions_from kept w a.atoms.base n l A x h true (λ b W. search (rules, tests, W)))
+    (λ x q k. (search (rules, tests), λ h. mentions_from kept w a.atoms.base n l A x h false (λ b W. search (rules, tests, W)))))
+    ∙ ap (λ (t : List ℕ). mentions t l) K.are

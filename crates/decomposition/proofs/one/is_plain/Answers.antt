@@ -16,8 +16,8 @@ returns c =
     let n = c.atom_room.result in
     let e = c.atom_room.ensures in
     λ l R.
-        let f : ℕ → Bool = λ j. other (drop j l) in
-        all_answered f n (other_back l) (other_end s n e l R) c.all.result
-        (cases_from_all _ _ c.all.result (Fails f n) (Passes f n) c.all.ensures.ran (YieldsList-from_range 0 n n refl (omega arith))
-            (λ x q k. (search (rules, tests), λ h. other_on s n e l R x h (search (rules, tests))))
-            (λ x q k h. other_found s n e l R x h (search (rules, tests))))
+    let f : ℕ → Bool = λ j. other (drop j l) in
+    all_answered f n (other_back l) (other_end s n e l R) c.all.result
+    (cases_from_all _ _ c.all.result (Fails f n) (Passes f n) c.all.ensures.ran (YieldsList-from_range 0 n n refl (omega arith))
+    (λ x q k. (search (rules, tests), λ h. other_on s n e l R x h (search (rules, tests))))
+    (λ x q k h. other_found s n e l R x h (search (rules, tests))))

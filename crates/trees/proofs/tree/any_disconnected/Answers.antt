@@ -16,8 +16,8 @@ returns c =
     let w = words a.scratch.now in
     let n = a.atoms.count in
     λ l A.
-        let f : ℕ → Bool = loose w a.placed.now a.atoms.base n c.requires.1 l A in
-        any_answered f n (loose_back w a.placed.now a.atoms.base n c.requires.1 l A) (loose_end w a.placed.now a.atoms.base n c.requires.1 l A) c.any.result
-        (cases_from_any _ _ c.any.result (Passes f n) (Fails f n) c.any.ensures.ran (YieldsList-from_range 0 n n refl (omega arith))
-            (λ x q k h. loose_found w a.placed.now a.atoms.base n c.requires.1 l A x h (search (rules, tests)))
-            (λ x q k. (search (rules, tests), λ h. loose_on w a.placed.now a.atoms.base n c.requires.1 l A x h (search (rules, tests)))))
+    let f : ℕ → Bool = loose w a.placed.now a.atoms.base n c.requires.1 l A in
+    any_answered f n (loose_back w a.placed.now a.atoms.base n c.requires.1 l A) (loose_end w a.placed.now a.atoms.base n c.requires.1 l A) c.any.result
+    (cases_from_any _ _ c.any.result (Passes f n) (Fails f n) c.any.ensures.ran (YieldsList-from_range 0 n n refl (omega arith))
+    (λ x q k h. loose_found w a.placed.now a.atoms.base n c.requires.1 l A x h (search (rules, tests)))
+    (λ x q k. (search (rules, tests), λ h. loose_on w a.placed.now a.atoms.base n c.requires.1 l A x h (search (rules, tests)))))
