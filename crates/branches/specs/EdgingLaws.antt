@@ -1,149 +1,164 @@
--- The one edge from a root to a child, atom by atom. Assumes nothing.
-use Rattle.std.specs.Prelude.{Bool, true, false, not, ◌&&◌, ◌||◌, ◌≡◌, refl, Option, Some, None, is_some, List, [], ◌∷◌, ◌++◌, ℕ, ◌+◌, ◌≤◌, ◌<◌, length, get_or, take, drop, eqb}
+-- The one edge from a root to a child, by its place among the atoms. Assumes nothing.
+use Rattle.std.specs.Prelude.{Bool, true, false, not, ◌&&◌, ◌||◌, ◌≡◌, refl, List, [], ◌∷◌, ◌++◌, ℕ, zero, suc, ◌+◌, ◌≤◌, ◌<◌, length, get_or, take, drop, eqb, ltb}
 use Rattle.std.proofs.Math.Bool.{and-false, or-true, or_assoc}
-use Rattle.std.proofs.Common.{sym, ap, ap₂, ◌∙◌, append-nil, append_assoc, arith, add-one, ne_eqb, take-append-drop, drop_of_length-le, length-take-le, take_all, take-suc, drop-cons}
+use Rattle.std.proofs.Common.{sym, ap, ap₂, ◌∙◌, arith, add-one, ne_eqb, take-append-drop, length-take-le, length-drop, drop-cons, get_or-take, get_or-drop}
 use Rattle.std.proofs.lemmas.Bool.{false≢true}
-use Rattle.std.proofs.lemmas.List.{drop-append-le}
+use borrow.Author.Tests.{ltb-true, ltb-false}
 use Rattle.ir.specs.declared.atom.Atom.{Atom}
+use Rattle.ir.specs.declared.atom.Atom.TheVariants.{Class, Exists, AtMost, AtLeast, Equal, Role as RoleAtom}
 use Rattle.rules.specs.Base.{any, contains, kept, filter}
 use Rattle.rules.specs.Branches.{is_edge, tree_vars, mentions}
-use Rattle.branches.specs.Edges.{any_atom, edges_of, inner_of, EdgeIs}
+use Rattle.branches.specs.Edges.{any_atom, edges_of, inner_of, splits, OneEdge}
 
--- ---- tests over two lists
-kept_append : (a : Atom) (l m : List Atom) (b : Bool) → kept a (l ++ m) b ≡ kept a l b ++ m
-kept_append a l m true = refl
-kept_append a l m false = refl
+abbrev pub at : List Atom → ℕ → Atom
+at l k = get_or l k any_atom
 
-filter_append : (p : Atom → Bool) (l m : List Atom) → filter p (l ++ m) ≡ filter p l ++ filter p m
-unfolding filter
-filter_append p [] m = refl
-filter_append p (a ∷ l) m = ap (λ (x : List Atom). kept a x (p a)) (filter_append p l m) ∙ kept_append a (filter p l) (filter p m) (p a)
+-- ---- tests by place
+module _ (p : Atom → Bool) where
+  kept_append : (a : Atom) (l m : List Atom) (b : Bool) → kept a (l ++ m) b ≡ kept a l b ++ m
+  kept_append a l m true = refl
+  kept_append a l m false = refl
 
-filter_first : (p : Atom → Bool) (a : Atom) (l m : List Atom) (b : Bool) → l ≡ a ∷ m → p a ≡ b → filter p l ≡ kept a (filter p m) b
-unfolding filter
-filter_first p a l m b e f = rw (e, f) refl
+  filter_append : (l m : List Atom) → filter p (l ++ m) ≡ filter p l ++ filter p m
+  unfolding filter
+  filter_append [] m = refl
+  filter_append (a ∷ l) m = ap (λ (x : List Atom). kept a x (p a)) (filter_append l m) ∙ kept_append a (filter p l) (filter p m) (p a)
 
-filter_none : (p : Atom → Bool) → filter p [] ≡ []
-unfolding filter
-filter_none p = refl
+  filter_nothing : (l : List Atom) → ((k : ℕ) → k < length l → p (at l k) ≡ false) → filter p l ≡ []
+  unfolding filter
+  filter_nothing [] f = refl
+  filter_nothing (a ∷ l) f = rw (f 0 (omega arith), filter_nothing l (λ k h. f (suc k) (omega arith))) refl
+
+  filter_whole : (l : List Atom) → ((k : ℕ) → k < length l → p (at l k) ≡ true) → filter p l ≡ l
+  unfolding filter
+  filter_whole [] f = refl
+  filter_whole (a ∷ l) f = rw (f 0 (omega arith), filter_whole l (λ k h. f (suc k) (omega arith))) refl
+
+  filter_here : (a : Atom) (l : List Atom) (b : Bool) → p a ≡ b → filter p (a ∷ l) ≡ kept a (filter p l) b
+  unfolding filter
+  filter_here a l b e = rw e refl
+
+  filter_one : (l : List Atom) (i : ℕ) → i < length l → p (at l i) ≡ true → 1 ≤ length (filter p l)
+  unfolding filter
+  filter_one [] i h e = absurd (omega arith)
+  filter_one (a ∷ l) zero h e = rw e (omega arith)
+  filter_one (a ∷ l) (suc i) h e = go (p a) (filter_one l i (omega arith) e)
+    where
+      go : (b : Bool) → 1 ≤ length (filter p l) → 1 ≤ length (kept a (filter p l) b)
+      go true r = omega arith
+      go false r = r
+
+  filter_two : (l : List Atom) (e i : ℕ) → e < i → i < length l → p (at l e) ≡ true → p (at l i) ≡ true → 2 ≤ length (filter p l)
+  unfolding filter
+  filter_two [] e i n h d f = absurd (omega arith)
+  filter_two (a ∷ l) e zero n h d f = absurd (omega arith)
+  filter_two (a ∷ l) zero (suc i) n h d f = let r = filter_one l i (omega arith) f in rw d (omega arith)
+  filter_two (a ∷ l) (suc e) (suc i) n h d f = go (p a) (filter_two l e i (omega arith) (omega arith) d f)
+    where
+      go : (b : Bool) → 2 ≤ length (filter p l) → 2 ≤ length (kept a (filter p l) b)
+      go true r = omega arith
+      go false r = r
+
+  module _ (v : List ℕ) where
+    mentions_in : (l : List Atom) (i : ℕ) → i < length l → p (at l i) ≡ true → any (contains v) (tree_vars (at l i)) ≡ true → mentions v (filter p l) ≡ true
+    unfolding filter
+    mentions_in [] i h e m = absurd (omega arith)
+    mentions_in (a ∷ l) zero h e m = rw (e, m) refl
+    mentions_in (a ∷ l) (suc i) h e m = go (p a) (mentions_in l i (omega arith) e m)
+      where
+        go : (b : Bool) → mentions v (filter p l) ≡ true → mentions v (kept a (filter p l) b) ≡ true
+        go true r = rw r (or-true (any (contains v) (tree_vars a)))
+        go false r = r
+
+mentions_not : (v : List ℕ) (l : List Atom) → ((k : ℕ) → k < length l → any (contains v) (tree_vars (at l k)) ≡ false) → mentions v l ≡ false
+mentions_not v [] f = refl
+mentions_not v (a ∷ l) f = rw (f 0 (omega arith), mentions_not v l (λ k h. f (suc k) (omega arith))) refl
 
 mentions_append : (v : List ℕ) (l m : List Atom) → mentions v (l ++ m) ≡ (mentions v l || mentions v m)
 mentions_append v [] m = refl
 mentions_append v (a ∷ l) m = ap (λ (b : Bool). any (contains v) (tree_vars a) || b) (mentions_append v l m) ∙ sym (or_assoc (any (contains v) (tree_vars a)) (mentions v l) (mentions v m))
 
--- ---- before atom i: e is the one edge, or there is none
-abbrev pub EdgeSoFar : List Atom → ℕ → ℕ → ℕ → Option ℕ → Type 0
-EdgeSoFar l root t i None = (edges_of root t (take i l) ≡ []) × (inner_of root t (take i l) ≡ take i l)
-EdgeSoFar l root t i (Some e) = (e < i) × (edges_of root t (take i l) ≡ get_or l e any_atom ∷ []) × (inner_of root t (take i l) ≡ take e l ++ drop (e + 1) (take i l))
+-- an edge mentions its root
+not_edge : (root t : ℕ) (a : Atom) → any (contains (root ∷ [])) (tree_vars a) ≡ false → is_edge root t a ≡ false
+not_edge root t (Class k v) e = refl
+not_edge root t (RoleAtom r u v) e = go (eqb u root) e
+  where
+    go : (b : Bool) → ((b || false) || ((eqb v root || false) || false)) ≡ false → (b && eqb v t) ≡ false
+    go true e = absurd (false≢true (sym e))
+    go false e = refl
+not_edge root t (Exists r k v) e = refl
+not_edge root t (AtMost r q n v) e = refl
+not_edge root t (AtLeast r q n v) e = refl
+not_edge root t (Equal u v) e = refl
 
-pub record Edging (l : List Atom) (root t : ℕ) (e : Option ℕ) (i : ℕ) : Type 0 where
-  pub here : i ≤ length l
-  pub quiet : mentions (root ∷ []) (inner_of root t (take i l)) ≡ false
-  pub edge : EdgeSoFar l root t i e
+-- ---- the edge at place e, or none
+module _ (l : List Atom) (root t : ℕ) where
+  -- atom k mentions the root, or it does not
+  abbrev pub Rooted : Bool → ℕ → Type 0
+  Rooted b k = any (contains (root ∷ [])) (tree_vars (at l k)) ≡ b
 
-pub edging_start : (l : List Atom) (root t : ℕ) → Edging l root t None 0
-unfolding filter
-edging_start l root t = record { here = omega arith; quiet = refl; edge = (refl, refl) }
+  pub edge_nowhere : ((k : ℕ) → k < length l → is_edge root t (at l k) ≡ false) → splits root t l ≡ false
+  edge_nowhere f = ap (λ (x : List Atom). eqb (length x) 1 && not (mentions (root ∷ []) (inner_of root t l))) (filter_nothing (is_edge root t) l f)
 
-module _ (l : List Atom) (root t i : ℕ) where
-  abbrev inn : Atom → Bool
-  inn a = not (is_edge root t a)
+  module _ (e : ℕ) (h : e < length l) (E : is_edge root t (at l e) ≡ true) where
+    pub edge_second : ((k : ℕ) → k < e → is_edge root t (at l k) ≡ false) → (i : ℕ) → i < length l → (i ≡ e → ⊥) → Rooted true i → splits root t l ≡ false
+    edge_second f i k d m = go (is_edge root t (at l i)) refl
+      where
+        behind : (i : ℕ) → (i ≡ e → ⊥) → is_edge root t (at l i) ≡ true → (b : Bool) → ltb i e ≡ b → e < i
+        behind i d q true z = absurd (false≢true (sym (f i (ltb-true i e z)) ∙ q))
+        behind i d q false z = let g = ltb-false i e z in omega arith
 
-  module _ (h : i < length l) where
-    abbrev a : Atom
-    a = get_or l i any_atom
+        go : (b : Bool) → is_edge root t (at l i) ≡ b → splits root t l ≡ false
+        go true q =
+            let s = behind i d q (ltb i e) refl in
+            let two = filter_two (is_edge root t) l e i s k E q in
+            ap (λ (b : Bool). b && not (mentions (root ∷ []) (inner_of root t l))) (ne_eqb (length (edges_of root t l)) 1 (λ z. omega (arith, two, z)))
+        go false q =
+            let n = mentions_in (λ a. not (is_edge root t a)) (root ∷ []) l i k (ap not q) m in
+            ap (λ (b : Bool). eqb (length (edges_of root t l)) 1 && not b) n ∙ and-false (eqb (length (edges_of root t l)) 1)
 
-    more : take (i + 1) l ≡ take i l ++ (a ∷ [])
-    more = rw (add-one i) (take-suc l i any_atom (omega arith))
+    pub edge_alone : ((k : ℕ) → k < length l → (k ≡ e → ⊥) → Rooted false k) → OneEdge l root t e
+    edge_alone f = record {
+      within = h;
+      one = ap₂ (λ (x : List Atom) (b : Bool). eqb (length x) 1 && not b) edges (ap (mentions (root ∷ [])) inner ∙ quiet);
+      edge = edges;
+      inner = inner;
+    }
+      where
+        front : List Atom
+        front = take e l
 
-    rest : drop i l ≡ a ∷ drop (i + 1) l
-    rest = rw (add-one i) (drop-cons l i any_atom (omega arith))
+        back : List Atom
+        back = drop (e + 1) l
 
-    many : length (take i l) ≡ i
-    many = length-take-le i l (omega arith)
+        split : l ≡ front ++ (at l e ∷ back)
+        split = sym (take-append-drop e l) ∙ ap (λ (x : List Atom). front ++ x) (rw (add-one e) (drop-cons l e any_atom h))
 
-    -- of the first i + 1, and of all
-    module _ (p : Atom → Bool) (b : Bool) (f : p a ≡ b) where
-      filter_more : filter p (take (i + 1) l) ≡ filter p (take i l) ++ kept a [] b
-      filter_more = ap (filter p) more ∙ filter_append p (take i l) (a ∷ []) ∙ ap (λ (x : List Atom). filter p (take i l) ++ x) (filter_first p a (a ∷ []) [] b refl f ∙ ap (λ (x : List Atom). kept a x b) (filter_none p))
+        front_long : length front ≡ e
+        front_long = length-take-le e l (omega arith)
 
-      filter_all : filter p l ≡ filter p (take i l) ++ kept a (filter p (drop (i + 1) l)) b
-      filter_all = ap (filter p) (sym (take-append-drop i l)) ∙ filter_append p (take i l) (drop i l) ∙ ap (λ (x : List Atom). filter p (take i l) ++ x) (filter_first p a (drop i l) (drop (i + 1) l) b rest f)
+        quiet_front : (k : ℕ) → k < length front → any (contains (root ∷ [])) (tree_vars (at front k)) ≡ false
+        quiet_front k q =
+            let j : k < e = omega (arith, front_long) in
+            ap (λ (a : Atom). any (contains (root ∷ [])) (tree_vars a)) (get_or-take e l k any_atom j) ∙ f k (omega arith) (λ z. omega arith)
 
-    module _ (f : is_edge root t a ≡ true) where
-      edges_now : edges_of root t (take (i + 1) l) ≡ edges_of root t (take i l) ++ (a ∷ [])
-      edges_now = filter_more (is_edge root t) true f
+        quiet_back : (k : ℕ) → k < length back → any (contains (root ∷ [])) (tree_vars (at back k)) ≡ false
+        quiet_back k q =
+            ap (λ (a : Atom). any (contains (root ∷ [])) (tree_vars a)) (get_or-drop (e + 1) l k any_atom) ∙ f (e + 1 + k) (omega (arith, length-drop (e + 1) l)) (λ z. omega arith)
 
-      inner_now : inner_of root t (take (i + 1) l) ≡ inner_of root t (take i l)
-      inner_now = filter_more inn false (ap not f) ∙ append-nil (inner_of root t (take i l))
+        edges : edges_of root t l ≡ at l e ∷ []
+        edges =
+            let p = is_edge root t in
+            ap (filter p) split ∙ filter_append p front (at l e ∷ back)
+            ∙ ap₂ (λ (x y : List Atom). x ++ y) (filter_nothing p front (λ k q. not_edge root t (at front k) (quiet_front k q)))
+            (filter_here p (at l e) back true E ∙ ap (λ (x : List Atom). at l e ∷ x) (filter_nothing p back (λ k q. not_edge root t (at back k) (quiet_back k q))))
 
-      pub edging_found : (e : Option ℕ) → is_some e ≡ false → Edging l root t e i → Edging l root t (Some i) (i + 1)
-      edging_found (Some e) n E = absurd (false≢true (sym n))
-      edging_found None n E =
-          let z : drop (i + 1) (take (i + 1) l) ≡ [] = drop_of_length-le (take (i + 1) l) {i = i + 1} (omega (arith, length-take-le (i + 1) l (omega arith))) in
-          record {
-            here = omega arith;
-            quiet = ap (mentions (root ∷ [])) inner_now ∙ E.quiet;
-            edge = (
-              omega arith,
-              edges_now ∙ ap (λ (x : List Atom). x ++ (a ∷ [])) E.edge.0,
-              inner_now ∙ E.edge.1 ∙ sym (append-nil (take i l)) ∙ ap (λ (x : List Atom). take i l ++ x) (sym z),
-            );
-          }
+        inner : inner_of root t l ≡ front ++ back
+        inner =
+            let p = λ (a : Atom). not (is_edge root t a) in
+            ap (filter p) split ∙ filter_append p front (at l e ∷ back)
+            ∙ ap₂ (λ (x y : List Atom). x ++ y) (filter_whole p front (λ k q. ap not (not_edge root t (at front k) (quiet_front k q))))
+            (filter_here p (at l e) back false (ap not E) ∙ filter_whole p back (λ k q. ap not (not_edge root t (at back k) (quiet_back k q))))
 
-      pub edging_second : (e : Option ℕ) → is_some e ≡ true → Edging l root t e i → EdgeIs l root t None
-      edging_second (Some e) n E =
-          let q : edges_of root t l ≡ get_or l e any_atom ∷ a ∷ edges_of root t (drop (i + 1) l) = filter_all (is_edge root t) true f ∙ ap (λ (x : List Atom). x ++ (a ∷ edges_of root t (drop (i + 1) l))) E.edge.1 in
-          let s : eqb (length (edges_of root t l)) 1 ≡ false = ne_eqb (length (edges_of root t l)) 1 (λ (z : length (edges_of root t l) ≡ 1). omega (arith, ap length q, z)) in
-          ap (λ (b : Bool). b && not (mentions (root ∷ []) (inner_of root t l))) s
-      edging_second None n E = absurd (false≢true n)
-
-    module _ (f : is_edge root t a ≡ false) where
-      edges_same : edges_of root t (take (i + 1) l) ≡ edges_of root t (take i l)
-      edges_same = filter_more (is_edge root t) false f ∙ append-nil (edges_of root t (take i l))
-
-      inner_more : inner_of root t (take (i + 1) l) ≡ inner_of root t (take i l) ++ (a ∷ [])
-      inner_more = filter_more inn true (ap not f)
-
-      so_far : (e : Option ℕ) → EdgeSoFar l root t i e → EdgeSoFar l root t (i + 1) e
-      so_far None E = (edges_same ∙ E.0, inner_more ∙ ap (λ (x : List Atom). x ++ (a ∷ [])) E.1 ∙ sym more)
-      so_far (Some e) E = (
-        omega (arith, E.0),
-        edges_same ∙ E.1,
-        inner_more ∙ ap (λ (x : List Atom). x ++ (a ∷ [])) E.2 ∙ append_assoc (take e l) (drop (e + 1) (take i l)) (a ∷ [])
-            ∙ ap (λ (x : List Atom). take e l ++ x) (sym (drop-append-le (e + 1) (take i l) (a ∷ []) (omega (arith, many, E.0))) ∙ ap (drop (e + 1)) (sym more)),
-      )
-
-      pub edging_on : (e : Option ℕ) → any (contains (root ∷ [])) (tree_vars a) ≡ false → Edging l root t e i → Edging l root t e (i + 1)
-      edging_on e g E =
-          let m : mentions (root ∷ []) (a ∷ []) ≡ false = ap (λ (b : Bool). b || false) g in
-          record {
-            here = omega arith;
-            quiet = ap (mentions (root ∷ [])) inner_more ∙ mentions_append (root ∷ []) (inner_of root t (take i l)) (a ∷ []) ∙ ap₂ (λ (b c : Bool). b || c) E.quiet m;
-            edge = so_far e E.edge;
-          }
-
-      pub edging_rooted : any (contains (root ∷ [])) (tree_vars a) ≡ true → EdgeIs l root t None
-      edging_rooted g =
-          let xs = inner_of root t (take i l) in
-          let ys = inner_of root t (drop (i + 1) l) in
-          let m : mentions (root ∷ []) (a ∷ ys) ≡ true = ap (λ (b : Bool). b || mentions (root ∷ []) ys) g in
-          let s : mentions (root ∷ []) (inner_of root t l) ≡ true =
-          ap (mentions (root ∷ [])) (filter_all inn true (ap not f)) ∙ mentions_append (root ∷ []) xs (a ∷ ys) ∙ ap (λ (b : Bool). mentions (root ∷ []) xs || b) m ∙ or-true (mentions (root ∷ []) xs) in
-          ap (λ (b : Bool). eqb (length (edges_of root t l)) 1 && not b) s ∙ and-false (eqb (length (edges_of root t l)) 1)
-
-  module _ (h : length l ≤ i) where
-    all : take i l ≡ l
-    all = take_all i l (omega arith)
-
-    pub edging_end : (e : Option ℕ) → Edging l root t e i → EdgeIs l root t e
-    edging_end None E = ap (λ (x : List Atom). eqb (length x) 1 && not (mentions (root ∷ []) (inner_of root t l))) (ap (edges_of root t) (sym all) ∙ E.edge.0)
-    edging_end (Some e) E =
-        let n : mentions (root ∷ []) (inner_of root t l) ≡ false = ap (λ (x : List Atom). mentions (root ∷ []) (inner_of root t x)) (sym all) ∙ E.quiet in
-        let k : edges_of root t l ≡ get_or l e any_atom ∷ [] = ap (edges_of root t) (sym all) ∙ E.edge.1 in
-        record {
-          within = omega (arith, E.edge.0, E.here);
-          one = ap₂ (λ (x : List Atom) (b : Bool). eqb (length x) 1 && not b) k n;
-          edge = k;
-          inner = ap (inner_of root t) (sym all) ∙ E.edge.2 ∙ ap (λ (x : List Atom). take e l ++ drop (e + 1) x) all;
-        }
+        quiet : mentions (root ∷ []) (front ++ back) ≡ false
+        quiet = mentions_append (root ∷ []) front back ∙ ap₂ (λ (x y : Bool). x || y) (mentions_not (root ∷ []) front quiet_front) (mentions_not (root ∷ []) back quiet_back)

@@ -1,5 +1,5 @@
 // The edge from a root to a child, and the variables to keep.
-ghost use Rattle.std.specs.Prelude.{◌≡◌, Bool, List, ℕ, ◌+◌, ◌*◌, ◌<◌, ◌≤◌, length, get_or};
+ghost use Rattle.std.specs.Prelude.{◌≡◌, Bool, List, [], ◌∷◌, ℕ, ◌+◌, ◌*◌, ◌<◌, ◌≤◌, length, get_or};
 ghost use Rattle.words.specs.Words.{words};
 ghost use Rattle.ir.specs.declared.atom.Atom.{Atom};
 ghost use Rattle.rules.specs.Base.{any, contains};
@@ -57,24 +57,25 @@ fn is_edge(scratch: &[u8], i: usize, root: u32, t: u32) -> bool
     atom::kind(scratch, i) == ROLE && atom::var(scratch, i) == root && atom::other(scratch, i) == t
 }
 
+// Atom i, a class or role atom, mentions the root.
+fn mentions_root(scratch: &[u8], i: usize, root: u32) -> bool
+    requires { (24 * i + 24 ≤ length scratch.now) × (get_or (words scratch.now) (6 * i) 0 < 3) }
+    ensures { (a : Atom) → WordsAre (words scratch.now) (6 * i) a → result ≡ any (contains (root ∷ [])) (tree_vars a) }
+{
+    any_var(scratch, i, |v| v == root)
+}
+
 // The one edge from the root to t, if nothing else mentions the root.
 pub fn only_edge(scratch: &[u8], atoms: Atoms, root: u32, t: u32) -> Option<u32>
     requires { TameThere (words scratch.now) atoms.base atoms.count × (atoms.base + atoms.count ≤ copy_at) × (4 * work_words ≤ length scratch.now) }
     ensures { (l : List Atom) → AtomsAre (words scratch.now) atoms.base atoms.count l → EdgeIs l root t result }
 {
-    let mut found = None;
-    for i in 0..atoms.count {
-        let at = atoms.base + i as usize;
-        if is_edge(scratch, at, root, t) {
-            if found.is_some() {
-                return None;
-            }
-            found = Some(i);
-        } else if any_var(scratch, at, |v| v == root) {
-            return None;
-        }
+    let n = atoms.count as usize;
+    let e = (0..n).position(|i| is_edge(scratch, atoms.base + i, root, t))?;
+    if (0..n).any(|i| i != e && mentions_root(scratch, atoms.base + i, root)) {
+        return None;
     }
-    found
+    Some(e as u32)
 }
 
 // Atom e comes first; the others keep their order.
