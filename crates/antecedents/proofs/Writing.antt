@@ -32,7 +32,7 @@ use Rattle.pool.specs.Tabs.{tab_next, tab_end, each_tab}
 use Rattle.inverse.specs.Layout.{RolesHeld}
 use Rattle.antecedents.specs.declared.write.Chosen.{Chosen}
 use Rattle.antecedents.specs.declared.write.Part.{Part}
-use Rattle.antecedents.specs.Stands.{Listed}
+use Rattle.antecedents.specs.Stands.{Listed, list_in}
 use Rattle.antecedents.specs.Kinds.{at_top, at_class, at_nominal, at_and, at_or, at_some, Other, by_other}
 use Rattle.antecedents.specs.Table.{size_in, vars_in, plus_vars}
 use Rattle.antecedents.specs.Picks.{Pick, pick_and, pick_or, pick_step, pick_alt, put_at, write_on}
@@ -204,8 +204,8 @@ module _ (base : ℕ) (w : List ℕ) (c kind a b : ℕ) (h : Here w c kind a b) 
   unfolding write_on
   is_nominal e w' r p = step_is (Nominal a) (rw h.a_is (at_nominal w c (kind_in_lem 4 e))) w' r (put_kept w q (Class (base + a) v) w' r p) (λ w₀ n f canon R l m. p)
 
-  pub is_and : kind ≡ 7 → (w' : List ℕ) (r : ℕ) → WroteAll base w c b a v y k q w' r → Wrote base w c v y k q w' r
-  is_and e w' r p = step_is (And (run w (members_at + b) a)) (rw (h.a_is, h.b_is) (at_and w c (kind_in_lem 7 e))) w' r p.kept (λ w₀ n f canon R l m. p.same w₀ n f canon R l m)
+  pub is_and : kind ≡ 7 → (w' : List ℕ) (r : ℕ) → WroteAll base w c v y k q w' r → Wrote base w c v y k q w' r
+  is_and e w' r p = step_is (And (list_in w c)) (at_and w c (kind_in_lem 7 e)) w' r p.kept (λ w₀ n f canon R l m. p.same w₀ n f canon R l m)
 
   -- the chosen disjunct's
   or_is : kind ≡ 8 → Listed w c b a → (x : Option Chosen) → x ≡ chosen_of w (run w (members_at + b) a) y k → (w' : List ℕ) (r : ℕ) → Kept w q w' r
@@ -260,12 +260,13 @@ module _ (base : ℕ) (w₁ : List ℕ) (c start many v y k q r₀ : ℕ) where
   turn_first = record { within = omega arith; kept = kept_none w₁ q; rest = λ w₀ n f canon R l m. rw (add-zero (members_at + start), sub-zero many) refl }
 
   module _ (w : List ℕ) (o u r j i : ℕ) (turn : Turn base w₁ c start many v y k q r₀ w o u r j i) where
-    pub turn_end : many ≤ i → r₀ ≡ size_in w₁ c → WroteAll base w₁ c start many v y k q w o
+    pub turn_end : many ≤ i → r₀ ≡ size_in w₁ c → run w₁ (members_at + start) many ≡ list_in w₁ c → WroteAll base w₁ c v y k q w o
     unfolding pick_and write_on
-    turn_end h e = record {
+    turn_end h e is = record {
       kept = turn.kept;
       same = λ w₀ n f canon R l m.
-          sym (ap (λ (z : ℕ). write_on (w₁, q) (pick_and w₀ (pick_alt canon base (pool_of w₀ n) w₀ f) v (run w₁ (members_at + start) many) y z k)) (sym (e ∙ size_like w₁ w₀ n canon R c l))
+          sym (ap (λ (z : List ℕ). write_on (w₁, q) (pick_and w₀ (pick_alt canon base (pool_of w₀ n) w₀ f) v z y (size_in w₀ c) k)) is)
+          ∙ sym (ap (λ (z : ℕ). write_on (w₁, q) (pick_and w₀ (pick_alt canon base (pool_of w₀ n) w₀ f) v (run w₁ (members_at + start) many) y z k)) (sym (e ∙ size_like w₁ w₀ n canon R c l))
           ∙ turn.rest w₀ n f canon R l m
           ∙ ap (λ (z : List ℕ). write_on (w, o) (pick_and w₀ (pick_alt canon base (pool_of w₀ n) w₀ f) v z u r j)) (tab_end (λ n. get_or w₁ n 0) (members_at + start) i many h));
     }

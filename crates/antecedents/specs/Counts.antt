@@ -11,6 +11,8 @@ use Rattle.ir.specs.Encoded.{Found, Unsupported, Refused}
 use Rattle.rules.specs.Concept.{Concept}
 use Rattle.rules.specs.Concept.{Top, Bot, Atomic, Nominal, SelfRestriction, Not, And, Or, Some, All, Min, Max}
 use Rattle.rules.specs.Pool.{Pool, at}
+use Rattle.pool.specs.declared.joint.Joint.{Joint}
+use Rattle.pool.specs.declared.joint.Joint.TheVariants.{And as AndJoint, Or as OrJoint}
 use Rattle.tables.specs.Good.{Good}
 
 -- n alternatives, the longest of length l, with m of length j: every combination, and one list behind the other
@@ -22,7 +24,12 @@ crossed k n l m j =
 abbrev pub listed : Counters → ℕ → ℕ → ℕ → ℕ → Encoded
 listed k n l m j = pick (leb (n + m) 64) (Found k (n + m) (max l j)) (Unsupported k)
 
--- a part of an And (true) or Or more
+-- And is true, Or false, in what follows
+abbrev pub is_conj : Joint → Bool
+is_conj AndJoint = true
+is_conj OrJoint = false
+
+-- a part of an And or Or more
 abbrev pub joined : Bool → ℕ → ℕ → Encoded → Encoded
 joined true n l (Found k m j) = crossed k n l m j
 joined false n l (Found k m j) = listed k n l m j

@@ -23,6 +23,7 @@ use Rattle.inverse.specs.Layout.{RolesHeld}
 use Rattle.tables.specs.Good.{most_names}
 use Rattle.antecedents.specs.declared.write.Chosen.{Chosen}
 use Rattle.antecedents.specs.declared.write.Part.{Part}
+use Rattle.antecedents.specs.Stands.{list_in}
 use Rattle.antecedents.specs.States.{Fine}
 use Rattle.antecedents.specs.Table.{size_in, vars_in, plus_vars}
 use Rattle.antecedents.specs.Picks.{pick_and, pick_alt, put_at, write_on}
@@ -68,10 +69,10 @@ pub record Wrote (base : ℕ) (w : List ℕ) (c v y k at : ℕ) (w' : List ℕ) 
   pub same : (w₀ : List ℕ) (n f : ℕ) (canon : InverseCanon) → Reads w w₀ n canon → c < n → c < f → (w', r) ≡ write_on (w, at) (pick_alt canon base (pool_of w₀ n) w₀ f c v y k)
 
 -- the parts of an And's k-th alternative are written
-pub record WroteAll (base : ℕ) (w : List ℕ) (c start many v y k at : ℕ) (w' : List ℕ) (r : ℕ) : Type 0 where
+pub record WroteAll (base : ℕ) (w : List ℕ) (c v y k at : ℕ) (w' : List ℕ) (r : ℕ) : Type 0 where
   pub kept : Kept w at w' r
   pub same : (w₀ : List ℕ) (n f : ℕ) (canon : InverseCanon) → Reads w w₀ n canon → c < n → c ≤ f
-      → (w', r) ≡ write_on (w, at) (pick_and w₀ (pick_alt canon base (pool_of w₀ n) w₀ f) v (run w (members_at + start) many) y (size_in w₀ c) k)
+      → (w', r) ≡ write_on (w, at) (pick_and w₀ (pick_alt canon base (pool_of w₀ n) w₀ f) v (list_in w c) y (size_in w₀ c) k)
 
 -- the disjunct that holds the k-th alternative
 unfoldable pub chosen_of : List ℕ → List ℕ → ℕ → ℕ → Option Chosen

@@ -2,13 +2,15 @@
 ghost use Rattle.words.specs.Words.{words};
 ghost use Rattle.ir.specs.Encoded.{Found};
 ghost use Rattle.tables.specs.Good.{Good};
-ghost use Rattle.antecedents.specs.Stands.{Stands, Listed, Counts, CountsAll};
+ghost use Rattle.antecedents.specs.Counts.{is_conj};
+ghost use Rattle.antecedents.specs.Stands.{Stands, HasList, Counts, CountsAll};
 ghost use Rattle.ir.specs.Encoded.{encoded};
 
 use crate::numbers;
 use ir::answer::Alternatives;
 use ir::counters::Counters;
 use ir::refusal::Refusal;
+use pool::joint::Joint;
 use pool::{layout, record};
 
 // One alternative: of no atom, and of one.
@@ -22,30 +24,30 @@ const CLASS: Alternatives = Alternatives {
     longest: 1,
 };
 
-// The parts of an And (both) or Or, in order.
+// The parts of c's list, in order: And has one alternative before the first, Or none. A loop and no fold, as in the other crates: the answer is
+// of two types, and what a part refuses goes out at once.
 #[cycle(encode_antecedent_encode_parts)]
 fn encode_parts(
     scratch: &[u8],
     k: &mut Counters,
     c: u32,
-    start: u32,
-    many: u32,
     first: u32,
-    both: bool,
+    joint: Joint,
 ) -> Result<Option<Alternatives>, Refusal>
-    requires { Stands scratch.now c × Listed (words scratch.now) c start many × Good k.old }
-    ensures { CountsAll (words scratch.now) both c start many (Found k.old first 0) (encoded k.new result) }
+    requires { Stands scratch.now c × HasList (words scratch.now) c × Good k.old }
+    ensures { CountsAll (words scratch.now) (is_conj joint) c (Found k.old first 0) (encoded k.new result) }
 {
+    let start = record::child(scratch, c);
     let mut acc = Alternatives {
         count: first,
         longest: 0,
     };
-    for i in 0..many {
+    for i in 0..record::number(scratch, c) {
         let x = record::member(scratch, start + i);
         let Some(part) = encode_antecedent(scratch, k, x)? else {
             return Ok(None);
         };
-        let Some(more) = numbers::join_numbers(both, acc, part)? else {
+        let Some(more) = numbers::join_numbers(joint, acc, part)? else {
             return Ok(None);
         };
         acc = more;
@@ -63,17 +65,15 @@ pub fn encode_antecedent(
     ensures { Counts (words scratch.now) k.old c (encoded k.new result) }
 {
     k.visit()?;
-    let kind = record::kind(scratch, c);
-    let a = record::number(scratch, c);
-    let b = record::child(scratch, c);
-    match kind {
+    // By number, as the rules' concept_at goes: an enum would be made by a match over the same numbers.
+    match record::kind(scratch, c) {
         layout::TOP => Ok(Some(TOP)),
-        layout::ATOMIC => Ok(Some(CLASS)),
-        layout::NOMINAL => Ok(Some(CLASS)),
-        layout::AND => encode_parts(scratch, k, c, b, a, 1, true),
-        layout::OR => encode_parts(scratch, k, c, b, a, 0, false),
+        layout::ATOMIC | layout::NOMINAL => Ok(Some(CLASS)),
+        layout::AND => encode_parts(scratch, k, c, 1, Joint::And),
+        layout::OR => encode_parts(scratch, k, c, 0, Joint::Or),
         layout::SOME => {
             k.fresh_var();
+            let b = record::child(scratch, c);
             let Some(inner) = encode_antecedent(scratch, k, b)? else {
                 return Ok(None);
             };

@@ -3,11 +3,12 @@ ghost use Rattle.std.specs.Prelude.{◌≡◌, ◌/◌, ◌%◌, MatchResult};
 ghost use Rattle.ir.specs.Encoded.{encoded, Found, Refused};
 ghost use Rattle.ir.specs.Refusals.{refusal_number};
 ghost use Rattle.ir.specs.declared.counters.Counters.{Counters};
-ghost use Rattle.antecedents.specs.Counts.{crossed, listed, joined, under};
+ghost use Rattle.antecedents.specs.Counts.{is_conj, crossed, listed, joined, under};
 ghost use Rattle.antecedents.specs.Table.{join_size};
 
 use ir::answer::Alternatives;
 use ir::refusal::Refusal;
+use pool::joint::Joint;
 
 // ANTECEDENT_DNF_CAP, and the most atoms of a body in hand.
 const CAP: u32 = 64;
@@ -47,19 +48,17 @@ fn list_numbers(a: Alternatives, b: Alternatives) -> Result<Option<Alternatives>
     Ok(Some(Alternatives { count, longest }))
 }
 
-// Of a part b of an And (both) or Or more. The flag is the definition's own Bool, here and in what calls this: a closure in its place would
-// need its own name for what each of the two says.
+// Of a part b more.
 pub fn join_numbers(
-    both: bool,
+    joint: Joint,
     a: Alternatives,
     b: Alternatives,
 ) -> Result<Option<Alternatives>, Refusal>
-    ensures { (k : Counters) → encoded k result ≡ joined both a.count a.longest (Found k b.count b.longest) }
+    ensures { (k : Counters) → encoded k result ≡ joined (is_conj joint) a.count a.longest (Found k b.count b.longest) }
 {
-    if both {
-        cross_numbers(a, b)
-    } else {
-        list_numbers(a, b)
+    match joint {
+        Joint::And => cross_numbers(a, b),
+        Joint::Or => list_numbers(a, b),
     }
 }
 
@@ -83,13 +82,12 @@ pub fn put_under(a: Alternatives) -> Result<Alternatives, Refusal>
 }
 
 // Of alternatives, up to 64; more are 65.
-pub fn join_size(both: bool, a: u32, n: u32) -> u32
-    ensures { result ≡ join_size both a n }
+pub fn join_size(joint: Joint, a: u32, n: u32) -> u32
+    ensures { result ≡ join_size (is_conj joint) a n }
 {
-    if both {
-        a.saturating_mul(n).min(65)
-    } else {
-        a.saturating_add(n).min(65)
+    match joint {
+        Joint::And => a.saturating_mul(n).min(65),
+        Joint::Or => a.saturating_add(n).min(65),
     }
 }
 

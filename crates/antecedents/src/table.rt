@@ -3,12 +3,14 @@ ghost use Rattle.std.specs.Prelude.{◌≡◌, ◌+◌, ◌*◌, ◌≤◌, ◌<
 ghost use Rattle.words.specs.Words.{words};
 ghost use Rattle.ir.specs.Scratch.{alternatives_at, axioms_at};
 ghost use Rattle.rules.specs.Pool.{most_concepts};
-ghost use Rattle.pool.specs.Layout.{members_at, run, concept_at};
-ghost use Rattle.antecedents.specs.Stands.{Stands, Listed};
+ghost use Rattle.pool.specs.Layout.{concept_at};
+ghost use Rattle.antecedents.specs.Counts.{is_conj};
+ghost use Rattle.antecedents.specs.Stands.{Stands, HasList, list_in};
 ghost use Rattle.antecedents.specs.Table.{size_in, vars_in, size_all, vars_all, size_of, vars_of};
 
 use crate::numbers;
 use ir::scratch::ALTERNATIVES;
+use pool::joint::Joint;
 use pool::layout::{AND, ATOMIC, NOMINAL, OR, SOME, TOP};
 use pool::record;
 
@@ -34,16 +36,17 @@ pub fn vars_of(scratch: &[u8], c: u32) -> u32
     words::get_word(scratch, at)
 }
 
-// The row of an And (both) or Or.
-fn list_row(scratch: &[u8], c: u32, start: u32, many: u32, first: u32, both: bool) -> Row
-    requires { (c < most_concepts) × (4 * axioms_at ≤ length scratch.now) × Listed (words scratch.now) c start many }
-    ensures { (result.size ≡ size_all (words scratch.now) both (run (words scratch.now) (members_at + start) many) first) × (result.vars ≡ vars_all (words scratch.now) (run (words scratch.now) (members_at + start) many) 0) }
+// The row of c's list.
+fn list_row(scratch: &[u8], c: u32, first: u32, joint: Joint) -> Row
+    requires { (c < most_concepts) × (4 * axioms_at ≤ length scratch.now) × HasList (words scratch.now) c }
+    ensures { (result.size ≡ size_all (words scratch.now) (is_conj joint) (list_in (words scratch.now) c) first) × (result.vars ≡ vars_all (words scratch.now) (list_in (words scratch.now) c) 0) }
 {
+    let start = record::child(scratch, c);
     let mut size = first;
     let mut vars: u32 = 0;
-    for i in 0..many {
+    for i in 0..record::number(scratch, c) {
         let x = record::member(scratch, start + i);
-        size = numbers::join_size(both, size, size_of(scratch, x));
+        size = numbers::join_size(joint, size, size_of(scratch, x));
         vars = vars.saturating_add(vars_of(scratch, x));
     }
     Row { size, vars }
@@ -53,16 +56,13 @@ pub fn row_of(scratch: &[u8], c: u32) -> Row
     requires { Stands scratch.now c × (4 * axioms_at ≤ length scratch.now) }
     ensures { (result.size ≡ size_of (words scratch.now) (concept_at (words scratch.now) c)) × (result.vars ≡ vars_of (words scratch.now) (concept_at (words scratch.now) c)) }
 {
-    let kind = record::kind(scratch, c);
-    let a = record::number(scratch, c);
-    let b = record::child(scratch, c);
-    match kind {
-        TOP => Row { size: 1, vars: 0 },
-        ATOMIC => Row { size: 1, vars: 0 },
-        NOMINAL => Row { size: 1, vars: 0 },
-        AND => list_row(scratch, c, b, a, 1, true),
-        OR => list_row(scratch, c, b, a, 0, false),
+    // By number, as the rules' concept_at goes: an enum would be made by a match over the same numbers.
+    match record::kind(scratch, c) {
+        TOP | ATOMIC | NOMINAL => Row { size: 1, vars: 0 },
+        AND => list_row(scratch, c, 1, Joint::And),
+        OR => list_row(scratch, c, 0, Joint::Or),
         SOME => {
+            let b = record::child(scratch, c);
             let size = size_of(scratch, b);
             let vars = vars_of(scratch, b).saturating_add(1);
             Row { size, vars }

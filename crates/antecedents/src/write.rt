@@ -5,8 +5,8 @@ ghost use Rattle.ir.specs.Records.{Fits};
 ghost use Rattle.ir.specs.Scratch.{axioms_at, hands_at};
 ghost use Rattle.rules.specs.Deck.{most_roles};
 ghost use Rattle.rules.specs.Pool.{most_concepts, most_members};
-ghost use Rattle.pool.specs.Layout.{members_at, run, field};
-ghost use Rattle.antecedents.specs.Stands.{Listed};
+ghost use Rattle.pool.specs.Layout.{members_at, field};
+ghost use Rattle.antecedents.specs.Stands.{HasList, list_in};
 ghost use Rattle.antecedents.specs.Picks.{put_at};
 ghost use Rattle.antecedents.specs.Writes.{Writable, WroteRole, Wrote, WroteAll, chosen_of, PartIs};
 
@@ -58,13 +58,14 @@ fn put_role(scratch: &mut [u8], at: usize, c: u32, v: u32, y: u32) -> usize
 }
 
 // The disjunct among c's list that holds the k-th alternative.
-fn disjunct(scratch: &[u8], c: u32, start: u32, many: u32, y: u32, k: u32) -> Option<Chosen>
-    requires { (c < most_concepts) × (4 * axioms_at ≤ length scratch.now) × Listed (words scratch.now) c start many }
-    ensures { result ≡ chosen_of (words scratch.now) (run (words scratch.now) (members_at + start) many) y k }
+fn disjunct(scratch: &[u8], c: u32, y: u32, k: u32) -> Option<Chosen>
+    requires { (c < most_concepts) × (4 * axioms_at ≤ length scratch.now) × HasList (words scratch.now) c }
+    ensures { result ≡ chosen_of (words scratch.now) (list_in (words scratch.now) c) y k }
 {
+    let start = record::child(scratch, c);
     let mut w = y;
     let mut j = k;
-    for i in 0..many {
+    for i in 0..record::number(scratch, c) {
         let x = record::member(scratch, start + i);
         let size = table::size_of(scratch, x);
         if j < size {
@@ -106,20 +107,19 @@ fn write_parts(
     base: u32,
     at: usize,
     c: u32,
-    start: u32,
-    many: u32,
     v: u32,
     y: u32,
     k: u32,
 ) -> usize
-    requires { Writable scratch.old base c × (hands_at ≤ 6 * at) × Listed (words scratch.old) c start many }
-    ensures { WroteAll base (words scratch.old) c start many v y k at (words scratch.new) result }
+    requires { Writable scratch.old base c × (hands_at ≤ 6 * at) × HasList (words scratch.old) c }
+    ensures { WroteAll base (words scratch.old) c v y k at (words scratch.new) result }
 {
+    let start = record::child(scratch, c);
     let mut p = at;
     let mut w = y;
     let mut r = table::size_of(scratch, c);
     let mut j = k;
-    for i in 0..many {
+    for i in 0..record::number(scratch, c) {
         let q = next_part(scratch, start + i, r, j, w);
         p = write_one(scratch, base, p, q.id, v, w, q.digit);
         r = q.left;
@@ -135,23 +135,25 @@ pub fn write_one(scratch: &mut [u8], base: u32, at: usize, c: u32, v: u32, y: u3
     requires { Writable scratch.old base c × (hands_at ≤ 6 * at) }
     ensures { Wrote base (words scratch.old) c v y k at (words scratch.new) result }
 {
-    let kind = record::kind(scratch, c);
-    let a = record::number(scratch, c);
-    let b = record::child(scratch, c);
-    match kind {
+    // By number, as the rules' concept_at goes: an enum would be made by a match over the same numbers.
+    match record::kind(scratch, c) {
         TOP => at,
-        ATOMIC => put(scratch, at, Atom::Class(a, v)),
-        NOMINAL => {
-            let class = base + a;
+        ATOMIC => {
+            let class = record::number(scratch, c);
             put(scratch, at, Atom::Class(class, v))
         }
-        AND => write_parts(scratch, base, at, c, b, a, v, y, k),
-        OR => match disjunct(scratch, c, b, a, y, k) {
+        NOMINAL => {
+            let class = base + record::number(scratch, c);
+            put(scratch, at, Atom::Class(class, v))
+        }
+        AND => write_parts(scratch, base, at, c, v, y, k),
+        OR => match disjunct(scratch, c, y, k) {
             Some(q) => write_one(scratch, base, at, q.id, v, q.var, q.index),
             None => at,
         },
         SOME => {
             let p = put_role(scratch, at, c, v, y);
+            let b = record::child(scratch, c);
             let w = y.saturating_add(1);
             write_one(scratch, base, p, b, y, w, k)
         }

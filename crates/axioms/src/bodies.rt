@@ -13,14 +13,12 @@ ghost use Rattle.axioms.specs.Bodies.{Encoding, Sourced, gives_class, Bodied, Bo
 ghost use Rattle.ir.specs.Answer.{done};
 ghost use Rattle.tables.specs.Lending.{SameReferences};
 
+use hands::HAND;
 use heads::emit;
 use ir::atom::Atom;
 use ir::counters::Counters;
 use ir::refusal::Refusal;
 use tables::lent::Tables;
-
-// The first atom in hand: word HANDS.
-pub const HAND: usize = 13500;
 
 // Each alternative of `sub` gives the class. Beside emit_bodies, and no closure for both: what the steps have (no deferrals), ask (room
 // in scratch) and promise (the limits that wait) differs, and each loop is three lines.

@@ -13,8 +13,8 @@ ghost use Rattle.axioms.specs.RoleAxioms.{hand_at, domain_or_range};
 ghost use Rattle.ir.specs.Answer.{done};
 ghost use Rattle.tables.specs.Lending.{SameReferences};
 
-use crate::bodies::HAND;
 use crate::roles;
+use hands::HAND;
 use heads::emit;
 use ir::atom::Atom;
 use ir::record;

@@ -13,7 +13,7 @@ ghost use Rattle.ir.specs.Records.{Fits};
 ghost use Rattle.axioms.specs.RoleAxioms.{hand_at, in_hand_bytes, irreflexive, second_atom, not_both};
 ghost use Rattle.ir.specs.Answer.{done};
 
-use crate::bodies::HAND;
+use hands::HAND;
 use ir::atom::Atom;
 use ir::counters::Counters;
 use ir::record;

@@ -15,14 +15,12 @@ ghost use Rattle.contraction.specs.InHands.{in_hand_bytes, ClauseInHand, PlainRu
 ghost use Rattle.contraction.specs.SameLaws.{same_runs};
 ghost use Rattle.contraction.specs.Sizes.{has_size};
 
+use hands::HAND;
 use ir::atom::Atom;
 use ir::record;
 use ir::role::Role;
 use reflexive::ids::FLAGS;
 use tables::read;
-
-// The first atom in hand: word HANDS.
-pub const HAND: usize = 13500;
 
 // Whether a role is reflexive.
 pub fn is_flagged(scratch: &[u8], role: Role) -> bool

@@ -17,7 +17,7 @@ ghost use Rattle.contraction.specs.InHands.{hand_at, in_hand_bytes, ClauseInHand
 ghost use Rattle.contraction.specs.Contracting.{Substituted};
 
 use crate::clause;
-use crate::clause::HAND;
+use hands::HAND;
 use ir::atom::Atom;
 use ir::{atom, record};
 

@@ -17,7 +17,7 @@ ghost use Rattle.counted.specs.VarLaws.{VarsThere};
 ghost use Rattle.ir.specs.Answer.{done};
 
 use contraction::clause;
-use contraction::clause::HAND;
+use hands::HAND;
 use ir::atom::Atom;
 use ir::counters::Counters;
 use ir::record;

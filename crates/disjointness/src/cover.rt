@@ -12,7 +12,7 @@ ghost use Rattle.disjointness.specs.Covers.{Members, HeadsDid};
 ghost use Rattle.ir.specs.Answer.{done};
 ghost use Rattle.tables.specs.Lending.{SameReferences};
 
-use axioms::bodies::HAND;
+use hands::HAND;
 use ir::atom::Atom;
 use ir::counters::Counters;
 use ir::deferral::Deferral;

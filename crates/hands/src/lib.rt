@@ -16,6 +16,10 @@ ghost use Rattle.hands.specs.Hands.{InHand, four, Did};
 use ir::atom::Atom;
 use ir::counters::Counters;
 use ir::refusal::Refusal;
+use ir::scratch::HANDS;
+
+// The first atom in hand: word HANDS, of six words.
+pub const HAND: usize = HANDS / 6;
 
 // The clause of the n atoms from `base` on as its body, and of the m behind them as its head.
 pub fn push_run(

@@ -11,6 +11,7 @@ ghost use Rattle.leaves.specs.Reading.{Reading};
 
 use ir::counters::Counters;
 use ir::options;
+use pool::layout::{ATOMIC, MAX, NOMINAL, TOP};
 use pool::record as concept;
 
 // Whether a name of concept d is a fresh one.
@@ -19,9 +20,7 @@ fn named_anew(scratch: &[u8], k: Counters, d: u32) -> bool
     ensures { result ≡ anew (concept_at (words scratch.now) d) }
 {
     match concept::kind(scratch, d) {
-        1 => false,
-        3 => false,
-        4 => false,
+        TOP | ATOMIC | NOMINAL => false,
         _ => true,
     }
 }
@@ -35,7 +34,7 @@ fn waits(scratch: &[u8], k: Counters, c: u32, d: u32) -> bool
     if !options::equal_names(k.options) {
         return false;
     }
-    if concept::kind(scratch, c) < 12 {
+    if concept::kind(scratch, c) < MAX {
         return false;
     }
     named_anew(scratch, k, d)

@@ -15,7 +15,7 @@ ghost use Rattle.tables.specs.Lending.{SameReferences};
 
 use crate::parts;
 use axioms::bodies;
-use axioms::bodies::HAND;
+use hands::HAND;
 use heads::emit;
 use ir::deferral::Deferral;
 use ir::refusal::Refusal;

@@ -11,11 +11,12 @@ ghost use Rattle.tables.specs.Lending.{SameReferences};
 
 use crate::absorb;
 use axioms::bodies;
-use axioms::bodies::HAND;
+use hands::HAND;
 use heads::emit;
 use ir::atom::Atom;
 use ir::record;
 use ir::refusal::Refusal;
+use pool::layout::ATOMIC;
 use pool::record as concept;
 use tables::lent::Tables;
 
@@ -77,7 +78,7 @@ pub fn clausify_gci(
         Clausified rule lent.old.counters old new (done lent.new.counters result) × Queued rule lent.old.counters old new }
     ensures clausifying_after { ClausifyingAfter scratch.new (done lent.new.counters result) }
 {
-    if concept::kind(scratch, sub) == 3 {
+    if concept::kind(scratch, sub) == ATOMIC {
         return clausify_class(lent, scratch, sub, sup);
     }
     clausify_alternatives(lent, scratch, sub, sup)

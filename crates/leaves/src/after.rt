@@ -15,6 +15,7 @@ ghost use Rattle.leaves.specs.Reading.{Reading};
 use crate::{disjunct, read};
 use ir::counters::Counters;
 use ir::refusal::Refusal;
+use pool::layout::SOME;
 use pool::record as concept;
 
 // The head of restriction c over the class q: none over a data key of Min and Max.
@@ -47,5 +48,5 @@ fn drops_head(scratch: &[u8], k: Counters, c: u32, q: u32) -> bool
     requires { Reading scratch.now k × (c < k.concepts) × Restricts (concept_at (words scratch.now) c) }
     ensures { (env : Env) → EnvIn env k (words scratch.now) → result ≡ drops_head env (pool_of (words scratch.now) k.concepts) (concept_at (words scratch.now) c) q }
 {
-    concept::kind(scratch, c) != 9 && read::is_dkey(scratch, k, q)
+    concept::kind(scratch, c) != SOME && read::is_dkey(scratch, k, q)
 }

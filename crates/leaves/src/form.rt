@@ -6,7 +6,7 @@ ghost use Rattle.leaves.specs.Reading.{Reading, form_of};
 
 use crate::read;
 use ir::counters::Counters;
-use pool::layout::{ALL, AND, OR, SOME};
+use pool::layout::{ALL, AND, NOT, OR, SOME};
 use pool::record;
 
 // Named: the filler of a restriction is named. Leaf: nothing is.
@@ -24,7 +24,7 @@ pub fn form_of(scratch: &[u8], k: Counters, c: u32) -> Form
     ensures { result ≡ form_of (pool_of (words scratch.now) k.concepts) (concept_at (words scratch.now) c) }
 {
     match record::kind(scratch, c) {
-        0..=6 => Form::Leaf,
+        0..=NOT => Form::Leaf,
         AND => Form::And,
         OR => Form::Or,
         SOME => Form::Named,

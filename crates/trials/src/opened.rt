@@ -8,11 +8,7 @@ ghost use Rattle.layouts.specs.Read.{Limited, Declares};
 use ir::answer::Refused;
 use ir::refusal::Refusal;
 use layouts::{BadLine, Limits};
-
-// The reader's table in scratch: its first byte and the one behind it.
-const TABLE: usize = 204800;
-
-const TABLE_END: usize = 233472;
+use ontology::lines::{TABLE, TABLE_END};
 
 // Its classes, individuals and roles, and so many fresh classes.
 pub fn limits(deck: &[u8], scratch: &mut [u8], fresh: u32) -> Limits

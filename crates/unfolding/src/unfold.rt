@@ -15,8 +15,8 @@ ghost use Rattle.unfolding.specs.Unfolding.{unfold_one, Counted, Stands, Follows
 ghost use Rattle.ir.specs.Answer.{done};
 ghost use Rattle.tables.specs.Lending.{SameReferences};
 
-use contraction::clause::HAND;
 use contraction::{clause, contract};
+use hands::HAND;
 use ir::deferral::Deferral;
 use ir::refusal::Refusal;
 use tables::lent::Tables;

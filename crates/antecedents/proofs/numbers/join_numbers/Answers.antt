@@ -1,7 +1,7 @@
 use Rattle.antecedents.proofs.numbers.join_numbers.Goals as goal
 
-pub returns-then-both : goal.returns-then-both
-returns-then-both c = λ k. rw c.if-both.true (c.cross_numbers.ensures k)
+pub returns-in-And : goal.returns-in-And
+returns-in-And c = λ k. rw c.in-And.is (c.cross_numbers.ensures k)
 
-pub returns-else-both : goal.returns-else-both
-returns-else-both c = λ k. rw c.if-both.false (c.list_numbers.ensures k)
+pub returns-in-Or : goal.returns-in-Or
+returns-in-Or c = λ k. rw c.in-Or.is (c.list_numbers.ensures k)
