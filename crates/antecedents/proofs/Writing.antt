@@ -265,10 +265,10 @@ module _ (base : ℕ) (w₁ : List ℕ) (c start many v y k q r₀ : ℕ) where
     turn_end h e is = record {
       kept = turn.kept;
       same = λ w₀ n f canon R l m.
-          sym (ap (λ (z : List ℕ). write_on (w₁, q) (pick_and w₀ (pick_alt canon base (pool_of w₀ n) w₀ f) v z y (size_in w₀ c) k)) is)
-          ∙ sym (ap (λ (z : ℕ). write_on (w₁, q) (pick_and w₀ (pick_alt canon base (pool_of w₀ n) w₀ f) v (run w₁ (members_at + start) many) y z k)) (sym (e ∙ size_like w₁ w₀ n canon R c l))
+          sym (ap (λ (z : ℕ). write_on (w₁, q) (pick_and w₀ (pick_alt canon base (pool_of w₀ n) w₀ f) v (run w₁ (members_at + start) many) y z k)) (sym (e ∙ size_like w₁ w₀ n canon R c l))
           ∙ turn.rest w₀ n f canon R l m
-          ∙ ap (λ (z : List ℕ). write_on (w, o) (pick_and w₀ (pick_alt canon base (pool_of w₀ n) w₀ f) v z u r j)) (tab_end (λ n. get_or w₁ n 0) (members_at + start) i many h));
+          ∙ ap (λ (z : List ℕ). write_on (w, o) (pick_and w₀ (pick_alt canon base (pool_of w₀ n) w₀ f) v z u r j)) (tab_end (λ n. get_or w₁ n 0) (members_at + start) i many h))
+          ∙ ap (λ (z : List ℕ). write_on (w₁, q) (pick_and w₀ (pick_alt canon base (pool_of w₀ n) w₀ f) v z y (size_in w₀ c) k)) is;
     }
 
     module _ (hands : hands_at ≤ 6 * q) (L : Listed w₁ c start many) (lt : i < many) where

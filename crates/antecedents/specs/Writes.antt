@@ -17,7 +17,7 @@ use Rattle.rules.specs.Deck.{most_classes, most_individuals, most_roles}
 use Rattle.rules.specs.Inverse.{InverseCanon, canon_role}
 use Rattle.rules.specs.Invariants.{Bounds, Wf}
 use Rattle.rules.specs.Pool.{Pool}
-use Rattle.pool.specs.Layout.{members_at, field, run, pool_of}
+use Rattle.pool.specs.Layout.{members_at, field, pool_of}
 use Rattle.pool.specs.Held.{Held}
 use Rattle.inverse.specs.Layout.{RolesHeld}
 use Rattle.tables.specs.Good.{most_names}

@@ -24,8 +24,8 @@ const CLASS: Alternatives = Alternatives {
     longest: 1,
 };
 
-// The parts of c's list, in order: And has one alternative before the first, Or none. A loop and no fold, as in the other crates: the answer is
-// of two types, and what a part refuses goes out at once.
+// The parts of c's list, in order; `first`: the alternatives of none. A loop: try_fold's closure would change the counters and call back into the
+// cycle, with a contract of its own, and say in one type what is refused and what has no alternatives.
 #[cycle(encode_antecedent_encode_parts)]
 fn encode_parts(
     scratch: &[u8],

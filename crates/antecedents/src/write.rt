@@ -102,15 +102,7 @@ fn next_part(scratch: &[u8], i: u32, r: u32, j: u32, y: u32) -> Part
 
 // The parts of an And: the first is the most significant digit of k.
 #[cycle(write_one_write_parts)]
-fn write_parts(
-    scratch: &mut [u8],
-    base: u32,
-    at: usize,
-    c: u32,
-    v: u32,
-    y: u32,
-    k: u32,
-) -> usize
+fn write_parts(scratch: &mut [u8], base: u32, at: usize, c: u32, v: u32, y: u32, k: u32) -> usize
     requires { Writable scratch.old base c × (hands_at ≤ 6 * at) × HasList (words scratch.old) c }
     ensures { WroteAll base (words scratch.old) c v y k at (words scratch.new) result }
 {
@@ -152,8 +144,8 @@ pub fn write_one(scratch: &mut [u8], base: u32, at: usize, c: u32, v: u32, y: u3
             None => at,
         },
         SOME => {
-            let p = put_role(scratch, at, c, v, y);
             let b = record::child(scratch, c);
+            let p = put_role(scratch, at, c, v, y);
             let w = y.saturating_add(1);
             write_one(scratch, base, p, b, y, w, k)
         }

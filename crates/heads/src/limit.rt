@@ -19,6 +19,7 @@ fn named_anew(scratch: &[u8], k: Counters, d: u32) -> bool
     requires { Reading scratch.now k × (d < k.concepts) }
     ensures { result ≡ anew (concept_at (words scratch.now) d) }
 {
+    // By number, as the rules' concept_at goes: an enum would be made by a match over the same numbers.
     match concept::kind(scratch, d) {
         TOP | ATOMIC | NOMINAL => false,
         _ => true,

@@ -104,13 +104,13 @@ pub fn disjunct_of(scratch: &[u8], k: Counters, c: u32, v: u32) -> Disjunct
     ensures value { (env : Env) → EnvIn env k (words scratch.now) → result ≡ disjunct_of env (pool_of (words scratch.now) k.concepts) v (concept_at (words scratch.now) c) }
     ensures disjunct_fits { DisjunctFits (concept_at (words scratch.now) c) result }
 {
+    // By number, as the rules' concept_at goes: an enum would be made by a match over the same numbers.
     match concept::kind(scratch, c) {
         ATOMIC => Disjunct::Ready(Atom::Class(concept::number(scratch, c), v)),
         NOMINAL => Disjunct::Ready(Atom::Class(k.nominal_base + concept::number(scratch, c), v)),
         NOT => excluded(leaf::negated(scratch, k, concept::child(scratch, c), 0)),
         SOME => Disjunct::Filler,
-        MIN => counted(scratch, k, c, v),
-        MAX => counted(scratch, k, c, v),
+        MIN | MAX => counted(scratch, k, c, v),
         _ => Disjunct::Whole,
     }
 }

@@ -23,6 +23,7 @@ pub fn form_of(scratch: &[u8], k: Counters, c: u32) -> Form
     requires { Reading scratch.now k × (c < k.concepts) }
     ensures { result ≡ form_of (pool_of (words scratch.now) k.concepts) (concept_at (words scratch.now) c) }
 {
+    // By number, as the rules' concept_at goes: an enum would be made by a match over the same numbers.
     match record::kind(scratch, c) {
         0..=NOT => Form::Leaf,
         AND => Form::And,

@@ -83,14 +83,14 @@ pub fn leaf_of(scratch: &[u8], k: Counters, c: u32, v: u32) -> Leaf
     ensures value { (env : Env) → EnvIn env k (words scratch.now) → result ≡ leaf_of env (pool_of (words scratch.now) k.concepts) v (concept_at (words scratch.now) c) }
     ensures leaf_fits { LeafFits result }
 {
+    // By number, as the rules' concept_at goes: an enum would be made by a match over the same numbers.
     match concept::kind(scratch, c) {
         BOT => Leaf::Empty,
         ATOMIC => Leaf::Head(Atom::Class(concept::number(scratch, c), v)),
         NOMINAL => Leaf::Head(Atom::Class(k.nominal_base + concept::number(scratch, c), v)),
         SELF => Leaf::Head(Atom::Role(read::canon(scratch, k, c), v, v)),
         NOT => joined(negated(scratch, k, concept::child(scratch, c), v)),
-        MIN => counted(scratch, k, c, v),
-        MAX => counted(scratch, k, c, v),
+        MIN | MAX => counted(scratch, k, c, v),
         _ => Leaf::Nothing,
     }
 }

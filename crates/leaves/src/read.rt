@@ -36,6 +36,7 @@ pub fn class_id_of(scratch: &[u8], k: Counters, c: u32) -> Option<u32>
     ensures result_value { (env : Env) → EnvIn env k (words scratch.now) → option_in result ≡ class_id_of env (concept_at (words scratch.now) c) }
     ensures small_class { IfSome result (λ a. a < most_names) }
 {
+    // By number, as the rules' concept_at goes: an enum would be made by a match over the same numbers.
     match record::kind(scratch, c) {
         ATOMIC => Some(record::number(scratch, c)),
         NOMINAL => Some(k.nominal_base + record::number(scratch, c)),

@@ -36,7 +36,7 @@ returns-in-1 c =
 pub returns-in-1-2 : goal.returns-in-1-2
 returns-in-1-2 c =
     let h : Here (words c.args.scratch.now) c.args.c c.kind.result (field (words c.args.scratch.now) c.args.c 2) (field (words c.args.scratch.now) c.args.c 3) = record { kind_is = c.kind.ensures; a_is = refl; b_is = refl } in
-    named_kind c.kind.result c.in-1.if-this-lt3-own.false c.in-1.if-this-lt5-own.true (row_class _ _ _ _ _ h) (row_nominal _ _ _ _ _ h)
+    named_kind c.kind.result (omega arith) (omega arith) (row_class _ _ _ _ _ h) (row_nominal _ _ _ _ _ h)
 
 pub returns-in-7 : goal.returns-in-7
 returns-in-7 c =
