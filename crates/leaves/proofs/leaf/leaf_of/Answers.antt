@@ -47,8 +47,8 @@ returns-in-6 c = let e = sym c.kind.ensures ∙ c.in-6.is in let q = c.negated i
     }
 
 pub returns-in_default : goal.returns-in_default
-returns-in_default c = let x = c.in_default.in_default-own.rest in let f = c.kind.ensures ∙ kind_of c.args.scratch.now c.args.k c.requires.0 c.args.c c.requires.1 in
+returns-in_default c = let f = c.kind.ensures ∙ kind_of c.args.scratch.now c.args.k c.requires.0 c.args.c c.requires.1 in
     record {
-      value = λ env E. leaf_rest env (pool_of (words c.args.scratch.now) c.args.k.concepts) c.args.v (concept_at (words c.args.scratch.now) c.args.c) (λ z. x.0.0.0.0.0.0.1 (f ∙ z)) (λ z. x.0.0.0.0.0.1 (f ∙ z)) (λ z. x.0.0.0.0.1 (f ∙ z)) (λ z. x.0.0.0.1 (f ∙ z)) (λ z. x.0.0.1 (f ∙ z)) (λ z. x.0.1 (f ∙ z)) (λ z. x.1 (f ∙ z));
+      value = λ env E. leaf_rest env (pool_of (words c.args.scratch.now) c.args.k.concepts) c.args.v (concept_at (words c.args.scratch.now) c.args.c) (λ z. let y = f ∙ z in omega arith) (λ z. let y = f ∙ z in omega arith) (λ z. let y = f ∙ z in omega arith) (λ z. let y = f ∙ z in omega arith) (λ z. let y = f ∙ z in omega arith) (λ z. let y = f ∙ z in omega arith) (λ z. let y = f ∙ z in omega arith);
       leaf_fits = tt;
     }
