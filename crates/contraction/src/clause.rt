@@ -22,6 +22,13 @@ use ir::role::Role;
 use reflexive::ids::FLAGS;
 use tables::read;
 
+// The clause in hand: how many body atoms it has from HAND on, and how many head atoms behind them.
+#[derive(Clone, Copy)]
+pub struct Hand {
+    pub body: u32,
+    pub head: u32,
+}
+
 // Whether a role is reflexive.
 pub fn is_flagged(scratch: &[u8], role: Role) -> bool
     requires { (role_id role < most_roles) × (4 * alternatives_at ≤ length scratch.now) }
@@ -52,21 +59,27 @@ pub fn same_records(s: &[u8], i: usize, t: &[u8], j: usize, n: usize) -> bool
     record::same_words(s, i, t, j, 6 * n)
 }
 
-// Clause i has nb body atoms and nh head atoms.
-fn has_size(clauses: &[u8], i: u32, nb: u32, nh: u32) -> bool
+// Clause i has as many body atoms and head atoms.
+fn has_size(clauses: &[u8], i: u32, hand: Hand) -> bool
     requires { 4 * (clause_words * i + clause_words) ≤ length clauses.now }
-    ensures { result ≡ has_size (words clauses.now) nb nh i }
+    ensures { result ≡ has_size (words clauses.now) hand.body hand.head i }
 {
-    read::body_count(clauses, i) == nb && read::head_count(clauses, i) == nh
+    read::body_count(clauses, i) == hand.body && read::head_count(clauses, i) == hand.head
 }
 
-// The clause in hand, of nb and nh atoms, equals clause c of the tables, which has as many.
-fn is_clause(scratch: &[u8], clauses: &[u8], atoms: &[u8], nb: u32, nh: u32, c: u32) -> bool
-    requires { HandThere (words scratch.now) nb nh × ClauseThere (words clauses.now) (words atoms.now) c × (has_size (words clauses.now) nb nh c ≡ true) × (in_hand_bytes ≤ length scratch.now) }
-    ensures { (x y : Clause) → ClauseInHand (words scratch.now) nb nh x → ClauseAt (words clauses.now) (words atoms.now) c y → result ≡ same_clause x y }
+// It equals clause c of the tables, which has as many.
+fn is_clause(scratch: &[u8], clauses: &[u8], atoms: &[u8], hand: Hand, c: u32) -> bool
+    requires { HandThere (words scratch.now) hand.body hand.head × ClauseThere (words clauses.now) (words atoms.now) c × (has_size (words clauses.now) hand.body hand.head c ≡ true) × (in_hand_bytes ≤ length scratch.now) }
+    ensures { (x y : Clause) → ClauseInHand (words scratch.now) hand.body hand.head x → ClauseAt (words clauses.now) (words atoms.now) c y → result ≡ same_clause x y }
 {
     let run = read::atoms_of(clauses, atoms, c);
-    same_records(scratch, 6 * HAND, run, 0, nb as usize + nh as usize)
+    same_records(
+        scratch,
+        6 * HAND,
+        run,
+        0,
+        hand.body as usize + hand.head as usize,
+    )
 }
 
 // It equals one of the clauses from `from` up to `to`; the last are looked at first, where a repeat is likely.
@@ -74,16 +87,15 @@ pub fn is_among(
     scratch: &[u8],
     clauses: &[u8],
     atoms: &[u8],
-    nb: u32,
-    nh: u32,
+    hand: Hand,
     from: u32,
     to: u32,
 ) -> bool
-    requires { HandThere (words scratch.now) nb nh × TableThere (words clauses.now) (words atoms.now) to × (from ≤ to) × (in_hand_bytes ≤ length scratch.now) }
-    ensures { (l : List Clause) (x : Clause) → Tabled (words clauses.now) (words atoms.now) to l → ClauseInHand (words scratch.now) nb nh x → result ≡ contains_clause (drop from l) x }
+    requires { HandThere (words scratch.now) hand.body hand.head × TableThere (words clauses.now) (words atoms.now) to × (from ≤ to) × (in_hand_bytes ≤ length scratch.now) }
+    ensures { (l : List Clause) (x : Clause) → Tabled (words clauses.now) (words atoms.now) to l → ClauseInHand (words scratch.now) hand.body hand.head x → result ≡ contains_clause (drop from l) x }
 {
     for c in (from..to).rev() {
-        if has_size(clauses, c, nb, nh) && is_clause(scratch, clauses, atoms, nb, nh, c) {
+        if has_size(clauses, c, hand) && is_clause(scratch, clauses, atoms, hand, c) {
             return true;
         }
     }

@@ -17,6 +17,7 @@ ghost use Rattle.contraction.specs.InHands.{hand_at, in_hand_bytes, ClauseInHand
 ghost use Rattle.contraction.specs.Contracting.{Substituted};
 
 use crate::clause;
+use crate::clause::Hand;
 use hands::HAND;
 use ir::atom::Atom;
 use ir::{atom, record};
@@ -104,13 +105,13 @@ fn is_self_loop(scratch: &[u8], i: usize) -> bool
 }
 
 // The clause in hand always holds: a head atom is in the body, or is a self-loop.
-pub fn is_trivial(scratch: &[u8], nb: u32, nh: u32) -> bool
-    requires { HandThere (words scratch.now) nb nh × (in_hand_bytes ≤ length scratch.now) }
-    ensures { (set : List ℕ) (x : Clause) → FlagsHeld (words scratch.now) set → ClauseInHand (words scratch.now) nb nh x → result ≡ is_trivial set x }
+pub fn is_trivial(scratch: &[u8], hand: Hand) -> bool
+    requires { HandThere (words scratch.now) hand.body hand.head × (in_hand_bytes ≤ length scratch.now) }
+    ensures { (set : List ℕ) (x : Clause) → FlagsHeld (words scratch.now) set → ClauseInHand (words scratch.now) hand.body hand.head x → result ≡ is_trivial set x }
 {
-    for j in 0..nh as usize {
-        let i = HAND + nb as usize + j;
-        if in_body(scratch, nb, i) || is_self_loop(scratch, i) {
+    for j in 0..hand.head as usize {
+        let i = HAND + hand.body as usize + j;
+        if in_body(scratch, hand.body, i) || is_self_loop(scratch, i) {
             return true;
         }
     }

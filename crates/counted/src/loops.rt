@@ -17,6 +17,7 @@ ghost use Rattle.counted.specs.VarLaws.{VarsThere};
 ghost use Rattle.ir.specs.Answer.{done};
 
 use contraction::clause;
+use contraction::clause::Hand;
 use hands::HAND;
 use ir::atom::Atom;
 use ir::counters::Counters;
@@ -83,11 +84,15 @@ fn loop_of(
     }
     let fresh = next_var_of(read::atoms_of(clauses, atoms, c));
     put_loop(scratch, read::body_of(clauses, atoms, c), role, v, fresh);
+    let hand = Hand {
+        body: nb + 1,
+        head: 1,
+    };
     let end = k.clauses;
-    if clause::is_among(scratch, clauses, atoms, nb + 1, 1, from, end) {
+    if clause::is_among(scratch, clauses, atoms, hand, from, end) {
         return Ok(());
     }
-    hands::push_run(clauses, atoms, k, scratch, HAND, nb + 1, 1)
+    hands::push_run(clauses, atoms, k, scratch, HAND, hand.body, hand.head)
 }
 
 // The head atoms of clause c.

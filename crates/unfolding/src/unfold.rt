@@ -15,6 +15,7 @@ ghost use Rattle.unfolding.specs.Unfolding.{unfold_one, Counted, Stands, Follows
 ghost use Rattle.ir.specs.Answer.{done};
 ghost use Rattle.tables.specs.Lending.{SameReferences};
 
+use contraction::clause::Hand;
 use contraction::{clause, contract};
 use hands::HAND;
 use ir::deferral::Deferral;
@@ -34,15 +35,14 @@ fn derive(
     scratch: &mut [u8],
     originals: u32,
     queued: u32,
-    nb: u32,
-    nh: u32,
+    hand: Hand,
 ) -> Result<Option<u32>, Refusal>
-    requires { Counted originals lent.old.counters queued × (nb ≤ 256) × (nh ≤ 256) × Good lent.old.counters × (in_hand_bytes ≤ length scratch.old) }
+    requires { Counted originals lent.old.counters queued × (hand.body ≤ 256) × (hand.head ≤ 256) × Good lent.old.counters × (in_hand_bytes ≤ length scratch.old) }
     ensures references { SameReferences lent.old lent.new }
     ensures fact { let old = four_of (words scratch.old) lent.old in
         let new = four_of (words scratch.new) lent.new in
         ((env : Env) (set : List ℕ) (left : ℕ) (v : Derived) (s : Out) (x : Clause)
-        → Lent env.rooms old.clauses old.atoms old.deferrals → Stands env set originals left lent.old.counters old queued v s → ClauseInHand old.scratch nb nh x → Follows s x
+        → Lent env.rooms old.clauses old.atoms old.deferrals → Stands env set originals left lent.old.counters old queued v s → ClauseInHand old.scratch hand.body hand.head x → Follows s x
         → Unfolds env set originals left lent.old.counters queued new v s (derive env set x v (eqb (length v.seen) reflexive_derived_cap) s) (unfolded lent.new.counters result)) }
     ensures answered { Answered lent.old.counters (words scratch.old) (words scratch.new) (unfolded lent.new.counters result) }
 {
@@ -56,7 +56,15 @@ fn derive(
         return Ok(None);
     }
     let k = &mut lent.counters;
-    hands::push_run(lent.clauses, lent.atoms, k, scratch, HAND, nb, nh)?;
+    hands::push_run(
+        lent.clauses,
+        lent.atoms,
+        k,
+        scratch,
+        HAND,
+        hand.body,
+        hand.head,
+    )?;
     words::put_word(scratch, QUEUE + queued as usize, number);
     Ok(Some(queued + 1))
 }
@@ -89,14 +97,18 @@ fn unfold_at(
     contract::put_contracted(scratch, body, read::head_of(clauses, atoms, c), i);
     let nb = read::body_count(clauses, c);
     let nh = read::head_count(clauses, c);
-    if contract::is_trivial(scratch, nb - 1, nh) {
+    let hand = Hand {
+        body: nb - 1,
+        head: nh,
+    };
+    if contract::is_trivial(scratch, hand) {
         return Ok(Some(queued));
     }
     let end = lent.counters.clauses;
-    if clause::is_among(scratch, clauses, atoms, nb - 1, nh, originals, end) {
+    if clause::is_among(scratch, clauses, atoms, hand, originals, end) {
         return Ok(Some(queued));
     }
-    derive(lent, scratch, originals, queued, nb - 1, nh)
+    derive(lent, scratch, originals, queued, hand)
 }
 
 // The queue: the table's own clauses, the last first, and above them the derived ones.

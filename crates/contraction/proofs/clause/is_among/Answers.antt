@@ -48,7 +48,7 @@ loop-c-preserved c =
           let Y = clause_at (words a.clauses.now) (words a.atoms.now) a.to l Q (L.c - 1) lt in
           let e : same_clause x y ≡ false = elim c.else-has_size.branch [
             | else-has_size-via-then-has_size+else-is_clause w ↦ sym (w.is_clause.ensures x y X Y) ∙ w.if-is_clause.false
-            | else-has_size-via-else-has_size w ↦ other_size (words a.clauses.now) (words a.atoms.now) (L.c - 1) y Y (words a.scratch.now) a.nb a.nh x X (sym c.has_size.ensures ∙ w.if-has_size.false)
+            | else-has_size-via-else-has_size w ↦ other_size (words a.clauses.now) (words a.atoms.now) (L.c - 1) y Y (words a.scratch.now) a.hand.body a.hand.head x X (sym c.has_size.ensures ∙ w.if-has_size.false)
           ] in
           any_on (same_clause x) l (L.c - 1) no_clause (omega (arith, lt, Q.count)) e ∙ ap (λ (m : ℕ). any (same_clause x) (drop m l)) next ∙ L.invariant.1 l x Q X,
     )

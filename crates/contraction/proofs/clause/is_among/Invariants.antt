@@ -12,4 +12,4 @@ use Rattle.contraction.specs.InHands.{ClauseInHand}
 use Rattle.contraction.proofs.clause.is_among.Given as goal
 
 abbrev pub invariant-loop-c : goal.invariant-loop-c
-invariant-loop-c now = (now.from ≤ now.c) × ((l : List Clause) (x : Clause) → Tabled (words now.clauses) (words now.atoms) now.to l → ClauseInHand (words now.scratch) now.nb now.nh x → any (same_clause x) (drop now.c l) ≡ false)
+invariant-loop-c now = (now.from ≤ now.c) × ((l : List Clause) (x : Clause) → Tabled (words now.clauses) (words now.atoms) now.to l → ClauseInHand (words now.scratch) now.hand.body now.hand.head x → any (same_clause x) (drop now.c l) ≡ false)

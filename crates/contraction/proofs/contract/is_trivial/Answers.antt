@@ -23,7 +23,7 @@ is_self_loop-requires c =
     let fit : 6 * hand_at ≤ length w = omega (arith, length_words c.args.scratch.now, c.requires.1) in
     let L = c.loop-j in
     let lt = c.loop-j-test.true in
-    (head_there w c.args.nb c.args.nh L.j c.requires.0 fit lt, omega (arith, c.requires.1))
+    (head_there w c.args.hand.body c.args.hand.head L.j c.requires.0 fit lt, omega (arith, c.requires.1))
 
 pub returns-then-in_body : goal.returns-then-in_body
 returns-then-in_body c =
@@ -33,9 +33,9 @@ returns-then-in_body c =
     let lt = c.loop-j-test.true in
     let body = c.in_body.ensures in
     λ set x F X. sym (L.invariant set x F X ∙ elim c.then-in_body.branch [
-      | then-in_body-via-then-in_body t ↦ trivial_body set x L.j (omega (arith, lt, X.head)) (sym (body x.body (get_or x.head L.j no_atom) X.body (body_at_lem w c.args.nb c.args.nh x X fit) (head_at_lem w c.args.nb c.args.nh x X fit L.j lt)) ∙ t.if-in_body.true)
-      | then-in_body-via-else-in_body+then-is_self_loop t ↦ trivial_loop set x L.j (omega (arith, lt, X.head)) (sym (body x.body (get_or x.head L.j no_atom) X.body (body_at_lem w c.args.nb c.args.nh x X fit) (head_at_lem w c.args.nb c.args.nh x X fit L.j lt)) ∙ t.if-in_body.false)
-          (sym (t.is_self_loop.ensures set (get_or x.head L.j no_atom) F (head_at_lem w c.args.nb c.args.nh x X fit L.j lt)) ∙ t.if-is_self_loop.true)
+      | then-in_body-via-then-in_body t ↦ trivial_body set x L.j (omega (arith, lt, X.head)) (sym (body x.body (get_or x.head L.j no_atom) X.body (body_at_lem w c.args.hand.body c.args.hand.head x X fit) (head_at_lem w c.args.hand.body c.args.hand.head x X fit L.j lt)) ∙ t.if-in_body.true)
+      | then-in_body-via-else-in_body+then-is_self_loop t ↦ trivial_loop set x L.j (omega (arith, lt, X.head)) (sym (body x.body (get_or x.head L.j no_atom) X.body (body_at_lem w c.args.hand.body c.args.hand.head x X fit) (head_at_lem w c.args.hand.body c.args.hand.head x X fit L.j lt)) ∙ t.if-in_body.false)
+          (sym (t.is_self_loop.ensures set (get_or x.head L.j no_atom) F (head_at_lem w c.args.hand.body c.args.hand.head x X fit L.j lt)) ∙ t.if-is_self_loop.true)
     ])
 
 pub loop-j-preserved : goal.loop-j-preserved
@@ -45,8 +45,8 @@ loop-j-preserved c =
     let L = c.loop-j in
     let lt = c.loop-j-test.true in
     λ set x F X. L.invariant set x F X ∙ trivial_on set x L.j (omega (arith, lt, X.head))
-    (sym (c.in_body.ensures x.body (get_or x.head L.j no_atom) X.body (body_at_lem w c.args.nb c.args.nh x X fit) (head_at_lem w c.args.nb c.args.nh x X fit L.j lt)) ∙ c.if-in_body.false)
-    (sym (c.is_self_loop.ensures set (get_or x.head L.j no_atom) F (head_at_lem w c.args.nb c.args.nh x X fit L.j lt)) ∙ c.if-is_self_loop.false)
+    (sym (c.in_body.ensures x.body (get_or x.head L.j no_atom) X.body (body_at_lem w c.args.hand.body c.args.hand.head x X fit) (head_at_lem w c.args.hand.body c.args.hand.head x X fit L.j lt)) ∙ c.if-in_body.false)
+    (sym (c.is_self_loop.ensures set (get_or x.head L.j no_atom) F (head_at_lem w c.args.hand.body c.args.hand.head x X fit L.j lt)) ∙ c.if-is_self_loop.false)
 
 pub returns : goal.returns
 returns c = let L = c.loop-j in λ set x F X. sym (L.invariant set x F X ∙ any_none (always set x) x.head L.j (omega (arith, c.loop-j-test.false, X.head)))

@@ -12,4 +12,4 @@ use Rattle.contraction.specs.TrivialLaws.{always}
 use Rattle.contraction.proofs.contract.is_trivial.Given as goal
 
 abbrev pub invariant-loop-j : goal.invariant-loop-j
-invariant-loop-j l = (set : List ℕ) (x : Clause) → FlagsHeld (words l.scratch) set → ClauseInHand (words l.scratch) l.nb l.nh x → is_trivial set x ≡ any (always set x) (drop l.j x.head)
+invariant-loop-j l = (set : List ℕ) (x : Clause) → FlagsHeld (words l.scratch) set → ClauseInHand (words l.scratch) l.hand.body l.hand.head x → is_trivial set x ≡ any (always set x) (drop l.j x.head)

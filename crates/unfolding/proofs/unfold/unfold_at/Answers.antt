@@ -64,8 +64,8 @@ head_count-nh-requires c =
     let A = words t.atoms.now in
     omega (arith, (standing_placed t.counters C A c.requires.0 c.args.c c.requires.1).row, length_words t.clauses.now)
 
-pub overflow_sub-nb : goal.overflow_sub-nb
-overflow_sub-nb c =
+pub overflow_sub-hand : goal.overflow_sub-hand
+overflow_sub-hand c =
     omega (arith, c.requires.2, c.body_count-nb.ensures)
 
 pub is_trivial-requires : goal.is_trivial-requires
@@ -102,10 +102,6 @@ pub returns-then-is_trivial-clause-answered : goal.returns-then-is_trivial-claus
 returns-then-is_trivial-clause-answered c =
     answered_same c.args.lent.now.counters (words c.args.scratch.now) _ c.args.queued c.requires.4 c.put_contracted.ensures.scratch_unchanged
 
-pub overflow_sub-nb-2 : goal.overflow_sub-nb-2
-overflow_sub-nb-2 c =
-    omega (arith, c.requires.2, c.body_count-nb.ensures)
-
 pub is_among-requires : goal.is_among-requires
 is_among-requires c =
     let t = c.args.lent.now in
@@ -140,10 +136,6 @@ returns-then-is_among-clause-fact c =
 pub returns-then-is_among-clause-answered : goal.returns-then-is_among-clause-answered
 returns-then-is_among-clause-answered c =
     answered_same c.args.lent.now.counters (words c.args.scratch.now) _ c.args.queued c.requires.4 c.put_contracted.ensures.scratch_unchanged
-
-pub overflow_sub-nb-3 : goal.overflow_sub-nb-3
-overflow_sub-nb-3 c =
-    omega (arith, c.requires.2, c.body_count-nb.ensures)
 
 pub derive-requires : goal.derive-requires
 derive-requires c =
