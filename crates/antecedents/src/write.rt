@@ -1,4 +1,5 @@
 // One alternative of an antecedent, written as records of atoms.
+// The bound of a number that is read from a word stays a clause: a type with it would be made at each read, to be taken apart again.
 ghost use Rattle.std.specs.Prelude.{◌≡◌, ◌+◌, ◌*◌, ◌≤◌, ◌<◌, length, get_or};
 ghost use Rattle.words.specs.Words.{words};
 ghost use Rattle.ir.specs.Records.{Fits};

@@ -1,4 +1,6 @@
 // The axioms over roles alone.
+// What never defers has two of the tables and the counters: with all of them it would say again what it leaves alone.
+// The bound of a number that is read from a word stays a clause: a type with it would be made at each read, to be taken apart again.
 ghost use Rattle.std.specs.Prelude.{◌≡◌, List, ℕ, ◌*◌, ◌<◌, ◌≤◌, ◌^◌, length};
 ghost use Rattle.words.specs.Words.{words};
 ghost use Rattle.ir.specs.Roles.{role_of, role_id};
@@ -75,7 +77,7 @@ pub fn irreflexive(
     hands::push_none(clauses, atoms, k, scratch, HAND, 1)
 }
 
-// The atom s(y, X), or s(X, y).
+// The atom s(y, X), or s(X, y): `back` is the rule's own Bool.
 fn second(role: Role, y: u32, back: bool) -> Atom
     requires { role_id role < 2 ^ 31 }
     ensures value { result ≡ second_atom role y back }

@@ -29,7 +29,7 @@ struct Line {
     count: u32,
 }
 
-// The arms over classes, 21 to 26: by number, as the rules' `row_axiom` has them.
+// The arms over classes, 21 to 26: by number, as the rules' row_axiom goes; an enum would be made by a match over the same numbers.
 fn clausify_classes(lent: &mut Tables<'_>, scratch: &mut [u8], line: Line) -> Result<(), Refusal>
     requires { Clausifying scratch.old lent.old.counters × Row (words scratch.old) lent.old.counters line.kind line.at line.count × (line.kind < 27) }
     ensures references { SameReferences lent.old lent.new }
@@ -77,7 +77,7 @@ fn clausify_chain(lent: &mut Tables<'_>, scratch: &mut [u8], line: Line) -> Resu
     roles::chain(lent.clauses, lent.atoms, k, scratch, a, b, r)
 }
 
-// The arms over roles, 27 to 31; the others make no clause.
+// The arms over roles, 27 to 31, by number too; the others make no clause.
 fn clausify_roles(lent: &mut Tables<'_>, scratch: &mut [u8], line: Line) -> Result<(), Refusal>
     requires { Clausifying scratch.old lent.old.counters × Row (words scratch.old) lent.old.counters line.kind line.at line.count × (27 ≤ line.kind) }
     ensures references { SameReferences lent.old lent.new }

@@ -51,7 +51,7 @@ pub fn is_reflexive(scratch: &[u8], body: &[u8], i: u32) -> bool
     }
 }
 
-// n records of s from word i on are those of t from word j on.
+// n records of s from word i on are those of t from word j on: places, as same_words has them, which slices would be cut for in vain.
 pub fn same_records(s: &[u8], i: usize, t: &[u8], j: usize, n: usize) -> bool
     requires { (4 * (i + 6 * n) ≤ length s.now) × (4 * (j + 6 * n) ≤ length t.now) }
     ensures { result ≡ same_runs (words s.now) i (words t.now) j (6 * n) }
@@ -59,7 +59,7 @@ pub fn same_records(s: &[u8], i: usize, t: &[u8], j: usize, n: usize) -> bool
     record::same_words(s, i, t, j, 6 * n)
 }
 
-// Clause i has as many body atoms and head atoms.
+// Clause i has as many body atoms and head atoms as the clause in hand.
 fn has_size(clauses: &[u8], i: u32, hand: Hand) -> bool
     requires { 4 * (clause_words * i + clause_words) ≤ length clauses.now }
     ensures { result ≡ has_size (words clauses.now) hand.body hand.head i }
@@ -67,7 +67,7 @@ fn has_size(clauses: &[u8], i: u32, hand: Hand) -> bool
     read::body_count(clauses, i) == hand.body && read::head_count(clauses, i) == hand.head
 }
 
-// It equals clause c of the tables, which has as many.
+// The clause in hand equals clause c, which has as many. Two tables, lent to be read: `Tables` lends them to be changed, and the deferrals too.
 fn is_clause(scratch: &[u8], clauses: &[u8], atoms: &[u8], hand: Hand, c: u32) -> bool
     requires { HandThere (words scratch.now) hand.body hand.head × ClauseThere (words clauses.now) (words atoms.now) c × (has_size (words clauses.now) hand.body hand.head c ≡ true) × (in_hand_bytes ≤ length scratch.now) }
     ensures { (x y : Clause) → ClauseInHand (words scratch.now) hand.body hand.head x → ClauseAt (words clauses.now) (words atoms.now) c y → result ≡ same_clause x y }

@@ -1,4 +1,5 @@
 // A member of a disjoint union is below its class.
+// The bound of a number that is read from a word stays a clause: a type with it would be made at each read, to be taken apart again.
 ghost use Rattle.std.specs.Prelude.{ℕ, ◌+◌, ◌<◌, ◌≤◌, ◌^◌, length};
 ghost use Rattle.words.specs.Words.{words};
 ghost use Rattle.pool.specs.Layout.{pool_of};

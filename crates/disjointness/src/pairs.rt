@@ -1,4 +1,6 @@
 // A disjoint pair: a clause without a head for each pair of alternatives.
+// What never defers has two of the tables and the counters: with all of them it would say again what it leaves alone.
+// The bound of a number that is read from a word stays a clause: a type with it would be made at each read, to be taken apart again.
 ghost use Rattle.std.specs.Prelude.{◌≡◌, List, ℕ, ◌+◌, ◌<◌, ◌≤◌, length};
 ghost use Rattle.words.specs.Words.{words};
 ghost use Rattle.pool.specs.Layout.{pool_of};
@@ -69,7 +71,7 @@ fn push_pairs(
     Ok(())
 }
 
-// A pair that cannot be encoded: deferral 1, or nothing in a disjoint union.
+// A pair that cannot be encoded: deferral 1, or nothing in a disjoint union. `deferred` is the rule's own Bool.
 fn give_up(deferrals: &mut [u8], k: &mut Counters, deferred: bool) -> Result<(), Refusal>
     requires { Sized 0 0 (length deferrals.old) }
     ensures { GaveUp k.old deferred (words deferrals.old) (words deferrals.new) (done k.new result) }

@@ -34,7 +34,7 @@ fn reflexive_passes(lent: &mut Tables<'_>, scratch: &mut [u8], size: u32) -> Res
     loops::add_counted_self_loops(lent.clauses, lent.atoms, &mut lent.counters, scratch)
 }
 
-// Only with its option; answers how many bodies were decomposed.
+// Only with its option; answers how many bodies were decomposed. It never defers: with all tables it would say again what it leaves alone.
 fn decomposed(
     clauses: &mut [u8],
     atoms: &mut [u8],

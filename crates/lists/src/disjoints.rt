@@ -16,7 +16,7 @@ use disjointness::pairs;
 use ir::refusal::Refusal;
 use tables::lent::Tables;
 
-// Member i of the list with each later one.
+// Member i of the list with each later one: `deferred` is the rule's own Bool, here and below.
 fn disjoint_with(
     lent: &mut Tables<'_>,
     scratch: &mut [u8],

@@ -1,5 +1,6 @@
 // DisjointObjectProperties: all pairs of a role and a later one that differs from it.
 // A run in scratch is its first word and its count, two numbers, as the definitions' `run` has it.
+// What never defers has two of the tables and the counters: with all of them it would say again what it leaves alone.
 ghost use Rattle.std.specs.Prelude.{◌≡◌, List, [], map, ℕ, ◌+◌, ◌-◌, ◌<◌, length, get_or};
 ghost use Rattle.words.specs.Words.{words};
 ghost use Rattle.rules.specs.Base.{for_each};

@@ -1,8 +1,10 @@
-use borrow.Author.Tests.{not-true, not-false}
+use borrow.Author.Tests.{not-true, not-false, ltb-true, ltb-false}
 use native.Mathlib.Omega.{arith}
 use mathlib.Core.Path.{refl, sym, ◌∙◌}
+use lib.Dec.{ltb}
 use Rattle.words.specs.Words.{words}
 use Rattle.ir.specs.Options.{equal_names}
+use Rattle.pool.specs.Shapes.{by_test}
 use Rattle.ontology.specs.Layout.{axiom_at}
 use Rattle.ontology.specs.KeptAxioms.{kind_inside}
 use Rattle.clausifier.specs.RowLaws.{axiom_few}
@@ -23,28 +25,21 @@ pub returns-in-21 : goal.returns-in-21
 returns-in-21 c =
     let q = c.equal_names in
     let m = c.number in
-    names_limits_lem (words c.args.scratch.now) c.args.k c.args.i m.result c.requires.1 m.ensures 21 c.in-21.is refl (equal_names c.args.k.options) (sym q.ensures ∙ not-false q.result c.if-not-equal_names.false-raw)
+    let on = sym q.ensures ∙ not-false q.result c.if-not-equal_names.false-raw in
+    by_test (ltb m.result 22)
+    (λ e. let x = ltb-true m.result 22 e in names_limits_lem (words c.args.scratch.now) c.args.k c.args.i m.result c.requires.1 m.ensures 21 (omega arith) refl (equal_names c.args.k.options) on)
+    (λ e. let x = ltb-false m.result 22 e in names_limits_lem (words c.args.scratch.now) c.args.k c.args.i m.result c.requires.1 m.ensures 22 (omega arith) refl (equal_names c.args.k.options) on)
 
-pub returns-in-22 : goal.returns-in-22
-returns-in-22 c =
+pub returns-in-21-2 : goal.returns-in-21-2
+returns-in-21-2 c =
     let q = c.equal_names in
     let m = c.number in
-    names_limits_lem (words c.args.scratch.now) c.args.k c.args.i m.result c.requires.1 m.ensures 22 c.in-22.is refl (equal_names c.args.k.options) (sym q.ensures ∙ not-false q.result c.if-not-equal_names.false-raw)
-
-pub returns-in-25 : goal.returns-in-25
-returns-in-25 c =
-    let q = c.equal_names in
-    let m = c.number in
-    names_limits_lem (words c.args.scratch.now) c.args.k c.args.i m.result c.requires.1 m.ensures 25 c.in-25.is refl (equal_names c.args.k.options) (sym q.ensures ∙ not-false q.result c.if-not-equal_names.false-raw)
-
-pub returns-in-26 : goal.returns-in-26
-returns-in-26 c =
-    let q = c.equal_names in
-    let m = c.number in
-    names_limits_lem (words c.args.scratch.now) c.args.k c.args.i m.result c.requires.1 m.ensures 26 c.in-26.is refl (equal_names c.args.k.options) (sym q.ensures ∙ not-false q.result c.if-not-equal_names.false-raw)
+    let on = sym q.ensures ∙ not-false q.result c.if-not-equal_names.false-raw in
+    by_test (ltb m.result 26)
+    (λ e. let x = ltb-true m.result 26 e in names_limits_lem (words c.args.scratch.now) c.args.k c.args.i m.result c.requires.1 m.ensures 25 (omega arith) refl (equal_names c.args.k.options) on)
+    (λ e. let x = ltb-false m.result 26 e in names_limits_lem (words c.args.scratch.now) c.args.k c.args.i m.result c.requires.1 m.ensures 26 (omega arith) refl (equal_names c.args.k.options) on)
 
 pub returns-in_default : goal.returns-in_default
 returns-in_default c =
     let m = c.number in
-    let n = c.in_default.in_default-own.rest in
-    names_none (words c.args.scratch.now) c.args.k c.args.i m.result c.requires.1 m.ensures n.0.0.0.1 n.0.0.1 n.0.1 n.1 (equal_names c.args.k.options)
+    names_none (words c.args.scratch.now) c.args.k c.args.i m.result c.requires.1 m.ensures (λ z. omega arith) (λ z. omega arith) (λ z. omega arith) (λ z. omega arith) (equal_names c.args.k.options)
