@@ -29,6 +29,11 @@ abbrev pub is_conj : Joint → Bool
 is_conj AndJoint = true
 is_conj OrJoint = false
 
+-- the alternatives of no part
+abbrev pub first_of : Bool → ℕ
+first_of true = 1
+first_of false = 0
+
 -- a part of an And or Or more
 abbrev pub joined : Bool → ℕ → ℕ → Encoded → Encoded
 joined true n l (Found k m j) = crossed k n l m j

@@ -2,7 +2,7 @@
 ghost use Rattle.words.specs.Words.{words};
 ghost use Rattle.ir.specs.Encoded.{Found};
 ghost use Rattle.tables.specs.Good.{Good};
-ghost use Rattle.antecedents.specs.Counts.{is_conj};
+ghost use Rattle.antecedents.specs.Counts.{is_conj, first_of};
 ghost use Rattle.antecedents.specs.Stands.{Stands, HasList, Counts, CountsAll};
 ghost use Rattle.ir.specs.Encoded.{encoded};
 
@@ -24,22 +24,21 @@ const CLASS: Alternatives = Alternatives {
     longest: 1,
 };
 
-// The parts of c's list, in order; `first`: the alternatives of none. A loop: try_fold's closure would change the counters and call back into the
+// The parts of c's list, in order. A loop: try_fold's closure would change the counters and call back into the
 // cycle, with a contract of its own, and say in one type what is refused and what has no alternatives.
 #[cycle(encode_antecedent_encode_parts)]
 fn encode_parts(
     scratch: &[u8],
     k: &mut Counters,
     c: u32,
-    first: u32,
     joint: Joint,
 ) -> Result<Option<Alternatives>, Refusal>
     requires { Stands scratch.now c × HasList (words scratch.now) c × Good k.old }
-    ensures { CountsAll (words scratch.now) (is_conj joint) c (Found k.old first 0) (encoded k.new result) }
+    ensures { CountsAll (words scratch.now) (is_conj joint) c (Found k.old (first_of (is_conj joint)) 0) (encoded k.new result) }
 {
     let start = record::child(scratch, c);
     let mut acc = Alternatives {
-        count: first,
+        count: numbers::first(joint),
         longest: 0,
     };
     for i in 0..record::number(scratch, c) {
@@ -69,8 +68,8 @@ pub fn encode_antecedent(
     match record::kind(scratch, c) {
         layout::TOP => Ok(Some(TOP)),
         layout::ATOMIC | layout::NOMINAL => Ok(Some(CLASS)),
-        layout::AND => encode_parts(scratch, k, c, 1, Joint::And),
-        layout::OR => encode_parts(scratch, k, c, 0, Joint::Or),
+        layout::AND => encode_parts(scratch, k, c, Joint::And),
+        layout::OR => encode_parts(scratch, k, c, Joint::Or),
         layout::SOME => {
             k.fresh_var();
             let b = record::child(scratch, c);

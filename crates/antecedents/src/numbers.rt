@@ -3,7 +3,7 @@ ghost use Rattle.std.specs.Prelude.{◌≡◌, ◌/◌, ◌%◌, MatchResult};
 ghost use Rattle.ir.specs.Encoded.{encoded, Found, Refused};
 ghost use Rattle.ir.specs.Refusals.{refusal_number};
 ghost use Rattle.ir.specs.declared.counters.Counters.{Counters};
-ghost use Rattle.antecedents.specs.Counts.{is_conj, crossed, listed, joined, under};
+ghost use Rattle.antecedents.specs.Counts.{is_conj, first_of, crossed, listed, joined, under};
 ghost use Rattle.antecedents.specs.Table.{join_size};
 
 use ir::answer::Alternatives;
@@ -46,6 +46,16 @@ fn list_numbers(a: Alternatives, b: Alternatives) -> Result<Option<Alternatives>
     }
     let longest = a.longest.max(b.longest);
     Ok(Some(Alternatives { count, longest }))
+}
+
+// How many alternatives no part has: one in an And, none in an Or.
+pub fn first(joint: Joint) -> u32
+    ensures { result ≡ first_of (is_conj joint) }
+{
+    match joint {
+        Joint::And => 1,
+        Joint::Or => 0,
+    }
 }
 
 // Of a part b more.

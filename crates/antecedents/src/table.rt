@@ -5,7 +5,7 @@ ghost use Rattle.words.specs.Words.{words};
 ghost use Rattle.ir.specs.Scratch.{alternatives_at, axioms_at};
 ghost use Rattle.rules.specs.Pool.{most_concepts};
 ghost use Rattle.pool.specs.Layout.{concept_at};
-ghost use Rattle.antecedents.specs.Counts.{is_conj};
+ghost use Rattle.antecedents.specs.Counts.{is_conj, first_of};
 ghost use Rattle.antecedents.specs.Stands.{Stands, HasList, list_in};
 ghost use Rattle.antecedents.specs.Table.{size_in, vars_in, size_all, vars_all, size_of, vars_of};
 
@@ -38,12 +38,12 @@ pub fn vars_of(scratch: &[u8], c: u32) -> u32
 }
 
 // The row of c's list.
-fn list_row(scratch: &[u8], c: u32, first: u32, joint: Joint) -> Row
+fn list_row(scratch: &[u8], c: u32, joint: Joint) -> Row
     requires { (c < most_concepts) × (4 * axioms_at ≤ length scratch.now) × HasList (words scratch.now) c }
-    ensures { (result.size ≡ size_all (words scratch.now) (is_conj joint) (list_in (words scratch.now) c) first) × (result.vars ≡ vars_all (words scratch.now) (list_in (words scratch.now) c) 0) }
+    ensures { (result.size ≡ size_all (words scratch.now) (is_conj joint) (list_in (words scratch.now) c) (first_of (is_conj joint))) × (result.vars ≡ vars_all (words scratch.now) (list_in (words scratch.now) c) 0) }
 {
     let start = record::child(scratch, c);
-    let mut size = first;
+    let mut size = numbers::first(joint);
     let mut vars: u32 = 0;
     for i in 0..record::number(scratch, c) {
         let x = record::member(scratch, start + i);
@@ -60,8 +60,8 @@ pub fn row_of(scratch: &[u8], c: u32) -> Row
     // By number, as the rules' concept_at goes: an enum would be made by a match over the same numbers.
     match record::kind(scratch, c) {
         TOP | ATOMIC | NOMINAL => Row { size: 1, vars: 0 },
-        AND => list_row(scratch, c, 1, Joint::And),
-        OR => list_row(scratch, c, 0, Joint::Or),
+        AND => list_row(scratch, c, Joint::And),
+        OR => list_row(scratch, c, Joint::Or),
         SOME => {
             let b = record::child(scratch, c);
             let size = size_of(scratch, b);

@@ -3,7 +3,7 @@ use mathlib.Core.List.{List}
 use Prim.Native.Nat.{ℕ}
 use native.Mathlib.Omega.{arith}
 use Rattle.words.specs.Words.{words}
-use Rattle.antecedents.specs.Counts.{is_conj}
+use Rattle.antecedents.specs.Counts.{is_conj, first_of}
 use Rattle.antecedents.specs.Stands.{Listed}
 use Rattle.antecedents.specs.Table.{size_all, vars_all}
 use Rattle.antecedents.proofs.Counting.{listed_is, list_is, part_below}
@@ -11,7 +11,7 @@ use Rattle.antecedents.proofs.Rows.{turn_first, turn_next, turn_end}
 use Rattle.antecedents.proofs.table.list_row.Goals as goal
 
 pub loop-i-init : goal.loop-i-init
-loop-i-init c = turn_first _ _ _ _ _
+loop-i-init c = rw c.first-size.ensures (turn_first _ _ _ _ _)
 
 pub overflow_add-start : goal.overflow_add-start
 overflow_add-start c = omega (arith, c.requires.2.within, c.loop-i-test.true, c.child-start.ensures, c.number-i-end.ensures)
@@ -37,5 +37,5 @@ loop-i-preserved c =
 
 pub returns : goal.returns
 returns c =
-    subst (λ (l : List ℕ). (c.loop-i.size ≡ size_all (words c.args.scratch.now) (is_conj c.args.joint) l c.args.first) × (c.loop-i.vars ≡ vars_all (words c.args.scratch.now) l 0))
+    subst (λ (l : List ℕ). (c.loop-i.size ≡ size_all (words c.args.scratch.now) (is_conj c.args.joint) l (first_of (is_conj c.args.joint))) × (c.loop-i.vars ≡ vars_all (words c.args.scratch.now) l 0))
     (list_is _ _ _ _ c.child-start.ensures c.number-i-end.ensures) (turn_end _ _ _ _ _ _ _ _ c.loop-i.invariant c.loop-i-test.false)

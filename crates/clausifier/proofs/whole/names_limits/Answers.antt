@@ -43,3 +43,13 @@ pub returns-in_default : goal.returns-in_default
 returns-in_default c =
     let m = c.number in
     names_none (words c.args.scratch.now) c.args.k c.args.i m.result c.requires.1 m.ensures (λ z. omega arith) (λ z. omega arith) (λ z. omega arith) (λ z. omega arith) (equal_names c.args.k.options)
+
+pub returns-in_default-2 : goal.returns-in_default-2
+returns-in_default-2 c =
+    let m = c.number in
+    names_none (words c.args.scratch.now) c.args.k c.args.i m.result c.requires.1 m.ensures (λ z. omega arith) (λ z. omega arith) (λ z. omega arith) (λ z. omega arith) (equal_names c.args.k.options)
+
+pub returns-in_default-3 : goal.returns-in_default-3
+returns-in_default-3 c =
+    let m = c.number in
+    names_none (words c.args.scratch.now) c.args.k c.args.i m.result c.requires.1 m.ensures (λ z. omega arith) (λ z. omega arith) (λ z. omega arith) (λ z. omega arith) (equal_names c.args.k.options)
