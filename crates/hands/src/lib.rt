@@ -18,7 +18,7 @@ use ir::counters::Counters;
 use ir::refusal::Refusal;
 use ir::scratch::HANDS;
 
-// The first atom in hand: word HANDS, of six words.
+// The first atom in hand: the record at word HANDS.
 pub const HAND: usize = HANDS / 6;
 
 // The clause of the n atoms from `base` on as its body, and of the m behind them as its head.

@@ -1,5 +1,5 @@
 -- Concepts that are made of a hard antecedent's conjuncts: what each rule's answer is, and where the code writes. Assumes nothing.
-use Rattle.std.specs.Prelude.{◌≡◌, refl, true, List, [], ◌∷◌, ◌++◌, ℕ, suc, ◌+◌, ◌<◌, ◌≤◌, length, get_or, set}
+use Rattle.std.specs.Prelude.{◌≡◌, refl, true, List, [], ◌∷◌, ◌++◌, ℕ, suc, ◌<◌, ◌≤◌, length, get_or, set}
 use Rattle.std.proofs.Common.{sym, ap, subst, ◌∙◌, arith, get_or-set_other}
 use Prim.{tt}
 use Rattle.words.specs.Words.{words}

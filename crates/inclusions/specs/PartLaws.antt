@@ -14,7 +14,7 @@ use Rattle.ir.specs.declared.counters.Counters.{Counters}
 use Rattle.ir.specs.Encoded.{Encoded}
 use Rattle.ir.specs.Encoded as Encodeds
 use Rattle.rules.specs.Base.{Res, ok, refused, then}
-use Rattle.rules.specs.Pool.{Pool, at, members}
+use Rattle.rules.specs.Pool.{Pool, at}
 use Rattle.rules.specs.Post.{Post, gives}
 use Rattle.rules.specs.Invariants.{Each}
 use Rattle.rules.specs.EachLaws.{each_snoc}

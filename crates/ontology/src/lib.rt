@@ -6,7 +6,7 @@ mod axiom_lines;
 mod concepts;
 pub mod key;
 mod keys;
-mod lines;
+pub mod lines;
 pub mod load;
 mod record;
 mod row;
