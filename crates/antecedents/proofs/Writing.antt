@@ -51,19 +51,11 @@ put_room s w' q a h e = rw (lt-ltb q (length (words s) / 6) (rw (sixth s) h)) (a
 pub put_full : (s : List ℕ) (q : ℕ) (a : Atom) → length s / 24 ≤ q → ◌≡◌ {A = List ℕ × ℕ} (words s, q) (put_at (words s) q a)
 put_full s q a h = rw (le-ltb q (length (words s) / 6) (rw (sixth s) h)) refl
 
-pub role_fits : (r : Role) (code : ℕ) → code < 4294967296 → r ≡ role_of code → role_id r < 2 ^ 31
-role_fits r code h e = go r (ap role_code e ∙ code_role code)
-  where
-    go : (r : Role) → role_code r ≡ code → role_id r < 2 ^ 31
-    go (Named i) q = omega arith
-    go (Inverse i) q = omega arith
-
-pub role_written : (w : List ℕ) (c v y q : ℕ) (w' : List ℕ) (r : ℕ) (role code : ℕ) (o : Role) → role ≡ field w c 1 → ((m : InverseCanon) → RolesHeld w m → code ≡ role_code (canon_role m (role_of role)))
-    → o ≡ role_of code → ◌≡◌ {A = List ℕ × ℕ} (w', r) (put_at w q (RoleAtom o v y)) → WroteRole w c v y q w' r
-role_written w c v y q w' r role code o er ec eo e = record {
+pub role_written : (w : List ℕ) (c v y q : ℕ) (w' : List ℕ) (r : ℕ) (code : ℕ) (o : Role) → code ≡ field w c 1 → ((m : InverseCanon) → RolesHeld w m → o ≡ canon_role m (role_of code)) → ◌≡◌ {A = List ℕ × ℕ} (w', r) (put_at w q (RoleAtom o v y))
+    → WroteRole w c v y q w' r
+role_written w c v y q w' r code o ec eo e = record {
   kept = put_kept w q (RoleAtom o v y) w' r e;
-  same = λ m h. e ∙ ap (λ (z : Role). put_at w q (RoleAtom z v y))
-      (eo ∙ ap role_of (ec m h) ∙ role_code_lem (canon_role m (role_of role)) ∙ ap (λ (z : ℕ). canon_role m (role_of z)) er);
+  same = λ m h. e ∙ ap (λ (z : Role). put_at w q (RoleAtom z v y)) (eo m h ∙ ap (λ (z : ℕ). canon_role m (role_of z)) ec);
 }
 
 -- ---- the search for a disjunct

@@ -14,7 +14,6 @@ ghost use Rattle.antecedents.specs.Writes.{Writable, WroteRole, Wrote, WroteAll,
 use crate::{numbers, table};
 use ir::atom::Atom;
 use ir::record::put_atom;
-use ir::role::Role;
 use pool::layout::{AND, ATOMIC, NOMINAL, OR, SOME, TOP};
 use pool::record;
 
@@ -53,9 +52,8 @@ fn put_role(scratch: &mut [u8], at: usize, c: u32, v: u32, y: u32) -> usize
     requires { (c < most_concepts) × (4 * hands_at ≤ length scratch.old) × (field (words scratch.old) c 1 < 2 * most_roles) }
     ensures { WroteRole (words scratch.old) c v y at (words scratch.new) result }
 {
-    let role = record::role(scratch, c);
-    let code = inverse::canon_role(scratch, role);
-    put(scratch, at, Atom::Role(Role::of_code(code), v, y))
+    let role = inverse::canon_role(scratch, record::role(scratch, c));
+    put(scratch, at, Atom::Role(role, v, y))
 }
 
 // The disjunct among c's list that holds the k-th alternative.

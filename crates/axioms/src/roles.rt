@@ -28,7 +28,7 @@ pub fn canon(scratch: &[u8], code: u32) -> Role
     ensures value { (env : Env) (k : Counters) → EnvIn env k (words scratch.now) → result ≡ canon env (role_of code) }
     ensures result_bound { role_id result < 2 ^ 31 }
 {
-    Role::of_code(inverse::canon_role(scratch, code))
+    inverse::canon_role(scratch, code)
 }
 
 // r(X, y) and s(y, z) give t(X, z).

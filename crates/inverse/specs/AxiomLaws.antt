@@ -6,7 +6,8 @@ use Prim.Native.Nat.{ℕ, suc, ◌+◌, ◌*◌, ◌-◌, ◌<◌, ◌≤◌}
 use native.Mathlib.Omega.{arith}
 use Rattle.words.specs.Words.{words}
 use Rattle.ir.specs.Scratch.{axioms_at, numbers_at, lines_at}
-use Rattle.ir.specs.Roles.{role_of, code_in}
+use Rattle.ir.specs.Roles.{role_id, role_of, code_in}
+use Rattle.ir.specs.declared.role.Role.{Role}
 use Rattle.rules.specs.Concept.{Axiom, InverseObjectProperties}
 use Rattle.rules.specs.Deck.{most_roles, section_of, fields_ok, axiom_of}
 use Rattle.rules.specs.Inverse.{InverseCanon, declared, inverse_of, build_from}
@@ -53,18 +54,18 @@ module _ (s : List ℕ) (n i : ℕ) (A : Building s n) (h : i < n) where
         let e : 0 + i ≡ i = zero-add i in
         subst (AxiomIn A.bounds A.concepts) (inverse_axiom (words s) n i A.held h k) (rw e at (tab_each (axiom_at (words s)) (AxiomIn A.bounds A.concepts) 0 n A.inside i h))
 
-    pub first_small : (r : ℕ) → r ≡ axiom_number (words s) i 1 → r < 2 * most_roles
-    first_small r e = rw e (code_small A.bounds (axiom_number (words s) i 1) A.few roles_in.0)
+    pub first_small : (r : Role) → r ≡ role_of (axiom_number (words s) i 1) → role_id r < most_roles
+    first_small r e = rw e (omega (arith, roles_in.0, A.few))
 
-    pub second_small : (r : ℕ) → r ≡ axiom_number (words s) i 2 → r < 2 * most_roles
-    second_small r e = rw e (code_small A.bounds (axiom_number (words s) i 2) A.few roles_in.1)
+    pub second_small : (r : Role) → r ≡ role_of (axiom_number (words s) i 2) → role_id r < most_roles
+    second_small r e = rw e (omega (arith, roles_in.1, A.few))
 
-    pub axiom_entry : (r t : ℕ) (w' : List ℕ) → r ≡ axiom_number (words s) i 1 → t ≡ axiom_number (words s) i 2
-        → ((m : InverseCanon) → Mapped (words s) m most_roles → Mapped w' (declared m (role_of r) (role_of t)) most_roles)
+    pub axiom_entry : (r t : Role) (w' : List ℕ) → r ≡ role_of (axiom_number (words s) i 1) → t ≡ role_of (axiom_number (words s) i 2)
+        → ((m : InverseCanon) → Mapped (words s) m most_roles → Mapped w' (declared m r t) most_roles)
         → (m : InverseCanon) → Mapped (words s) m most_roles → Mapped w' (inverse_of m (axiom_at (words s) i)) most_roles
     axiom_entry r t w' er et D m M =
-        let e : InverseObjectProperties (role_of r) (role_of t) ≡ axiom_at (words s) i =
-        ap (λ (x : ℕ). InverseObjectProperties (role_of x) (role_of t)) er ∙ ap (λ (x : ℕ). InverseObjectProperties (role_of (axiom_number (words s) i 1)) (role_of x)) et ∙ sym (inverse_axiom (words s) n i A.held h k) in
+        let e : InverseObjectProperties r t ≡ axiom_at (words s) i =
+        ap (λ (x : Role). InverseObjectProperties x t) er ∙ ap (λ (x : Role). InverseObjectProperties (role_of (axiom_number (words s) i 1)) x) et ∙ sym (inverse_axiom (words s) n i A.held h k) in
         subst (λ (a : Axiom). Mapped w' (inverse_of m a) most_roles) e (D m M)
 
 -- ---- a write elsewhere leaves the axioms as they are

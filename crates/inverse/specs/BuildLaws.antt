@@ -1,5 +1,5 @@
 -- The map while it is built. Assumes nothing.
-use Rattle.std.specs.Prelude.{◌≡◌, refl, Bool, true, ◌||◌, List, [], ◌∷◌, ℕ, zero, suc, ◌+◌, ◌*◌, ◌/◌, ◌%◌, ◌<◌, ◌≤◌, length, get_or, set}
+use Rattle.std.specs.Prelude.{◌≡◌, refl, List, [], ◌∷◌, ℕ, ◌+◌, ◌*◌, ◌<◌, ◌≤◌, length, get_or, set}
 use Rattle.std.proofs.Common.{◌∙◌, arith, get_or-set_same, get_or-set_other}
 use Rattle.std.proofs.Math.Bool.{false}
 use borrow.Author.Tests.{eqb-true, eqb-false}
@@ -7,14 +7,13 @@ use Rattle.std.proofs.Math.Dec.{eqb}
 use Rattle.words.specs.Words.{words}
 use Rattle.words.specs.Laws.{length_words}
 use Rattle.ir.specs.Scratch.{roles_at}
-use Rattle.ir.specs.Roles.{role_id, role_code, role_of, is_inverse}
+use Rattle.ir.specs.Roles.{role_id, role_code, flipped}
+use Rattle.ir.specs.declared.role.Role.{Role}
 use Rattle.ir.specs.declared.role.Role.TheVariants.{Named, Inverse}
-use Rattle.rules.specs.Base.{is_some}
 use Rattle.rules.specs.Deck.{most_roles}
 use Rattle.rules.specs.Inverse.{InverseCanon, lookup, skipped, declared, canon_of, canon_role}
 use Rattle.rules.specs.TextLaws.{by_test}
 use Rattle.inverse.specs.Layout.{RolesHeld, MappedAt, free, key, Mapped, Beside}
-use Rattle.inverse.specs.Laws.{even_named, odd_inverse}
 
 -- the map that canon_role reads
 pub mapped_held : (w : List ℕ) (m : InverseCanon) → Mapped w m most_roles → RolesHeld w m
@@ -25,54 +24,26 @@ mapped_held w m M = record { mapped = λ r l. at r (M.each r l) }
     at r (free a b) = rw a b
     at r (key i a b) = rw a b
 
--- ---- an axiom that makes no entry
-or_true : (b : Bool) → (b || true) ≡ true
-or_true true = refl
-or_true false = refl
-
-even_of : (c : ℕ) → (c % 2 ≡ 1 → ⊥) → c % 2 ≡ 0
-even_of c h = two (c % 2) (omega arith) h
-  where
-    two : (n : ℕ) → n < 2 → (n ≡ 1 → ⊥) → n ≡ 0
-    two zero l h = refl
-    two (suc n) l h = absurd (h (omega arith))
-
-odd_of : (c : ℕ) → c % 2 ≡ 1 → c % 2 ≡ 0 → ⊥
-odd_of c h e = absurd (omega arith)
-
-module _ (m : InverseCanon) (r s : ℕ) where
-  pub skip_inverse : r % 2 ≡ 1 → true ≡ skipped m (role_of r) (role_of s)
-  skip_inverse h = rw (odd_inverse r (odd_of r h)) refl
-
-  pub skip_second : s % 2 ≡ 1 → true ≡ skipped m (role_of r) (role_of s)
-  skip_second h = rw (odd_inverse s (odd_of s h)) (by (is_inverse (role_of r)))
-    where
-      by : (b : Bool) → true ≡ (b || true || eqb (role_id (role_of r)) (s / 2) || is_some (lookup m (role_id (role_of r))) || is_some (lookup m (s / 2)))
-      by true = refl
-      by false = refl
-
--- ---- one entry more
-module _ (w w' : List ℕ) (m : InverseCanon) (r s : ℕ) (M : Mapped w m most_roles) where
-  module _ (h : skipped m (role_of r) (role_of s) ≡ false) (e : w' ≡ set w (roles_at + s / 2) (r + 1)) (long : roles_at + most_roles ≤ length w) where
-    p : r % 2 ≡ 0
-    p = by_test (eqb (r % 2) 1) (λ t. absurd (let z : true ≡ false = skip_inverse m r s (eqb-true (r % 2) 1 t) ∙ h in let y : ◌≡◌ {A = ℕ} 0 1 = cc in omega arith)) (λ t. even_of r (eqb-false (r % 2) 1 t))
-
-    q : s % 2 ≡ 0
-    q = by_test (eqb (s % 2) 1) (λ t. absurd (let z : true ≡ false = skip_second m r s (eqb-true (s % 2) 1 t) ∙ h in let y : ◌≡◌ {A = ℕ} 0 1 = cc in omega arith)) (λ t. even_of s (eqb-false (s % 2) 1 t))
-
-    entry : (k : ℕ) → k < most_roles → MappedAt w' (declared m (role_of r) (role_of s)) k
+-- ---- one entry more, of the named roles a and b
+module _ (w w' : List ℕ) (m : InverseCanon) (a b : ℕ) (M : Mapped w m most_roles) where
+  module _ (h : skipped m (Named a) (Named b) ≡ false) (e : w' ≡ set w (roles_at + b) (2 * a + 1)) (long : roles_at + most_roles ≤ length w) where
+    entry : (k : ℕ) → k < most_roles → MappedAt w' (declared m (Named a) (Named b)) k
     unfolding lookup
-    entry k l = rw (h, even_named r p, even_named s q) (by_test (eqb (s / 2) k)
-        (λ t. let z : s / 2 ≡ k = eqb-true (s / 2) k t in
-        key (r / 2) (rw t refl) (rw (e, ← z) (get_or-set_same w (roles_at + s / 2) (r + 1) 0 (omega arith) ∙ omega (arith, p))))
+    entry k l = rw h (by_test (eqb b k)
+        (λ t. let z : b ≡ k = eqb-true b k t in
+        key a (rw t refl) (rw (e, ← z) (get_or-set_same w (roles_at + b) (2 * a + 1) 0 (omega arith))))
         (λ t. other k t (M.each k l)))
       where
-        other : (k : ℕ) → eqb (s / 2) k ≡ false → MappedAt w m k → MappedAt w' (record { key = s / 2; value = Inverse (r / 2) } ∷ m) k
-        other k t (free a b) = free (rw t a) (rw e (get_or-set_other w (roles_at + s / 2) (roles_at + k) (r + 1) 0 (λ z. eqb-false (s / 2) k t (omega arith)) ∙ b))
-        other k t (key i a b) = key i (rw t a) (rw e (get_or-set_other w (roles_at + s / 2) (roles_at + k) (r + 1) 0 (λ z. eqb-false (s / 2) k t (omega arith)) ∙ b))
+        other : (k : ℕ) → eqb b k ≡ false → MappedAt w m k → MappedAt w' (record { key = b; value = Inverse a } ∷ m) k
+        other k t (free x y) = free (rw t x) (rw e (get_or-set_other w (roles_at + b) (roles_at + k) (2 * a + 1) 0 (λ z. eqb-false b k t (omega arith)) ∙ y))
+        other k t (key i x y) = key i (rw t x) (rw e (get_or-set_other w (roles_at + b) (roles_at + k) (2 * a + 1) 0 (λ z. eqb-false b k t (omega arith)) ∙ y))
 
-    pub declare_more : Mapped w' (declared m (role_of r) (role_of s)) most_roles
-    declare_more = record { each = entry }
+-- the other roles make none
+pub declare_more : (w w' : List ℕ) (m : InverseCanon) (r s : Role) → Mapped w m most_roles → skipped m r s ≡ false → w' ≡ set w (roles_at + role_id s) (role_code (flipped r)) → roles_at + most_roles ≤ length w
+    → Mapped w' (declared m r s) most_roles
+declare_more w w' m (Named a) (Named b) M h e long = record { each = entry w w' m a b M h e long }
+declare_more w w' m (Named a) (Inverse b) M h e long = absurd (let y : ◌≡◌ {A = ℕ} 0 1 = cc in omega arith)
+declare_more w w' m (Inverse a) s M h e long = absurd (let y : ◌≡◌ {A = ℕ} 0 1 = cc in omega arith)
 
 -- ---- each role its own
 pub mapped_none : (w : List ℕ) → Mapped w [] 0

@@ -1,8 +1,8 @@
 -- Roles by their codes, and the map on inverse roles. Assumes nothing.
 use Rattle.std.specs.Prelude.{◌≡◌, refl, ℕ, ◌/◌, ◌%◌}
-use Rattle.std.proofs.Common.{sym, ap, ◌∙◌, ne_eqb}
+use Rattle.std.proofs.Common.{ne_eqb}
 use Rattle.std.proofs.Math.Option.{Option, none, some}
-use Rattle.ir.specs.Roles.{role_code, role_of, flipped, role_code_lem}
+use Rattle.ir.specs.Roles.{role_of, flipped}
 use Rattle.ir.specs.declared.role.Role.{Role}
 use Rattle.ir.specs.declared.role.Role.TheVariants.{Named, Inverse}
 use Rattle.rules.specs.Inverse.{InverseCanon, lookup, canon_of, canon_role}
@@ -21,9 +21,3 @@ canon_inverse m i = by (lookup m i)
     by : (o : Option Role) → canon_of (Inverse i) o ≡ flipped (canon_of (Named i) o)
     by none = refl
     by (some r) = refl
-
--- ---- canon_role, of the word of the map
-pub canon_odd : (m : InverseCanon) (c x y : ℕ) → (c % 2 ≡ 0 → ⊥) → x ≡ role_code (canon_role m (Named (c / 2))) → y ≡ role_code (flipped (role_of x)) → y ≡ role_code (canon_role m (role_of c))
-canon_odd m c x y e h f =
-    f ∙ ap (λ (n : ℕ). role_code (flipped (role_of n))) h ∙ ap (λ (r : Role). role_code (flipped r)) (role_code_lem (canon_role m (Named (c / 2))))
-    ∙ ap role_code (sym (canon_inverse m (c / 2))) ∙ ap (λ (r : Role). role_code (canon_role m r)) (sym (odd_inverse c e))

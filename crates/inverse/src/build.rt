@@ -2,13 +2,14 @@
 ghost use Rattle.std.specs.Prelude.{◌≡◌, [], ◌*◌, ◌≤◌, ◌<◌, length};
 ghost use Rattle.words.specs.Words.{words};
 ghost use Rattle.ir.specs.Scratch.{alternatives_at};
-ghost use Rattle.ir.specs.Roles.{role_of};
+ghost use Rattle.ir.specs.Roles.{role_id};
 ghost use Rattle.rules.specs.Deck.{most_roles};
 ghost use Rattle.rules.specs.Inverse.{InverseCanon, lookup, skipped, declared, inverse_of, build_inverse_canon};
 ghost use Rattle.rules.specs.Base.{is_some};
 ghost use Rattle.ontology.specs.Layout.{axiom_at, axioms_of};
 ghost use Rattle.inverse.specs.Layout.{RolesHeld, Mapped, Beside, Building};
 
+use ir::role::Role;
 use ir::scratch::ROLES;
 use ontology::axiom;
 
@@ -24,35 +25,26 @@ fn is_key(scratch: &[u8], r: u32) -> bool
 }
 
 // Whether an axiom 32 of roles r and s makes no entry.
-fn skip(scratch: &[u8], r: u32, s: u32) -> bool
-    requires { (r < 2 * most_roles) × (s < 2 * most_roles) × (4 * alternatives_at ≤ length scratch.now) }
-    ensures { (m : InverseCanon) → Mapped (words scratch.now) m most_roles → result ≡ skipped m (role_of r) (role_of s) }
+fn skip(scratch: &[u8], r: Role, s: Role) -> bool
+    requires { (role_id r < most_roles) × (role_id s < most_roles) × (4 * alternatives_at ≤ length scratch.now) }
+    ensures { (m : InverseCanon) → Mapped (words scratch.now) m most_roles → result ≡ skipped m r s }
 {
-    if r % 2 == 1 {
-        return true;
+    match (r, s) {
+        (Role::Named(a), Role::Named(b)) => { a == b || is_key(scratch, a) || is_key(scratch, b) }
+        _ => true,
     }
-    if s % 2 == 1 {
-        return true;
-    }
-    if r == s {
-        return true;
-    }
-    if is_key(scratch, r / 2) {
-        return true;
-    }
-    is_key(scratch, s / 2)
 }
 
 // S ≡ R⁻.
-fn declare(scratch: &mut [u8], r: u32, s: u32)
-    requires { (r < 2 * most_roles) × (s < 2 * most_roles) × (4 * alternatives_at ≤ length scratch.old) }
-    ensures mapped { (m : InverseCanon) → Mapped (words scratch.old) m most_roles → Mapped (words scratch.new) (declared m (role_of r) (role_of s)) most_roles }
+fn declare(scratch: &mut [u8], r: Role, s: Role)
+    requires { (role_id r < most_roles) × (role_id s < most_roles) × (4 * alternatives_at ≤ length scratch.old) }
+    ensures mapped { (m : InverseCanon) → Mapped (words scratch.old) m most_roles → Mapped (words scratch.new) (declared m r s) most_roles }
     ensures beside { Beside (words scratch.old) (words scratch.new) }
 {
     if skip(scratch, r, s) {
         return;
     }
-    words::put_word(scratch, ROLES + (s / 2) as usize, r + 1);
+    words::put_word(scratch, ROLES + s.role_id() as usize, r.flip().code());
 }
 
 // Each role is its own.
@@ -62,7 +54,7 @@ fn clear_roles(scratch: &mut [u8])
     ensures beside { Beside (words scratch.old) (words scratch.new) }
 {
     for r in 0..1024 {
-        words::put_word(scratch, ROLES + r as usize, 2 * r);
+        words::put_word(scratch, ROLES + r as usize, Role::Named(r).code());
     }
 }
 
@@ -75,8 +67,8 @@ fn declare_axiom(scratch: &mut [u8], n: u32, i: u32)
     if axiom::number(scratch, i, 0) != INVERSE {
         return;
     }
-    let r = axiom::number(scratch, i, 1);
-    let s = axiom::number(scratch, i, 2);
+    let r = Role::of_code(axiom::number(scratch, i, 1));
+    let s = Role::of_code(axiom::number(scratch, i, 2));
     declare(scratch, r, s);
 }
 

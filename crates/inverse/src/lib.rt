@@ -3,34 +3,35 @@
 
 pub mod build;
 
-ghost use Rattle.std.specs.Prelude.{◌≡◌, ◌*◌, ◌≤◌, ◌<◌, length};
+ghost use Rattle.std.specs.Prelude.{◌≡◌, ◌*◌, ◌≤◌, ◌<◌, ◌^◌, length};
 ghost use Rattle.words.specs.Words.{words};
 ghost use Rattle.ir.specs.Scratch.{alternatives_at};
-ghost use Rattle.ir.specs.Roles.{role_of, role_code, flipped};
+ghost use Rattle.ir.specs.Roles.{role_of, role_id};
+ghost use Rattle.ir.specs.declared.role.Role.TheVariants.{Named};
 ghost use Rattle.rules.specs.Deck.{most_roles};
 ghost use Rattle.rules.specs.Inverse.{InverseCanon, canon_role};
 ghost use Rattle.inverse.specs.Layout.{RolesHeld};
 
+use ir::role::Role;
 use ir::scratch::ROLES;
 
-// The other polarity of a role's code.
-fn flip(code: u32) -> u32
-    ensures { result ≡ role_code (flipped (role_of code)) }
+// What named role r is mapped to.
+fn mapped(scratch: &[u8], r: u32) -> Role
+    requires { (r < most_roles) × (4 * alternatives_at ≤ length scratch.now) }
+    ensures value { (m : InverseCanon) → RolesHeld (words scratch.now) m → result ≡ canon_role m (Named r) }
+    ensures result_bound { role_id result < 2 ^ 31 }
 {
-    if code % 2 == 0 {
-        return code + 1;
-    }
-    code - 1
+    Role::of_code(words::get_word(scratch, ROLES + r as usize))
 }
 
-// The code of a role's canonical form.
-pub fn canon_role(scratch: &[u8], code: u32) -> u32
+// The canonical form of a code's role.
+pub fn canon_role(scratch: &[u8], code: u32) -> Role
     requires { (code < 2 * most_roles) × (4 * alternatives_at ≤ length scratch.now) }
-    ensures { (m : InverseCanon) → RolesHeld (words scratch.now) m → result ≡ role_code (canon_role m (role_of code)) }
+    ensures value { (m : InverseCanon) → RolesHeld (words scratch.now) m → result ≡ canon_role m (role_of code) }
+    ensures result_bound { role_id result < 2 ^ 31 }
 {
-    let canon = words::get_word(scratch, ROLES + (code / 2) as usize);
-    if code % 2 == 0 {
-        return canon;
+    match Role::of_code(code) {
+        Role::Named(r) => mapped(scratch, r),
+        Role::Inverse(r) => mapped(scratch, r).flip(),
     }
-    flip(canon)
 }

@@ -59,7 +59,5 @@ pub fn canon(scratch: &[u8], k: Counters, c: u32) -> Role
     ensures value { (env : Env) → EnvIn env k (words scratch.now) → result ≡ canon env (role_of (field (words scratch.now) c 1)) }
     ensures result_bound { role_id result < 2 ^ 31 }
 {
-    let code = record::role(scratch, c);
-    let canon = inverse::canon_role(scratch, code);
-    Role::of_code(canon)
+    inverse::canon_role(scratch, record::role(scratch, c))
 }

@@ -42,8 +42,8 @@ own_held : (w : List ℕ) → RolesHeld w (own_map w most_roles)
 unfolding canon_role
 own_held w = record { mapped = λ r l. sym (ap (λ o. role_code (canon_of (Named r) o)) (own_lookup w most_roles r l) ∙ code_role (get_or w (roles_at + r) 0)) }
 
--- what canon_role answers, halved
-pub half_id : (w : List ℕ) (c x : ℕ) → c < 2 * most_roles → ((m : InverseCanon) → RolesHeld w m → x ≡ role_code (canon_role m (role_of c))) → x / 2 ≡ id_at w c
-half_id w c x h f =
+-- the id of what canon_role answers
+pub answered_id : (w : List ℕ) (c : ℕ) (r : Role) → c < 2 * most_roles → ((m : InverseCanon) → RolesHeld w m → r ≡ canon_role m (role_of c)) → role_id r ≡ id_at w c
+answered_id w c r h f =
     let m = own_map w most_roles in
-    ap (λ (n : ℕ). n / 2) (f m (own_held w)) ∙ code_id (canon_role m (role_of c)) ∙ mapped_id w m c (own_held w) h
+    ap role_id (f m (own_held w)) ∙ mapped_id w m c (own_held w) h

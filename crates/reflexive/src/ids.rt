@@ -27,7 +27,7 @@ fn canon_id(scratch: &[u8], code: u32) -> u32
     requires { (code < 2 * most_roles) × (4 * alternatives_at ≤ length scratch.now) }
     ensures { result ≡ id_at (words scratch.now) code }
 {
-    inverse::canon_role(scratch, code) / 2
+    inverse::canon_role(scratch, code).role_id()
 }
 
 // Adds an id to a set of so many; how many there are then.

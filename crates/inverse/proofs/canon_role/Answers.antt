@@ -1,7 +1,9 @@
-use mathlib.Core.Path.{◌∙◌}
-use native.Mathlib.Omega.{arith}
-use Rattle.inverse.specs.Laws.{canon_odd}
+use mathlib.Core.Path.{sym, ap, ◌∙◌}
+use Rattle.ir.specs.Roles.{flipped}
+use Rattle.rules.specs.Inverse.{canon_role}
+use Rattle.inverse.specs.Laws.{canon_inverse}
 use Rattle.inverse.proofs.canon_role.Goals as goal
 
-pub returns : goal.returns
-returns c = λ m h. canon_odd m _ _ _ c.if-code-eq0.false (c.get_word-canon.ensures ∙ h.mapped _ (omega arith)) c.flip.ensures
+pub returns-in-Inverse-clause-value : goal.returns-in-Inverse-clause-value
+returns-in-Inverse-clause-value c = λ m h.
+    c.flip.ensures ∙ ap flipped (c.mapped-in-Inverse.ensures.value m h) ∙ sym (canon_inverse m c.in-Inverse.r) ∙ ap (canon_role m) (sym c.in-Inverse.is ∙ c.of_code.ensures)
