@@ -1,4 +1,5 @@
-// What a deck's concepts mean in a state that is laid out: a set for each concept line.
+// What a deck's concepts mean in a state that is laid out: a set for each concept line. Store and scratch are two lent buffers, each by
+// itself: one is read while the other is written.
 #![tactic(auto)]
 
 mod joint;
@@ -124,10 +125,10 @@ fn concept_set(store: &[u8], scratch: &[u8], c: u32, t: Trial) -> u64
     ensures { IsSet (words store.now) (words scratch.now) t c result }
 {
     let kind = record::kind(scratch, c);
-    if kind < 5 {
+    if kind < SELF {
         return leaf_set(store, scratch, c, t);
     }
-    if kind < 9 {
+    if kind < SOME {
         return composed_set(scratch, c, t);
     }
     filled_set(scratch, c, t)

@@ -1,4 +1,5 @@
-// A reply for a caller in C: one number, and a table of ten words.
+// A reply for a caller in C: one number, and a table of ten words. No From for the numbers: a u64 has no name of its own, and the
+// contracts' definitions have these; and a Result is turned into a row, which neither type is of this crate.
 ghost use Rattle.std.specs.Prelude.{◌≡◌, ◌+◌, ◌*◌, ◌^◌, length};
 ghost use Rattle.words.specs.Words.{words};
 ghost use Rattle.ir.specs.Refusals.{refusal_number};

@@ -12,7 +12,7 @@ use crate::reply;
 use ir::answer::Refused;
 use trials::judged::Verdict;
 
-// 0 where all hold, 1 where something is broken; a refusal's number × 2^32 + line.
+// No From, as in reply: 0 where all hold, 1 where something is broken; a refusal's number × 2^32 + line.
 fn code(tried: Result<Verdict, Refused>) -> u64
     ensures { result ≡ code_of_tried (told_trial tried) }
 {
@@ -59,7 +59,7 @@ pub extern "C" fn gorvask_try_axioms(
     code(tried)
 }
 
-// The same by the clauses.
+// The same by the clauses: two exported C names, so two functions.
 #[unsafe(no_mangle)]
 pub extern "C" fn gorvask_try_clauses(
     deck: &[u8],

@@ -18,7 +18,7 @@ use Rattle.states.specs.State.{State, Seen, StateTold, stated, bad, unread, numb
 use Rattle.sets.specs.Kept.{set_at}
 use Rattle.sets.specs.Places.{rows_at}
 use Rattle.sets.specs.Laid.{Laid, row_of as row_in, KeptTo}
-use Rattle.layouts.specs.declared.Limits.{Limits}
+use Rattle.layouts.specs.declared.limits.Limits.{Limits}
 use Rattle.layouts.specs.declared.BadLine.{BadLine}
 use Rattle.std.specs.Prelude.{Result, Ok, Err}
 use Rattle.layouts.specs.Read.{Declares, known_of, StatedAs}

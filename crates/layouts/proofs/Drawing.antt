@@ -18,7 +18,7 @@ use Rattle.states.specs.State.{State, numbers_at, has_pair, is_individual_class,
 use Rattle.states.specs.Masks.{mask_of}
 use Rattle.sets.specs.Kept.{set_at}
 use Rattle.layouts.specs.declared.enter.At.{At}
-use Rattle.layouts.specs.declared.Limits.{Limits}
+use Rattle.layouts.specs.declared.limits.Limits.{Limits}
 use Rattle.layouts.specs.Read.{known_of}
 use Rattle.layouts.specs.Drawn.{room_put, RowsAs, with_pairs, Later, Ahead, Drawn, entered_line}
 use Rattle.layouts.proofs.Facts.{Fine}

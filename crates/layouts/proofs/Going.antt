@@ -24,10 +24,10 @@ use Rattle.sets.specs.Kept.{set_at}
 use Rattle.sets.specs.KeptLaws.{set_same}
 use Rattle.sets.specs.Places.{line_at, rows_at}
 use Rattle.sets.specs.Laid.{Laid, KeptTo}
-use Rattle.layouts.specs.declared.Limits.{Limits}
+use Rattle.layouts.specs.declared.limits.Limits.{Limits}
 use Rattle.std.specs.Prelude.{Err}
 use Rattle.layouts.specs.declared.enter.At.{At}
-use Rattle.layouts.specs.Read.{Limited, known_of, StatedAs, ended_as}
+use Rattle.layouts.specs.Read.{known_of, StatedAs, ended_as}
 use Rattle.layouts.specs.Lines.{line_in, before, rows_word, KeptFrom, GoodLine}
 use Rattle.layouts.specs.Drawn.{Drawn, Blank, IsLine, entered_line}
 use Rattle.layouts.proofs.Drawing.{at}
@@ -126,10 +126,10 @@ module _ (text store₀ scratch₀ : List ℕ) (m : Limits) (size from : ℕ) wh
             let n = length-drop p text in
             sym e ∙ line_step (known_of m) m.fresh f line (seen a.kind a.id G.so_far) (drop p text) (omega (arith, n, h)) ∙ b (λ v rest. state_by f (known_of m) m.fresh (line + 1) v rest) line G.so_far G.drawn.size_is
 
-    pub going_few : Limited m → p < length text → BadLine m a.kind a.id size text p → line < 4294967296
-    going_few L h b =
+    pub going_few : p < length text → BadLine m a.kind a.id size text p → line < 4294967296
+    going_few h b =
         let q = start_few (known_of m) m.fresh (suc (length (drop from text))) (state size [] [] []) (drop from text) line (going_bad h b) in
-        omega (arith, q, L.classes, L.individuals, L.roles, L.fresh)
+        omega (arith, q, m.few_classes, m.few_individuals, m.few_roles, m.few_fresh)
 
     pub going_told : (w v : List ℕ) (n : ℕ) → n ≡ line → p < length text → BadLine m a.kind a.id size text p → StatedAs (known_of m) m whole w v (Err record { line = n })
     going_told w v n e h b = subst (λ (x : StateTold). StatedAs (known_of m) m x w v (Err record { line = n })) (sym (going_bad h b)) e

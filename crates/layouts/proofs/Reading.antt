@@ -26,7 +26,7 @@ use Rattle.meaning.specs.Truth.{and_left, and_right}
 use Rattle.states.specs.State.{State, state, Seen, seen, StateTold, bad, count_ok, most_elements, line_ok, on_line, on_state_row, on_count, state_by, read_state}
 use Rattle.sets.specs.Places.{line_at, line_words}
 use Rattle.sets.specs.Laid.{KeptTo}
-use Rattle.layouts.specs.declared.Limits.{Limits}
+use Rattle.layouts.specs.declared.limits.Limits.{Limits}
 use Rattle.layouts.specs.Read.{known_of}
 use Rattle.layouts.specs.Lines.{line_in, before, rows_word, KeptFrom, FirstLine, GoodLine}
 use Rattle.layouts.proofs.Facts.{line_fine, long_bad}

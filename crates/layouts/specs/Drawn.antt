@@ -13,9 +13,9 @@ use Rattle.states.specs.Test.{store_bytes}
 use Rattle.states.specs.Masks.{mask_of}
 use Rattle.sets.specs.Kept.{set_at, set_put}
 use Rattle.sets.specs.Laid.{row_of, KeptTo}
-use Rattle.layouts.specs.declared.Limits.{Limits}
+use Rattle.layouts.specs.declared.limits.Limits.{Limits}
 use Rattle.layouts.specs.declared.enter.At.{At}
-use Rattle.layouts.specs.Read.{Limited, known_of}
+use Rattle.layouts.specs.Read.{known_of}
 use Rattle.layouts.specs.Lines.{line_in, LineThere, before, rows_word}
 
 -- set c, where there is room for it
@@ -65,7 +65,6 @@ pub record Drawn (d : Known) (s : State) (at : At) (size : ℕ) (w v : List ℕ)
 
 -- what entering a line asks of the bytes of the store and of scratch
 pub record Enterable (m : Limits) (at : At) (size : ℕ) (store scratch : List ℕ) (n : ℕ) : Type 0 where
-  pub limited : Limited m
   pub few : size ≤ most_elements
   pub room : store_bytes ≤ length store
   pub there : LineThere scratch n
@@ -75,7 +74,6 @@ pub record Enterable (m : Limits) (at : At) (size : ℕ) (store scratch : List �
 
 -- before the second line: every set is empty
 pub record Blank (m : Limits) (size : ℕ) (text store scratch : List ℕ) (from : ℕ) : Type 0 where
-  pub limited : Limited m
   pub some : 0 < size
   pub few : size ≤ most_elements
   pub room : store_bytes ≤ length store

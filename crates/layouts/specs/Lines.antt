@@ -5,7 +5,7 @@ use Rattle.rules.specs.Deck.{Known}
 use Rattle.rules.specs.Run.{scratch_bytes}
 use Rattle.states.specs.State.{State, state, Seen, seen, StateTold, bad, most_elements, line_ok, on_state_row, state_by, read_state}
 use Rattle.sets.specs.Places.{line_at, line_words}
-use Rattle.layouts.specs.declared.Limits.{Limits}
+use Rattle.layouts.specs.declared.limits.Limits.{Limits}
 use Rattle.layouts.specs.declared.line.First.{First}
 use Rattle.layouts.specs.declared.line.Next.{Next}
 use Rattle.layouts.specs.Read.{known_of}

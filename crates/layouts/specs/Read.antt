@@ -1,17 +1,11 @@
 -- What the reader of a state promises.
-use Rattle.std.specs.Prelude.{◌≡◌, List, [], ℕ, ◌≤◌, eqb, Result, Ok, Err}
+use Rattle.std.specs.Prelude.{◌≡◌, List, [], ℕ, eqb, Result, Ok, Err}
 use Rattle.ir.specs.Pick.{pick}
-use Rattle.rules.specs.Deck.{Known, known, most_classes, most_individuals, most_roles}
+use Rattle.rules.specs.Deck.{Known, known}
 use Rattle.states.specs.State.{StateTold, stated, bad, unread, interpretation_of}
 use Rattle.sets.specs.Laid.{Laid}
-use Rattle.layouts.specs.declared.Limits.{Limits}
+use Rattle.layouts.specs.declared.limits.Limits.{Limits}
 use Rattle.layouts.specs.declared.BadLine.{BadLine}
-
-pub record Limited (m : Limits) : Type 0 where
-  pub classes : m.classes ≤ most_classes
-  pub individuals : m.individuals ≤ most_individuals
-  pub roles : m.roles ≤ most_roles
-  pub fresh : m.fresh ≤ 2000000
 
 pub record Declares (d : Known) (m : Limits) : Type 0 where
   pub classes : d.header.classes ≡ m.classes

@@ -1,12 +1,12 @@
 // The checks of a line.
 ghost use Rattle.std.specs.Prelude.{◌≡◌, ◌&&◌, ◌||◌, ◌≤◌, eqb, ltb, drop};
 ghost use Rattle.states.specs.State.{count_ok, follows_ok, takes_class, rest_ok, line_ok};
-ghost use Rattle.layouts.specs.Read.{Limited, known_of};
+ghost use Rattle.layouts.specs.Read.{known_of};
 ghost use Rattle.layouts.specs.Lines.{before};
 ghost use Rattle.layouts.specs.Numbers.{numbers};
 
-use crate::Limits;
 use crate::enter::At;
+use crate::limits::Limits;
 use crate::numbers::Numbers;
 
 // The first line: 50 and 1 to 64 elements.
@@ -39,7 +39,6 @@ pub fn pair_above(a: u32, b: u32, c: u32, d: u32) -> bool
 
 // A declared class, or a fresh id of the run; no individual's class.
 fn takes_class(m: Limits, c: u32) -> bool
-    requires { Limited m }
     ensures { result ≡ takes_class (known_of m) m.fresh c }
 {
     let classes = m.classes;
@@ -54,7 +53,7 @@ fn takes_class(m: Limits, c: u32) -> bool
 }
 
 fn rest_ok(line: &Numbers, m: Limits, k: u32, i: u32) -> bool
-    requires { Limited m × (2 ≤ line.now.count) }
+    requires { 2 ≤ line.now.count }
     ensures { result ≡ rest_ok (known_of m) m.fresh k i (drop 2 (numbers line.now)) }
 {
     if k == 51 {
@@ -68,7 +67,6 @@ fn rest_ok(line: &Numbers, m: Limits, k: u32, i: u32) -> bool
 
 // A line behind one of this kind and id, in a state of so many elements.
 pub fn line_ok(line: &Numbers, m: Limits, at: At, size: u32) -> bool
-    requires { Limited m }
     ensures { result ≡ line_ok (known_of m) m.fresh (before at.kind at.id size) (numbers line.now) }
 {
     if line.count < 2 {

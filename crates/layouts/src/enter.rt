@@ -10,7 +10,7 @@ ghost use Rattle.layouts.specs.Read.{known_of};
 ghost use Rattle.layouts.specs.Lines.{line_in, LineThere, rows_word};
 ghost use Rattle.layouts.specs.Drawn.{room_put, Linked, RowsAs, with_pair, with_pairs, Drawn, Enterable, IsLine, entered_line};
 
-use crate::Limits;
+use crate::limits::Limits;
 use crate::numbers::Numbers;
 use sets::{kept, places};
 

@@ -5,6 +5,7 @@
 
 pub mod check;
 pub mod enter;
+pub mod limits;
 pub mod line;
 pub mod numbers;
 
@@ -16,24 +17,32 @@ ghost use Rattle.states.specs.State.{state, seen, state_by, read_state};
 ghost use Rattle.states.specs.Test.{store_bytes};
 ghost use Rattle.sets.specs.Places.{deck_words, line_at};
 ghost use Rattle.sets.specs.Laid.{KeptTo};
-ghost use Rattle.layouts.specs.Read.{Limited, Declares, known_of, StatedAs, ended_as};
+ghost use Rattle.layouts.specs.Read.{Declares, known_of, StatedAs, ended_as};
 ghost use Rattle.layouts.specs.Drawn.{Blank};
 
 use crate::enter::At;
-
-// How many classes, individuals and roles a deck declares, and how many fresh ids its run took.
-#[derive(Clone, Copy)]
-pub struct Limits {
-    pub classes: u32,
-    pub individuals: u32,
-    pub roles: u32,
-    pub fresh: u32,
-}
+use crate::limits::Limits;
+use ir::answer::Refused;
+use ir::refusal::Refusal;
 
 // The first bad line of a state, from 1; 0 where an individual has no line, as the reply's row has it.
 #[derive(Clone, Copy, PartialEq, Eq, Debug)]
 pub struct BadLine {
     pub line: u32,
+}
+
+// Refusal 13, at the state's line.
+impl From<BadLine> for Refused {
+    ghost use Rattle.ir.specs.declared.refusal.Refusal.TheVariants.{BadState};
+
+    ghost from_gives = { λ bad e. (e.refusal ≡ BadState) × (e.line ≡ bad.line) };
+
+    fn from(bad: BadLine) -> Refused {
+        Refused {
+            refusal: Refusal::BadState,
+            line: bad.line,
+        }
+    }
 }
 
 // Behind the last line: each individual must have had its own.
@@ -86,7 +95,7 @@ pub fn read_state(
     scratch: &mut [u8],
     m: Limits,
 ) -> Result<u32, BadLine>
-    requires { Limited m × (store_bytes ≤ length store.old) × (scratch_bytes ≤ length scratch.old) }
+    requires { (store_bytes ≤ length store.old) × (scratch_bytes ≤ length scratch.old) }
     ensures stated_as { (d : Known) → Declares d m → StatedAs d m (read_state d m.fresh text.now) (words store.new) (words scratch.new) result }
     ensures kept_to { KeptTo deck_words (words scratch.old) (words scratch.new) }
 {

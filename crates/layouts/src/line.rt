@@ -4,12 +4,12 @@ ghost use Rattle.words.specs.Words.{words};
 ghost use Rattle.rules.specs.Run.{scratch_bytes};
 ghost use Rattle.sets.specs.Places.{line_at};
 ghost use Rattle.sets.specs.Laid.{KeptTo};
-ghost use Rattle.layouts.specs.Read.{Limited};
 ghost use Rattle.layouts.specs.Lines.{FirstAs, NextAs};
 
+use crate::check;
 use crate::enter::At;
+use crate::limits::Limits;
 use crate::numbers::Numbers;
-use crate::{Limits, check};
 use sets::places;
 use text::Line;
 
@@ -58,7 +58,7 @@ pub fn next_line(
     at: At,
     size: u32,
 ) -> Option<Next>
-    requires { (scratch_bytes ≤ length scratch.old) × Limited m × (size ≤ 64) }
+    requires { (scratch_bytes ≤ length scratch.old) × (size ≤ 64) }
     ensures next_as { NextAs m at.kind at.id size text.now p (words scratch.old) (words scratch.new) result }
     ensures kept_to { KeptTo line_at (words scratch.old) (words scratch.new) }
 {

@@ -18,6 +18,9 @@ use ir::refusal::Refusal;
 use ir::scratch::{NORMAL_FORMS, NUMBERS, STACK};
 use ontology::axiom;
 
+// Kinds of axioms are the deck's numbers, as the definitions of these names and the rules' `axiom_of` have them: an enum would be made
+// by a match over the same numbers.
+
 // Where the concepts of an axiom begin among its numbers.
 fn first_concept(kind: u32) -> u32
     ensures { result ≡ first_concept kind }

@@ -21,6 +21,7 @@ pub struct Form {
     pub visits: u32,
 }
 
+// Its word. (`negated` is `form_at`'s own Bool; a type of ids below 2048 would be made at each use, to be taken apart here.)
 fn place(c: u32, negated: bool) -> usize
     requires { c < 2048 }
     ensures { result ≡ form_at negated c }

@@ -1,5 +1,7 @@
 // to_nnf and push_negation_in: one function, which is negated for the second, and its loop over a concept's parts. `negated` and
-// `memo` choose what `nnf_by` and `KnownIf` choose by the same Bool.
+// `memo` choose what `nnf_by` and `KnownIf` choose by the same Bool: a closure would need a name for what each of the two says. (`memo`
+// was tried as a const parameter of the three: the check refuses the step that it makes itself for a call inside a generic cycle,
+// `the-fit-normal_each-normal-requires`, whatever the answers.)
 ghost use Rattle.std.specs.Prelude.{◌≡◌, true, false, ℕ, ◌<◌};
 ghost use Rattle.words.specs.Words.{words};
 ghost use Rattle.ir.specs.Scratch.{stack_at};
@@ -115,6 +117,7 @@ pub fn normal_run(
     normal_each(scratch, k, at, n, top, c, negated, false)
 }
 
+// No pass calls it, since axioms go by `normal_each`: it says by the Rust's name that the code equals the rules' to_nnf.
 pub fn to_nnf(scratch: &mut [u8], k: &mut Counters, c: u32) -> Result<u32, Refusal>
     requires { Normalizing scratch.old k.old stack_at c }
     ensures by_index { (f : ℕ) → c < f → after (answer k.new result) (words scratch.new) ≡ told k.old (to_nnf f c (state_of k.old (words scratch.old))) }

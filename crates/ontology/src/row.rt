@@ -6,7 +6,8 @@ ghost use Rattle.rules.specs.Text.{most_number};
 ghost use Rattle.rules.specs.Invariants.{Each};
 ghost use Rattle.text.specs.Rows.{row_at};
 
-// The n numbers of the line at p become the words from `at` on.
+// The n numbers of the line at p become the words from `at` on. (The two places and the count as `row_at` and `sets` have them: a part of
+// each table would be made by each caller with the same numbers times eleven and four.)
 pub fn put_row(deck: &[u8], p: usize, n: usize, scratch: &mut [u8], at: usize)
     requires { (p + 11 * n ≤ length deck.now) × (4 * (at + n) ≤ length scratch.old) × Each (λ x. x ≤ most_number) (row_at deck.now p n) }
     ensures { words scratch.new ≡ sets (words scratch.old) at (row_at deck.now p n) }

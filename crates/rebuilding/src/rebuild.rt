@@ -1,4 +1,5 @@
-// A concept made again of its parts' normal forms. `negated` chooses what `rebuilt` chooses by the same Bool.
+// A concept made again of its parts' normal forms. `negated` chooses what `rebuilt` chooses by the same Bool; for it, for kinds, and for
+// scratch and counters each by itself, what the head of parts says holds here too.
 ghost use Rattle.std.specs.Prelude.{◌≡◌, true, false, [], ◌∷◌, ◌≤◌, ◌<◌, drop};
 ghost use Rattle.words.specs.Words.{words};
 ghost use Rattle.ir.specs.Scratch.{keys_at};

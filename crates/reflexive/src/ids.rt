@@ -1,4 +1,5 @@
-// reflexive_role_ids: by mapped ids, a flag for each role behind the role map.
+// reflexive_role_ids: by mapped ids, a flag for each role behind the role map. Each step takes the set's size and answers the new one: a
+// struct of it and of scratch would borrow scratch, which the edges are read from meanwhile.
 ghost use Rattle.std.specs.Prelude.{◌≡◌, [], ℕ, ◌*◌, ◌≤◌, ◌<◌, length};
 ghost use Rattle.words.specs.Words.{words};
 ghost use Rattle.ir.specs.Scratch.{alternatives_at};
@@ -135,6 +136,7 @@ pub fn reflexive_role_ids(scratch: &mut [u8], n: u32) -> u32
     ensures only_flags { OnlyFlags (words scratch.old) (words scratch.new) }
 {
     let mut size = declared(scratch, n);
+    // until a round adds nothing: how many there are is not known before
     loop {
         let after = round(scratch, n, size);
         if after == size {

@@ -1,4 +1,5 @@
-// The lent tables: one clause more, its atoms as one run in the atom table; one deferral more.
+// The lent tables: one clause more, its atoms as one run in the atom table; one deferral more. Each function takes the tables that it
+// writes, and not `Tables`: with all of them it would say again what it leaves alone, and ask for the size of one that it does not touch.
 #![tactic(auto)]
 
 pub mod lent;

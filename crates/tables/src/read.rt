@@ -12,6 +12,8 @@ pub const CLAUSE: usize = 3;
 // The words of a deferral's.
 pub const DEFERRAL: usize = 2;
 
+// One function for each table: the generic `room::<12>(clauses)` would be called by a record's bytes and not by its name.
+
 // How many clauses there is room for.
 pub fn clause_room(clauses: &[u8]) -> usize
     ensures { result ≡ length clauses.now / (4 * clause_words) }
@@ -33,6 +35,8 @@ pub fn deferral_room(deferrals: &[u8]) -> usize
     deferrals.len() / 8
 }
 
+// Each word of a record has its own function, by the name that its contract's definition has.
+
 // Where its atoms begin.
 pub fn first_atom(clauses: &[u8], i: u32) -> u32
     requires { 4 * (clause_words * i + clause_words) ≤ length clauses.now }
@@ -41,7 +45,7 @@ pub fn first_atom(clauses: &[u8], i: u32) -> u32
     words::get_word(clauses, CLAUSE * (i as usize))
 }
 
-// The atoms of its body. Each column of a record has its own function, whose name its contract's definition has.
+// The atoms of its body.
 pub fn body_count(clauses: &[u8], i: u32) -> u32
     requires { 4 * (clause_words * i + clause_words) ≤ length clauses.now }
     ensures { result ≡ body_count (words clauses.now) i }

@@ -13,8 +13,8 @@ use Rattle.tables.specs.Tabled.{Tabled}
 use Rattle.ontology.specs.Loads.{Holds}
 use Rattle.states.specs.Test.{store_bytes}
 use Rattle.extents.specs.declared.Trial.{Trial}
-use Rattle.layouts.specs.declared.Limits.{Limits}
-use Rattle.layouts.specs.Read.{Limited, Declares}
+use Rattle.layouts.specs.declared.limits.Limits.{Limits}
+use Rattle.layouts.specs.Read.{Declares}
 use Rattle.clausetests.specs.Given.{Given}
 use Rattle.clausetests.specs.Clauses.{ClauseNames}
 
@@ -30,7 +30,6 @@ pub record LoadedThere (store scratch : List ℕ) (m : Limits) (k : Counters) (n
   pub known : Known
   pub loaded : InScratch known (words scratch) k n
   pub declares : Declares known m
-  pub limited : Limited m
   pub room : store_bytes ≤ length store
   pub space : scratch_bytes ≤ length scratch
 

@@ -34,7 +34,7 @@ use Rattle.pool.specs.Held.{Held}
 use Rattle.pool.specs.HeldLaws.{Same, held_same, pool_same}
 use Rattle.ontology.specs.Layout.{axioms_of, AxiomsHeld}
 use Rattle.ontology.specs.KeptAxioms.{held_axioms, axioms_kept}
-use Rattle.layouts.specs.declared.Limits.{Limits}
+use Rattle.layouts.specs.declared.limits.Limits.{Limits}
 use Rattle.layouts.specs.declared.BadLine.{BadLine}
 use Rattle.layouts.specs.Read.{Declares, StatedAs}
 use Rattle.trials.specs.Judging.{InScratch, trial_of, Clauses, Clausal}
@@ -120,11 +120,6 @@ module _ (d : Known) (v v' w : List ℕ) (k : Counters) (n : ℕ) (S : InScratch
   fits_beside I size e = rw H.counters (record { size = e; base = refl; concepts = refl; axioms = H.count; line = refl })
 
 -- ---- what the state's reading says
--- (its refusal is made into the entry's, its size stays)
-pub ok_mapped : {A E F : Type 0} (Q : E → Type 0) (r : Result A E) (s : Result A F) (x : A) → MatchResult r (λ y. s ≡ Ok y) Q → is_ok s ≡ is_ok r → s ≡ Ok x → r ≡ Ok x
-ok_mapped Q (Ok y) s x h v e = let q : y ≡ x = cc in ap Ok q
-ok_mapped Q (Err d) s x h v e = absurd (false≢true (sym v ∙ ap is_ok e))
-
 pub record Stating (d : Known) (m : Limits) (text w v : List ℕ) (size : ℕ) : Type 0 where
   pub state : State
   pub read : read_state d m.fresh text ≡ stated state

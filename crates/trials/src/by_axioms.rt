@@ -10,7 +10,7 @@ ghost use Rattle.states.specs.Test.{store_bytes, axioms_verdict};
 ghost use Rattle.states.specs.Test as Test;
 ghost use Rattle.sets.specs.Verdicts.{verdict_in};
 ghost use Rattle.extents.specs.Ready.{Ready, Fits, ReadyThere};
-ghost use Rattle.layouts.specs.Read.{Limited, Declares};
+ghost use Rattle.layouts.specs.Read.{Declares};
 ghost use Rattle.trials.specs.Judged.{judged_of, said_in};
 ghost use Rattle.trials.specs.Judging.{trial_of, LoadedThere, InScratch};
 
@@ -19,7 +19,7 @@ use crate::opened;
 use extents::Trial;
 use ir::answer::Refused;
 use ir::counters::Counters;
-use layouts::Limits;
+use layouts::limits::Limits;
 use ontology::load;
 
 // In a state that is laid out.
@@ -56,7 +56,7 @@ fn loaded(
     requires { LoadedThere store.old scratch.old m k n }
     ensures { (d : Known) (l : List Clause) → InScratch d (words scratch.old) k n → Declares d m → said_in (words scratch.new) result ≡ judged_of Test.axioms d l (read_state d m.fresh state.now) }
 {
-    let size = layouts::read_state(state, store, scratch, m).map_err(opened::bad_state)?;
+    let size = layouts::read_state(state, store, scratch, m)?;
     Ok(verdict(store, scratch, trial(k, n, size)))
 }
 

@@ -50,6 +50,6 @@ pub fn judge(
     ensures { (d : Known) (l : List Clause) → read_deck deck.now ≡ fine d → Clauses d count l (words clauses.now) (words atoms.now) → said_in (words scratch.new) result ≡ judged_of Test.clauses d l (read_state d «fresh» state.now) }
 {
     let m = opened::limits(deck, scratch, fresh);
-    let size = layouts::read_state(state, store, scratch, m).map_err(opened::bad_state)?;
+    let size = layouts::read_state(state, store, scratch, m)?;
     tested(state, clauses, atoms, store, scratch, count, size)
 }

@@ -17,13 +17,13 @@ loop-p-init c =
 pub next_line-requires : goal.next_line-requires
 next_line-requires c =
     let v = c.loop-p in
-    (omega (arith, v.invariant.scratch_long, c.requires.space), c.requires.limited, c.requires.few)
+    (omega (arith, v.invariant.scratch_long, c.requires.space), c.requires.few)
 
 pub overflow_cast-result : goal.overflow_cast-result
 overflow_cast-result c =
     let v = c.loop-p in
     let bad : BadLine c.args.m v.at.kind v.at.id c.args.size c.args.text.now v.p = subst (NextAs c.args.m v.at.kind v.at.id c.args.size c.args.text.now v.p (words v.scratch) (words c.next_line.new.scratch)) c.in_default.is c.next_line.ensures.next_as in
-    let q = going_few c.args.text.now c.args.store.now c.args.scratch.now c.args.m c.args.size c.args.from v.store v.scratch v.at v.p v.line v.invariant c.requires.limited c.loop-p-test.true bad in
+    let q = going_few c.args.text.now c.args.store.now c.args.scratch.now c.args.m c.args.size c.args.from v.store v.scratch v.at v.p v.line v.invariant c.loop-p-test.true bad in
     omega (arith, q)
 
 pub shape_of-store-in_default : goal.shape_of-store-in_default
@@ -49,7 +49,6 @@ enter-at-requires c =
     let w = words c.next_line.new.scratch in
     let L : GoodLine c.args.m v.at.kind v.at.id c.args.size c.args.text.now v.p (words v.scratch) w n q = subst (NextAs c.args.m v.at.kind v.at.id c.args.size c.args.text.now v.p (words v.scratch) w) c.in-Some.is c.next_line.ensures.next_as in
     record {
-      limited = c.requires.limited;
       few = c.requires.few;
       room = omega (arith, c.requires.room, v.invariant.store_long);
       there = (omega (arith, c.requires.space, v.invariant.scratch_long, c.next_line.auto.scratch), L.few);

@@ -24,14 +24,13 @@ read_lines-requires c =
     let q = c.in-Some.first.behind in
     let F : FirstLine c.args.text.now size q = subst (FirstAs c.args.text.now) c.in-Some.is c.first_line.ensures.first_as in
     record {
-      limited = c.requires.0;
       some = F.some;
       few = F.few;
-      room = omega (arith, c.requires.1, c.clear.auto.s);
-      space = omega (arith, c.requires.2, c.first_line.auto.scratch, c.clear_words.auto.s);
+      room = omega (arith, c.requires.0, c.clear.auto.s);
+      space = omega (arith, c.requires.1, c.first_line.auto.scratch, c.clear_words.auto.s);
       within = F.within;
       classes = λ k. no_set c.clear.new.s (length c.args.store.now) k c.clear.ensures;
-      rows = λ code x g z. no_row (words c.first_line.new.scratch) (words c.clear_words.new.s) c.args.m.roles code x c.clear_words.ensures (omega (arith, c.requires.0.roles, c.requires.2, c.first_line.auto.scratch, length_words c.first_line.new.scratch)) g z;
+      rows = λ code x g z. no_row (words c.first_line.new.scratch) (words c.clear_words.new.s) c.args.m.roles code x c.clear_words.ensures (omega (arith, c.args.m.few_roles, c.requires.1, c.first_line.auto.scratch, length_words c.first_line.new.scratch)) g z;
     }
 
 pub returns : goal.returns

@@ -19,4 +19,4 @@ returns-then-i-m-2 c =
     let r = numbers c.args.line.now in
     let l : length r ≡ c.args.line.now.count = count_is c.args.line.now in
     let d : length (drop 2 r) ≡ length r - 2 = length-drop 2 r in
-    rw (ne_eqb _ _ c.if-k-eq51.false, ne_eqb _ _ c.if-k-eq52.false, lt-ltb _ _ c.if-i-m-2.true) (three c.args.line.now.count (length (drop 2 r)) c.requires.1 (omega (arith, l, d)))
+    rw (ne_eqb _ _ c.if-k-eq51.false, ne_eqb _ _ c.if-k-eq52.false, lt-ltb _ _ c.if-i-m-2.true) (three c.args.line.now.count (length (drop 2 r)) c.requires (omega (arith, l, d)))

@@ -44,7 +44,7 @@ pub enter_pairs-requires : goal.enter_pairs-requires
 enter_pairs-requires c =
     let F = line_fine (known_of c.args.m) c.args.m.fresh c.args.at.kind c.args.at.id c.args.size (line_in (words c.args.scratch.now) c.args.n) c.requires.fine in
     let q = F.onward.placed.role (sym c.number-kind.ensures ∙ c.if-kind-eq52.true) in
-    (c.requires.there, c.requires.some, omega (arith, q, c.number-id.ensures, c.requires.limited.roles), c.requires.few, F.below)
+    (c.requires.there, c.requires.some, omega (arith, q, c.number-id.ensures, c.args.m.few_roles), c.requires.few, F.below)
 
 pub returns-then-kind-eq52 : goal.returns-then-kind-eq52
 returns-then-kind-eq52 c =
@@ -72,7 +72,7 @@ overflow_add-class c =
     let r = line_in (words c.args.scratch.now) c.args.n in
     let e : get_or r 0 0 ≡ 53 = third_kind c.args.m c.args.at.kind c.args.at.id c.args.size r c.number-kind.result F c.number-kind.ensures c.if-kind-eq51.false c.if-kind-eq52.false in
     let q = single_few c.args.m c.args.at.kind c.args.at.id c.args.size c.args.at.singles r F e c.requires.singles in
-    omega (arith, q, c.requires.limited.classes, c.requires.limited.individuals)
+    omega (arith, q, c.args.m.few_classes, c.args.m.few_individuals)
 
 pub overflow_cast-class : goal.overflow_cast-class
 overflow_cast-class c =
@@ -80,7 +80,7 @@ overflow_cast-class c =
     let r = line_in (words c.args.scratch.now) c.args.n in
     let e : get_or r 0 0 ≡ 53 = third_kind c.args.m c.args.at.kind c.args.at.id c.args.size r c.number-kind.result F c.number-kind.ensures c.if-kind-eq51.false c.if-kind-eq52.false in
     let q = single_few c.args.m c.args.at.kind c.args.at.id c.args.size c.args.at.singles r F e c.requires.singles in
-    omega (arith, q, c.requires.limited.classes, c.requires.limited.individuals)
+    omega (arith, q, c.args.m.few_classes, c.args.m.few_individuals)
 
 pub overflow_add-singles : goal.overflow_add-singles
 overflow_add-singles c =
@@ -88,7 +88,7 @@ overflow_add-singles c =
     let r = line_in (words c.args.scratch.now) c.args.n in
     let e : get_or r 0 0 ≡ 53 = third_kind c.args.m c.args.at.kind c.args.at.id c.args.size r c.number-kind.result F c.number-kind.ensures c.if-kind-eq51.false c.if-kind-eq52.false in
     let q = single_few c.args.m c.args.at.kind c.args.at.id c.args.size c.args.at.singles r F e c.requires.singles in
-    omega (arith, q, c.requires.limited.individuals)
+    omega (arith, q, c.args.m.few_individuals)
 
 pub overflow_cast-x : goal.overflow_cast-x
 overflow_cast-x c = let q : c.number-x.result < 4294967296 = c.number-x.type_inv in omega (arith, q)
@@ -109,7 +109,7 @@ put_class-requires-2 c =
     let r = line_in (words c.args.scratch.now) c.args.n in
     let e : get_or r 0 0 ≡ 53 = third_kind c.args.m c.args.at.kind c.args.at.id c.args.size r c.number-kind.result F c.number-kind.ensures c.if-kind-eq51.false c.if-kind-eq52.false in
     let q = single_few c.args.m c.args.at.kind c.args.at.id c.args.size c.args.at.singles r F e c.requires.singles in
-    omega (arith, q, c.requires.limited.classes, c.requires.limited.individuals)
+    omega (arith, q, c.args.m.few_classes, c.args.m.few_individuals)
 
 pub returns : goal.returns
 returns c =
@@ -125,7 +125,7 @@ returns c =
     let y = c.number-x.result in
     let p = c.args.m.classes + c.args.at.singles in
     let put : words c.put_class-2.new.store ≡ room_put w p (mask_of c.args.size (λ z. eqb z y)) = c.put_class-2.ensures ∙ ap (room_put w p) (c.with.ensures c.args.size (λ _. false) (omega (arith, x, c.number-x.ensures)) (sym (mask_empty c.args.size))) in
-    let room : 2 * (c.args.m.classes + c.args.at.singles) + 2 ≤ length w = omega (arith, length_words c.args.store.now, q, c.requires.room, c.requires.limited.classes, c.requires.limited.individuals) in record {
+    let room : 2 * (c.args.m.classes + c.args.at.singles) + 2 ≤ length w = omega (arith, length_words c.args.store.now, q, c.requires.room, c.args.m.few_classes, c.args.m.few_individuals) in record {
       line = (c.number-kind.ensures, c.number-id.ensures);
       drawn = λ s D. subst (λ (t : List ℕ). Drawn (known_of c.args.m) (entered_line s r) (at c.number-kind.result c.number-id.result (c.args.at.singles + 1)) c.args.size t v) (sym put) (single_line c.args.m s c.args.at c.args.size w v D r F c.number-kind.result c.number-id.result c.number-kind.ensures c.number-id.ensures y (c.number-kind.ensures ∙ e) c.number-x.ensures room);
       kept_to = λ j _. refl;

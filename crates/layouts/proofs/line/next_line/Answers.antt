@@ -13,7 +13,7 @@ use Rattle.layouts.proofs.line.next_line.Goals as goal
 pub returns-in_default : goal.returns-in_default
 returns-in_default c =
     record {
-      next_as = next_other c.args.m c.args.at.kind c.args.at.id c.args.size c.args.text.now c.args.p c.read_row.result (length c.args.scratch.now / 4 - line_at) c.requires.2 (search rules) c.read_row.ensures.result_value c.read_row.ensures.placed (omega (arith, c.requires.0));
+      next_as = next_other c.args.m c.args.at.kind c.args.at.id c.args.size c.args.text.now c.args.p c.read_row.result (length c.args.scratch.now / 4 - line_at) c.requires.1 (search rules) c.read_row.ensures.result_value c.read_row.ensures.placed (omega (arith, c.requires.0));
       kept_to = kept_before (words c.args.scratch.now) (words c.read_row.new.t) (row_at c.args.text.now c.args.p (fields_in c.read_row.result)) line_at c.read_row.ensures.t_after;
     }
 
@@ -23,7 +23,7 @@ returns-then-count-gt40960 c =
     let q = c.in-Read.behind in
     let e = read_is c.args.text.now c.args.p c.args.scratch.now c.requires.0 (words c.read_row.new.t) n q c.read_row.result c.in-Read.is c.read_row.ensures.result_value c.read_row.ensures.t_after in
     record {
-      next_as = next_long c.args.m c.args.at.kind c.args.at.id c.args.size c.args.text.now c.args.p n (drop q c.args.text.now) c.requires.2 e c.if-count-gt40960.true;
+      next_as = next_long c.args.m c.args.at.kind c.args.at.id c.args.size c.args.text.now c.args.p n (drop q c.args.text.now) c.requires.1 e c.if-count-gt40960.true;
       kept_to = kept_before (words c.args.scratch.now) (words c.read_row.new.t) (row_at c.args.text.now c.args.p (fields_in c.read_row.result)) line_at c.read_row.ensures.t_after;
     }
 

@@ -22,8 +22,7 @@ loaded-requires c =
     record {
       known = d;
       loaded = loaded_in c.args.deck.now (words q.new.scratch) c.in_ok-k.k c.in_ok-k.n d (subst (λ (r : Result (Counters × ℕ) Refused). LoadedAs 0 (read_deck c.args.deck.now) (words q.new.scratch) (loaded_of r)) c.in_ok-k.was q.ensures) P.3.1;
-      declares = m.ensures.2 d P.3.1;
-      limited = m.ensures.0;
+      declares = m.ensures.1 d P.3.1;
       room = P.0;
       space = omega (arith, q.auto.scratch, m.auto.scratch, P.1);
     }
@@ -33,4 +32,4 @@ returns c = λ d l e.
     let m = c.limits-m in
     let q = c.load in
     let S = loaded_in c.args.deck.now (words q.new.scratch) c.in_ok-k.k c.in_ok-k.n d (subst (λ (r : Result (Counters × ℕ) Refused). LoadedAs 0 (read_deck c.args.deck.now) (words q.new.scratch) (loaded_of r)) c.in_ok-k.was q.ensures) e in
-    c.loaded.ensures d l S (m.ensures.2 d e) ∙ ap (λ (f : ℕ). judged_of axioms d l (read_state d f c.args.state.now)) m.ensures.1
+    c.loaded.ensures d l S (m.ensures.1 d e) ∙ ap (λ (f : ℕ). judged_of axioms d l (read_state d f c.args.state.now)) m.ensures.0

@@ -23,9 +23,7 @@ overflow_cast-result-3 c =
 
 pub returns : goal.returns
 returns c =
-    let q = c.read in
-    let O = opened c.args.deck.now q.new.t q.result c.unwrap-st.result c.requires.2.0 q.ensures.result_after c.unwrap-st.ensures c.requires.2.1 in (
-      record { classes = omega (arith, O.classes, O.inside.classes); individuals = omega (arith, O.individuals, O.inside.individuals); roles = omega (arith, O.roles, O.inside.roles); fresh = c.requires.1 },
+    let q = c.read in (
       refl,
       λ d f. let N = opened c.args.deck.now q.new.t q.result c.unwrap-st.result d q.ensures.result_after c.unwrap-st.ensures f in record { classes = N.classes; individuals = N.individuals; roles = N.roles },
     )
