@@ -30,7 +30,8 @@ use pairs::First;
 use sets::places::SHOWN;
 use sets::verdict;
 
-// An axiom where it stands: its kind, and the `count` words from `at` on.
+// An axiom where it stands: its kind, the deck's own number, and the `count` words from `at` on, of which the specs say what they hold
+// by the same two numbers. Line, scratch and `Trial` are each by itself: scratch is written between two axioms.
 #[derive(Clone, Copy)]
 pub struct Line {
     pub kind: u32,

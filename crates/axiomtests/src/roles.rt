@@ -18,7 +18,7 @@ pub fn row(scratch: &[u8], code: u32, x: u64) -> u64
     sets::kept::row(scratch, code, x as u32)
 }
 
-// The other polarity of a role's code.
+// The other polarity of a role's code, by Role's own methods: two axioms read rows of the inverse direction.
 pub fn turned(code: u32) -> u32
     requires { code < 2 * most_roles }
     ensures { result ≡ role_code (flipped (role_of code)) }

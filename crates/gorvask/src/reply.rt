@@ -1,5 +1,5 @@
-// A reply for a caller in C: one number, and a table of ten words. No From for the numbers: a u64 has no name of its own, and the
-// contracts' definitions have these; and a Result is turned into a row, which neither type is of this crate.
+// A reply for a caller in C: one number, and a table of ten words. No From for the number: the types are other crates', and the
+// contracts' definitions have the functions' names.
 ghost use Rattle.std.specs.Prelude.{◌≡◌, ◌+◌, ◌*◌, ◌^◌, length};
 ghost use Rattle.words.specs.Words.{words};
 ghost use Rattle.ir.specs.Refusals.{refusal_number};
@@ -10,7 +10,7 @@ use clausify::numbers;
 use clausify::numbers::Numbers;
 use ir::answer::Refused;
 
-// The ten numbers, or zeros on a refusal.
+// The ten numbers, or zeros on a refusal: a Result turned into a row that is lent.
 pub fn put_numbers(numbers: &mut [u8], reply: Result<Numbers, Refused>)
     requires { NumbersFit (length numbers.old) (told_reply reply) }
     ensures numbers_after { numbers.new ≡ numbers_of (length numbers.old) (told_reply reply) }

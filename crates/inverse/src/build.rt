@@ -16,12 +16,13 @@ use ontology::axiom;
 // The deck's number of an axiom of two inverse roles.
 const INVERSE: u32 = 32;
 
-// Whether role r is a key.
+// Whether role r is a key: it is mapped to an inverse.
 fn is_key(scratch: &[u8], r: u32) -> bool
     requires { (r < most_roles) × (4 * alternatives_at ≤ length scratch.now) }
     ensures { (m : InverseCanon) → Mapped (words scratch.now) m most_roles → result ≡ is_some (lookup m r) }
 {
-    words::get_word(scratch, ROLES + r as usize) % 2 == 1
+    let mapped = Role::of_code(words::get_word(scratch, ROLES + r as usize));
+    matches!(mapped, Role::Inverse(_))
 }
 
 // Whether an axiom 32 of roles r and s makes no entry.

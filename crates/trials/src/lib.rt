@@ -1,8 +1,10 @@
 // The test of a state: try_axioms and try_clauses. Neither asks anything of what it is lent. Each contract gives the reply, and every
 // byte of every table at exit, as a function of the deck's bytes, the state's bytes and the tables' lengths alone, and says what the
 // clauses in these bytes mean, and what the other test will say.
-// The tables are slices each by itself: so the C interface lends them. The two entries and the two of `tell` stand side by side: the
-// judge as a closure would have a contract of its own, and each would still be what it is, its promises and one call.
+// The tables are slices each by itself: so the C interface lends them. The two entries and the two of `tell` stand side by side, since
+// no other form is plainer. With the judge as a closure, one `tell` asks that it may be called on this run and that what it leaves may
+// be reported, and promises by what it said: each caller proves what each `tell` proves now, in the closure's terms. With an enum of
+// the two tests, one `tell` is a match over the same two calls. Each entry would still be its promises and one call.
 #![tactic(auto)]
 
 mod by_axioms;
