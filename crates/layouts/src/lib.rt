@@ -35,7 +35,7 @@ pub struct BadLine {
 impl From<BadLine> for Refused {
     ghost use Rattle.ir.specs.declared.refusal.Refusal.TheVariants.{BadState};
 
-    ghost from_gives = { λ bad e. (e.refusal ≡ BadState) × (e.line ≡ bad.line) };
+    ghost from_gives = { λ bad e. e ≡ record { refusal = BadState; line = bad.line } };
 
     fn from(bad: BadLine) -> Refused {
         Refused {

@@ -8,7 +8,7 @@ composed_set-requires c =
     let a = c.args in
     (concept_there a.store.now a.scratch.now a.t a.c c.requires.0 c.requires.1, omega (arith, c.if-kind-lt-SELF.false, c.kind-kind.ensures), omega (arith, c.if-kind-lt-SOME.true, c.kind-kind.ensures))
 
-pub returns-then-kind-lt-SOME : goal.returns-then-kind-lt9
+pub returns-then-kind-lt-SOME : goal.returns-then-kind-lt-SOME
 returns-then-kind-lt-SOME c = c.composed_set.ensures (words c.args.store.now)
 
 pub filled_set-requires : goal.filled_set-requires
