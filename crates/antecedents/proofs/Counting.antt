@@ -18,9 +18,9 @@ use Rattle.ir.specs.Encoded.{Found, Unsupported, Refused}
 use Rattle.words.specs.Words.{words}
 use Rattle.rules.specs.Concept.{Concept}
 use Rattle.rules.specs.Concept.{Top, Atomic, Nominal, And, Or}
+use Rattle.rules.specs.TextLaws.{by_test}
 use Rattle.pool.specs.Layout.{members_at, run, field, is_list, record_at, count_of, concept_at, pool_of}
 use Rattle.pool.specs.HeldLaws.{pool_at}
-use Rattle.pool.specs.Shapes.{by_test}
 use Rattle.pool.specs.Tabs.{tab_next, tab_end}
 use Rattle.tables.specs.Good.{Good}
 use Rattle.antecedents.specs.Counts.{joined, under, count_all, count_step, count, GoodEncoded}

@@ -8,7 +8,7 @@ use native.Mathlib.Nat.{add-zero, sub-zero}
 use lib.ListN.{length, get_or, set, take, drop}
 use lib.Seq.{take-set-le, drop-set-lt}
 use Rattle.words.specs.Words.{words}
-use Rattle.words.specs.Laws.{length_words}
+use Rattle.words.specs.Laws.{length_words, words_long}
 use Rattle.ir.specs.Scratch.{alternatives_at, axioms_at}
 use Rattle.ir.specs.Roles.{role_of}
 use Rattle.ir.specs.declared.counters.Counters.{Counters}
@@ -22,7 +22,7 @@ use Rattle.pool.specs.Tabs.{tab_next, tab_end}
 use Rattle.antecedents.specs.Stands.{Stands}
 use Rattle.antecedents.specs.Kinds.{at_top, at_class, at_nominal, at_and, at_or, at_some, Other, by_other}
 use Rattle.antecedents.specs.Table.{size_in, vars_in, plus_vars, join_size, size_all, vars_all, size_of, vars_of, Numbered, Outside}
-use Rattle.antecedents.specs.TableLaws.{held_below, numbered_next, same_words_lem, outside_pool, outside_held}
+use Rattle.antecedents.specs.TableLaws.{held_below, numbered_next, outside_pool, outside_held}
 
 module _ (a n x y : ℕ) (ex : x ≡ a) (ey : y ≡ n) where
   pub times_small : x * y < 65 → x * y ≡ min (a * n) 65
@@ -123,7 +123,7 @@ filled_first s n c h N = record { within = h; len = refl; rows = N; outside = re
 
 module _ (s₀ s : List ℕ) (k : Counters) (c : ℕ) (R : Ready s₀ k) (F : Filled s₀ s k.concepts c) where
   held_now : Held (words s) k.concepts k.members
-  held_now = outside_held (words s₀) (words s) F.outside k.concepts k.members R.held (same_words_lem s₀ s F.len)
+  held_now = outside_held (words s₀) (words s) F.outside k.concepts k.members R.held (words_long s₀ s F.len)
 
   pub filled_stands : c < k.concepts → Stands s c
   filled_stands h = record { concepts = k.concepts; members = k.members; room = rw F.len R.room; held = held_now; inside = h }

@@ -27,7 +27,7 @@ use Rattle.rules.specs.Post.{Post, gives}
 use Rattle.rules.proofs.EmitLaws.{visited, with_var}
 use Rattle.rules.proofs.EncodeKeeps.{encode_keeps}
 use Rattle.rules.specs.Antecedents.{Alternatives, cross, in_hand, within, and_with, encode_and, or_with, encode_or, some_with, encode_step, encode_by}
-use Rattle.pool.specs.Shapes.{by_test}
+use Rattle.rules.specs.TextLaws.{by_test}
 use Rattle.tables.specs.Good.{Good}
 use Rattle.antecedents.specs.States.{Counted, varied, longest, summary}
 use Rattle.antecedents.specs.Counts.{crossed, listed, joined, under, count_all, count_step, on_visit, count, GoodEncoded}

@@ -28,7 +28,7 @@ use Rattle.rules.specs.Post.{Post, gives, refuses, give, post_then, post_map}
 use Rattle.rules.specs.PoolLaws.{post_both}
 use Rattle.rules.proofs.EmitLaws.{visited, with_var, visit_then}
 use Rattle.rules.specs.Antecedents.{Alternatives, cross, in_hand, within, and_with, encode_and, or_with, encode_or, some_with, encode_step, encode_by}
-use Rattle.pool.specs.Shapes.{by_test}
+use Rattle.rules.specs.TextLaws.{by_test}
 use Rattle.tables.specs.Good.{Good}
 use Rattle.antecedents.specs.States.{Counted, Fine, longest}
 use Rattle.antecedents.specs.CountLaws.{Moved, encode_moved, length_cross, longest_append, all_short}

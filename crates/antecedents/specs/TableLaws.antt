@@ -1,11 +1,9 @@
 -- Laws of the rows: a concept's row reads those of smaller ids only, so rows stay where words outside them change and where
 -- the pool grows. Assumes nothing.
-use Rattle.std.specs.Prelude.{◌≡◌, Bool, true, false, ℕ, ◌+◌, ◌*◌, ◌/◌, ◌<◌, ◌≤◌, length, get_or, set, take, ltb}
+use Rattle.std.specs.Prelude.{◌≡◌, Bool, true, false, ℕ, ◌+◌, ◌*◌, ◌<◌, ◌≤◌, length, get_or, set, take, ltb}
 use Rattle.std.proofs.Math.Path.{refl, ap}
 use Rattle.std.proofs.Common.{sym, ◌∙◌, subst, arith, length-set, get_or-set_same, get_or-set_other, take-take, ltb-true, ltb-false}
 use mathlib.Core.List.{List, [], ◌∷◌}
-use Rattle.words.specs.Words.{words}
-use Rattle.words.specs.Laws.{length_words}
 use Rattle.ir.specs.Scratch.{alternatives_at, axioms_at}
 use Rattle.rules.specs.Concept.{Concept}
 use Rattle.rules.specs.Concept.{Top, Bot, Atomic, Nominal, SelfRestriction, Not, And, Or, Some, All, Min, Max}
@@ -13,10 +11,10 @@ use Rattle.rules.specs.Pool.{Pool, at, most_concepts}
 use Rattle.rules.specs.Deck.{parts_of}
 use Rattle.rules.specs.PoolLaws.{grown_at}
 use Rattle.rules.specs.Invariants.{Each, Grown}
+use Rattle.rules.specs.TextLaws.{by_test}
 use Rattle.pool.specs.Layout.{pool_words, pool_of}
 use Rattle.pool.specs.Held.{Held}
 use Rattle.pool.specs.HeldLaws.{pool_length, pool_at, held_kept, pool_kept}
-use Rattle.pool.specs.Shapes.{by_test}
 use Rattle.antecedents.specs.Table.{size_in, vars_in, plus_vars, join_size, size_all, vars_all, size_of, vars_of, Numbered, Outside}
 
 -- ---- two tables with the same rows below c
@@ -101,9 +99,6 @@ numbered_kept w w' n m n' H G e N =
     numbered_grown w' (pool_of w n) (pool_of w' n') n l G (numbered_same (pool_of w n) (held_below w n m H) n l H.few w w' e N)
 
 -- ---- words outside the rows
-pub same_words_lem : (s s' : List ℕ) → length s' ≡ length s → length (words s') ≡ length (words s)
-same_words_lem s s' e = length_words s' ∙ ap (λ (n : ℕ). n / 4) e ∙ sym (length_words s)
-
 module _ (w w' : List ℕ) (O : Outside w w') where
   outside_low : take pool_words w' ≡ take pool_words w
   outside_low = sym (take-take pool_words alternatives_at w' (omega arith)) ∙ ap (take pool_words) O.low ∙ take-take pool_words alternatives_at w (omega arith)

@@ -1,11 +1,12 @@
 -- Laws of the writing: what is written stands whole where there is room, and what is read stays as it was. Assumes nothing.
-use Rattle.std.specs.Prelude.{◌≡◌, refl, Bool, true, false, List, [], ◌∷◌, ◌++◌, ℕ, zero, suc, ◌+◌, ◌*◌, ◌/◌, ◌<◌, ◌≤◌, ltb, length, get_or, set, take}
-use Rattle.std.proofs.Common.{sym, ap, ◌∙◌, subst, arith, add-zero, take-take, get_or-take, lt-ltb}
+use Rattle.std.specs.Prelude.{◌≡◌, refl, Bool, true, false, List, [], ◌∷◌, ◌++◌, ℕ, zero, suc, ◌+◌, ◌*◌, ◌/◌, ◌<◌, ◌≤◌, ltb, length, get_or, take}
+use Rattle.std.proofs.Common.{sym, ap, ◌∙◌, subst, arith, add-zero, get_or-take, lt-ltb}
 use Rattle.std.proofs.Math.Option.{some}
 use Rattle.std.proofs.lemmas.List.Edits.{sets}
 use Rattle.std.proofs.Math.Seq.{length-sets}
-use Rattle.std.proofs.lemmas.List.{take-set-le}
 use Rattle.words.specs.Words.{words}
+use Rattle.words.specs.Runs.{take_sets}
+use Rattle.words.specs.Laws.{frame_less, words_long}
 use Rattle.ir.specs.Pick.{pick}
 use Rattle.ir.specs.Records.{six}
 use Rattle.ir.specs.Scratch.{roles_at, alternatives_at, hands_at}
@@ -24,7 +25,7 @@ use Rattle.inverse.specs.Layout.{RolesHeld}
 use Rattle.antecedents.specs.States.{Fine, longest}
 use Rattle.antecedents.specs.Stands.{Stands}
 use Rattle.antecedents.specs.Table.{size_in, vars_in, Numbered}
-use Rattle.antecedents.specs.TableLaws.{held_below, numbered_same, same_words_lem}
+use Rattle.antecedents.specs.TableLaws.{held_below, numbered_same}
 use Rattle.antecedents.specs.Picks.{pick_alt, put_at, write_on}
 use Rattle.antecedents.specs.PickLaws.{told}
 use Rattle.antecedents.specs.Writes.{Named, Writable, Reads, Kept, Wrote, Stored, Written}
@@ -35,16 +36,12 @@ unfolding write_on
 write_append [] b s = refl
 write_append (x ∷ a) b s = write_append a b (put_at s.0 s.1 x)
 
-take_sets : (n : ℕ) (vs l : List ℕ) (i : ℕ) → n ≤ i → take n (sets l i vs) ≡ take n l
-take_sets n [] l i h = refl
-take_sets n (a ∷ vs) l i h = take_sets n vs (set l i a) (suc i) (omega arith) ∙ take-set-le n l i a h
-
 pub put_kept : (w : List ℕ) (at : ℕ) (a : Atom) (w' : List ℕ) (r : ℕ) → (w', r) ≡ put_at w at a → Kept w at w' r
 put_kept w at a w' r e = go (ltb at (length w / 6)) e
   where
     go : (b : Bool) → ◌≡◌ {A = List ℕ × ℕ} (w', r) (pick b (sets w (6 * at) (six a), at + 1) (w, at)) → Kept w at w' r
     go true q = record {
-      low = ap (λ (s : List ℕ × ℕ). take (6 * at) s.0) q ∙ take_sets (6 * at) (six a) w (6 * at) (omega arith);
+      low = ap (λ (s : List ℕ × ℕ). take (6 * at) s.0) q ∙ take_sets (six a) w (6 * at) (6 * at) (omega arith);
       up = let z : r ≡ at + 1 = ap (λ (s : List ℕ × ℕ). s.1) q in omega arith;
     }
     go false q = record { low = ap (λ (s : List ℕ × ℕ). take (6 * at) s.0) q; up = let z : r ≡ at = ap (λ (s : List ℕ × ℕ). s.1) q in omega arith }
@@ -52,12 +49,9 @@ put_kept w at a w' r e = go (ltb at (length w / 6)) e
 pub kept_none : (w : List ℕ) (at : ℕ) → Kept w at w at
 kept_none w at = record { low = refl; up = omega arith }
 
-take_less : (m n : ℕ) (w w' : List ℕ) → m ≤ n → take n w' ≡ take n w → take m w' ≡ take m w
-take_less m n w w' h e = sym (take-take m n w' h) ∙ ap (take m) e ∙ take-take m n w h
-
 pub kept_trans : (w w' w'' : List ℕ) (at p r : ℕ) → Kept w at w' p → Kept w' p w'' r → Kept w at w'' r
 kept_trans w w' w'' at p r X Y = record {
-  low = take_less (6 * at) (6 * p) w' w'' (omega (arith, X.up)) Y.low ∙ X.low;
+  low = frame_less (6 * at) (6 * p) w' w'' (omega (arith, X.up)) Y.low ∙ X.low;
   up = omega (arith, X.up, Y.up);
 }
 
@@ -81,14 +75,14 @@ write_room (a ∷ l) w at h =
 
 -- ---- below the hands nothing is changed
 pub kept_hands : (w : List ℕ) (at : ℕ) (w' : List ℕ) (r : ℕ) → hands_at ≤ 6 * at → Kept w at w' r → take hands_at w' ≡ take hands_at w
-kept_hands w at w' r h K = take_less hands_at (6 * at) w w' h K.low
+kept_hands w at w' r h K = frame_less hands_at (6 * at) w w' h K.low
 
 module _ (w w' : List ℕ) (e : take hands_at w' ≡ take hands_at w) where
   pub hands_word : (i : ℕ) → i < hands_at → get_or w' i 0 ≡ get_or w i 0
   hands_word i h = sym (get_or-take hands_at w' i 0 h) ∙ ap (λ (l : List ℕ). get_or l i 0) e ∙ get_or-take hands_at w i 0 h
 
   hands_low : take pool_words w' ≡ take pool_words w
-  hands_low = take_less pool_words hands_at w w' (omega arith) e
+  hands_low = frame_less pool_words hands_at w w' (omega arith) e
 
   pub hands_pool : (n m : ℕ) → Held w n m → pool_of w' n ≡ pool_of w n
   hands_pool n m H = pool_kept w w' n m H hands_low
@@ -134,7 +128,7 @@ module _ (s : List ℕ) (base c : ℕ) (S : Writable s base c) where
         concepts = S.concepts;
         members = S.members;
         room = rw l S.room;
-        held = hands_held (words s) (words s') e S.concepts S.members S.held (same_words_lem s s' l);
+        held = hands_held (words s) (words s') e S.concepts S.members S.held (words_long s s' l);
         inside = S.inside;
         named = subst (λ (q : Pool). Named q base) (sym (hands_pool (words s) (words s') e S.concepts S.members S.held)) S.named;
       }

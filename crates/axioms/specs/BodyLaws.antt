@@ -10,7 +10,7 @@ use Rattle.std.proofs.Math.ListN.{get_or, drop, drop_of_length-le}
 use Rattle.std.proofs.lemmas.List.Edits.{sets-eq}
 use Rattle.std.proofs.Math.Seq.{drop-cons}
 use Rattle.words.specs.Words.{words}
-use Rattle.words.specs.Laws.{length_words}
+use Rattle.words.specs.Laws.{length_words, frame_less}
 use Rattle.ir.specs.Scratch.{hands_at, limits_at}
 use Rattle.ir.specs.declared.counters.Counters.{Counters}
 use Rattle.ir.specs.Answer.{Answer}
@@ -36,7 +36,7 @@ use Rattle.leaves.specs.StepLaws.{alike_same, alike_then, shown_alike, env_alike
 use Rattle.antecedents.specs.Table.{Numbered}
 use Rattle.antecedents.specs.Writes.{Named, Stored, Written}
 use Rattle.antecedents.specs.WriteLaws.{hands_pool, hands_roles, hands_numbered}
-use Rattle.heads.specs.FrameLaws.{reading_alike, reading_kept, frame_less}
+use Rattle.heads.specs.FrameLaws.{reading_alike, reading_kept}
 use Rattle.heads.specs.LoopLaws.{SameSizes}
 use Rattle.axioms.specs.Bodies.{Encoding, Encodes, Sourced, Bodied, BodiedWaits, BodiedSo, BodiedAt, WaitsSo, WaitsAt}
 

@@ -5,6 +5,7 @@ use Rattle.std.proofs.Common.{sym, subst, ◌∙◌, arith, take-take}
 use Prim.{Unit}
 use Rattle.std.proofs.lemmas.List.Edits.{sets}
 use Rattle.std.proofs.Math.Seq.{length-sets}
+use Rattle.words.specs.Laws.{frame_less}
 use Rattle.ir.specs.Counts.{fresh_var, vars_restarted}
 use Rattle.ir.specs.Records.{six}
 use Rattle.ir.specs.Scratch.{hands_at}
@@ -23,7 +24,6 @@ use Rattle.waiting.specs.LimitLaws.{waits_kept}
 use Rattle.hands.specs.Hands.{InHand, Four, four, EnvIn, EnvHeld, Did, Waiting, Queues}
 use Rattle.hands.specs.HandLaws.{put_frame, hand_more}
 use Rattle.leaves.specs.StepLaws.{alike_same, alike_then, alike_var, show_alike, shown_alike, kept_then, env_alike, env_kept, drawn_vared, vared, hand_zero}
-use Rattle.heads.specs.FrameLaws.{frame_less}
 use Rattle.axioms.specs.RoleAxioms.{irreflexive, second_atom, not_both}
 
 -- ---- the variables begin again

@@ -1,6 +1,6 @@
 -- From a rule that only reads the pool to one of the clausifier. Assumes nothing.
-use Rattle.std.specs.Prelude.{◌≡◌, refl, List, [], ℕ, ◌+◌, ◌*◌, length, take}
-use Rattle.std.proofs.Common.{sym, ap, ◌∙◌, append-nil, arith}
+use Rattle.std.specs.Prelude.{◌≡◌, refl, List, [], ℕ, length, take}
+use Rattle.std.proofs.Common.{sym, ap, ◌∙◌, arith}
 use Prim.{tt}
 use Rattle.words.specs.Words.{words}
 use Rattle.ir.specs.Scratch.{hands_at}
@@ -11,29 +11,24 @@ use Rattle.rules.specs.Base.{Res, ok, refused, then}
 use Rattle.rules.specs.Pool.{Pool}
 use Rattle.rules.specs.State.{Rooms, Env, Out, E, total}
 use Rattle.rules.specs.Normalize.{St}
-use Rattle.rules.specs.Run.{flat}
 use Rattle.rules.specs.Axioms.{Clausifier, back_out, in_out, visited_to, back_nnf}
 use Rattle.pool.specs.Layout.{pool_of}
 use Rattle.pool.specs.Held.{Held}
-use Rattle.pool.specs.HeldLaws.{pool_length}
 use Rattle.pool.specs.Answers.{sized}
 use Rattle.pool.specs.Answers.{after as after_pool}
+use Rattle.pool.proofs.Interning.{sized_same}
 use Rattle.rebuilding.specs.States.{counted, told}
 use Rattle.tables.specs.Drawn.{tables, show, shown, after, counters_in, clauses_in, atoms_in, deferrals_in}
 use Rattle.tables.specs.Good.{GoodAnswer, KeptAnswer}
-use Rattle.hands.specs.Hands.{InHand, Four, Did}
+use Rattle.tables.specs.DrawnLaws.{show_same}
+use Rattle.hands.specs.Hands.{Four, Did}
 use Rattle.antecedents.specs.WriteLaws.{hands_word, hands_pool}
 use Rattle.axioms.specs.RoleAxioms.{hand_at}
 use Rattle.axioms.specs.BodyLaws.{encoding_kept}
 use Rattle.axioms.specs.Wholes.{Whole, drawn, shown_whole, after_whole, standing, Clausifying, ClausifyingAfter, Untouched, OnwardAnswer, Clausified}
+use Rattle.leaves.specs.StepLaws.{hand_zero}
 
 -- counters with the sizes of their own pool
-pub sized_own : (w : List ℕ) (k : Counters) → Held w k.concepts k.members → sized k (pool_of w k.concepts) ≡ k
-sized_own w k H =
-    let c = pool_length w k.concepts in
-    let m = H.count in
-    rw (c, ← m) refl
-
 -- an answer of a rule over the state alone
 pub out_whole : {A : Type 0} (value : A → ℕ) (k : Counters) (rooms : Rooms) (x y : Four) (r : Answer) (m : Res Out A) (z : Clausifier)
     → Held x.scratch k.concepts k.members → z.pool ≡ pool_of x.scratch k.concepts
@@ -44,7 +39,7 @@ out_whole value k rooms x y (Done k' i) (ok a s) z H p q K e =
     let n : i ≡ value a = cc in
     let t : tables k' y.clauses y.atoms y.deferrals ≡ show k rooms s = cc in
     let o : pool_of y.scratch k'.concepts ≡ z.pool = ap (pool_of y.scratch) K.concepts ∙ q ∙ sym p in
-    let u : sized k z.pool ≡ k = ap (sized k) p ∙ sized_own x.scratch k H in
+    let u : sized k z.pool ≡ k = ap (sized k) p ∙ sized_same x.scratch k H in
     rw (n, t, o, u) refl
 out_whole value k rooms x y (Done k' i) (refused n) z H p q K e = absurd (let z : ◌≡◌ {A = ℕ} 0 1 = cc in omega arith)
 out_whole value k rooms x y (Refused n) (ok a s) z H p q K e = absurd (let z : ◌≡◌ {A = ℕ} 0 1 = cc in omega arith)
@@ -89,16 +84,6 @@ pub record Standing (k' : Counters) (rooms : Rooms) (y : Four) (z : Clausifier) 
   pub pool : pool_of y.scratch k'.concepts ≡ z.pool
   pub tables : tables k' y.clauses y.atoms y.deferrals ≡ show k' rooms z.out
 
-pub show_same : (k k' : Counters) (rooms : Rooms) (o : Out) (c a d : List ℕ) → tables k' c a d ≡ show k rooms o → tables k' c a d ≡ show k' rooms o
-unfolding show
-show_same k k' rooms o c a d e =
-    let q = ap counters_in e in
-    let x : k'.concepts ≡ k.concepts = ap (λ (z : Counters). z.concepts) q in
-    let m : k'.members ≡ k.members = ap (λ (z : Counters). z.members) q in
-    let b : k'.nominal_base ≡ k.nominal_base = ap (λ (z : Counters). z.nominal_base) q in
-    let n : k'.options ≡ k.options = ap (λ (z : Counters). z.options) q in
-    e ∙ rw (x, m, b, n) refl
-
 -- the state of an answer that is one
 pub whole_stands : {A : Type 0} (value : A → ℕ) (k : Counters) (rooms : Rooms) (y : Four) (a : A) (z : Clausifier) (k' : Counters) (i : ℕ)
     → after_whole (Done k' i) y ≡ shown_whole value k rooms (ok a z) → (i ≡ value a) × Standing k' rooms y z
@@ -135,12 +120,6 @@ drawn_same k k' rooms b o z = rw (b, o) refl
 
 -- ---- an axiom's function that only reads the pool
 -- nothing is in hand
-none_in_hand : (w : List ℕ) (base : ℕ) → InHand w base 0 []
-unfolding flat
-none_in_hand w base =
-    let e : base + 0 ≡ base = omega arith in
-    record { long = refl; are = rw e (sym (append-nil (take (6 * base) w))) }
-
 pub untouched_below : (w w' : List ℕ) → take hands_at w' ≡ take hands_at w → Untouched w w'
 untouched_below w w' e = record { maps = λ j a b. hands_word w w' e j (omega arith); axioms = λ j a b. hands_word w w' e j (omega arith) }
 
@@ -155,7 +134,7 @@ did_clausified rule k x y r H D =
     record {
       equal = λ env s E t.
           out_whole (λ _. 0) k env.rooms x y r (rule env (pool_of x.scratch k.concepts) s) (standing k x s) H refl (hands_pool x.scratch y.scratch e k.concepts k.members H) D.kept
-          (D.equal env 0 [] s (omega arith) E (none_in_hand x.scratch hand_at) t);
+          (D.equal env 0 [] s (omega arith) E (hand_zero x.scratch hand_at) t);
       untouched = untouched_below x.scratch y.scratch e;
       onward = onward_kept k r D.kept;
     }

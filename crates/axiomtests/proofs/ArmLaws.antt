@@ -1,4 +1,5 @@
 -- The sets that break an axiom, kind by kind: of what the code has read. Assumes nothing.
+use Rattle.std.proofs.Math.Bool.{not-not}
 use mathlib.Core.Path.{◌≡◌, refl, sym, ap, subst, ◌∙◌}
 use mathlib.Core.Bool.{Bool, true, false, not, ◌&&◌, ◌||◌}
 use mathlib.Core.List.{List, [], ◌∷◌, map}
@@ -15,8 +16,10 @@ use Rattle.rules.specs.Deck.{Known}
 use Rattle.rules.specs.Invariants.{Each}
 use Rattle.rules.specs.Semantics.{Interpretation, means, related, implies, same_truth, disjoint_at, roles_clash}
 use Rattle.pool.specs.Layout.{run}
+use Rattle.meaning.specs.Truth.{or_nots}
 use Rattle.states.specs.Masks.{mask_of}
 use Rattle.states.specs.MaskLaws.{mask_same, mask_empty}
+use Rattle.states.specs.VerdictLaws.{all_eq}
 use Rattle.sets.specs.Kept.{set_at}
 use Rattle.sets.specs.Places.{concepts_at}
 use Rattle.sets.specs.Laid.{row_of, Rows}
@@ -52,14 +55,6 @@ both_breaks true true = refl
 both_breaks true false = refl
 both_breaks false b = refl
 
-one_fails : (a b : Bool) → not a || not b ≡ not (a && b)
-one_fails true b = refl
-one_fails false b = refl
-
-not_not : (a : Bool) → a ≡ not (not a)
-not_not true = refl
-not_not false = refl
-
 implied : (a : Bool) → not (implies a true) ≡ false
 implied true = refl
 implied false = refl
@@ -79,10 +74,6 @@ pairs_map p (a ∷ l) =
     mapped : (k : List ℕ) → all (λ r. p (role_of a, r)) (map role_of k) ≡ all (λ c. p (role_of a, role_of c)) k
     mapped [] = refl
     mapped (c ∷ k) = ap (λ b. p (role_of a, role_of c) && b) (mapped k)
-
-all_eq : {A : Type 0} (p q : A → Bool) (l : List A) → ((a : A) → p a ≡ q a) → all p l ≡ all q l
-all_eq p q [] h = refl
-all_eq p q (a ∷ l) h = rw (h a, all_eq p q l h) refl
 
 module _ (I : Interpretation) (x y : ℕ) (l : List ℕ) where
   clashes_roles : clashes_at false (λ c. related I (role_of c) x) l y ≡ not (all (λ q. not (roles_clash I q x y)) (later_pairs (map role_of l)))
@@ -149,7 +140,7 @@ module _ {d : Known} {I : Interpretation} {w v : List ℕ} {t : Trial} {at count
         let l = run v (at + 2) (count - 2) in
         let c = I.class (row_number v at 1) in
         E I.size (λ x. not (same_truth (c x) (some_at (means I d.concepts) l x))) (clashes_at true (means I d.concepts) l) (D I.size c (some_at (means I d.concepts) l) (ei ∙ ap (set_at w) ea ∙ L.ready.laid.classes (row_number v at 1) h) eu) ek
-        ∙ done I d.concepts v at count 24 (DisjointUnion (row_number v at 1) l) (λ x. not (same_truth (c x) (some_at (means I d.concepts) l x)) || clashes_at true (means I d.concepts) l x) union_arm (λ x. one_fails (same_truth (c x) (some_at (means I d.concepts) l x)) (disjoint_at (means I d.concepts) l x))
+        ∙ done I d.concepts v at count 24 (DisjointUnion (row_number v at 1) l) (λ x. not (same_truth (c x) (some_at (means I d.concepts) l x)) || clashes_at true (means I d.concepts) l x) union_arm (λ x. or_nots (same_truth (c x) (some_at (means I d.concepts) l x)) (disjoint_at (means I d.concepts) l x))
 
   module _ (L : Line d I w v t 29 at count) where
     irreflexive_arm : row_axiom v 29 at count ≡ IrreflexiveRole (role_of (row_number v at 1))
@@ -159,7 +150,7 @@ module _ {d : Known} {I : Interpretation} {w v : List ℕ} {t : Trial} {at count
     irreflexive_in = code_in (row_number v at 1) d.header.roles (arm_in L _ irreflexive_arm)
 
     pub irreflexive_set : (a r : ℕ) → a ≡ row_number v at 1 → Loops v t.size r a → r ≡ mask_of I.size (breakers I d.concepts (row_axiom v 29 at count))
-    irreflexive_set a r ea e = loops_of L a (row_number v at 1) r ea irreflexive_in e ∙ done I d.concepts v at count 29 (IrreflexiveRole (role_of (row_number v at 1))) (λ x. related I (role_of (row_number v at 1)) x x) irreflexive_arm (λ x. not_not (related I (role_of (row_number v at 1)) x x))
+    irreflexive_set a r ea e = loops_of L a (row_number v at 1) r ea irreflexive_in e ∙ done I d.concepts v at count 29 (IrreflexiveRole (role_of (row_number v at 1))) (λ x. related I (role_of (row_number v at 1)) x x) irreflexive_arm (λ x. sym (not-not (related I (role_of (row_number v at 1)) x x)))
 
   module _ (L : Line d I w v t 35 at count) where
     reflexive_arm : row_axiom v 35 at count ≡ ReflexiveRole (role_of (row_number v at 1))

@@ -1,9 +1,10 @@
 -- A chain and a transitive role, of what the code has read; an assertion. Assumes nothing.
+use Rattle.std.proofs.lemmas.Bool.{not-true, not-false}
 use mathlib.Core.Path.{◌≡◌, refl, sym, ap, subst, ◌∙◌}
 use mathlib.Core.Bool.{Bool, true, false, not, ◌&&◌, false≢true}
 use mathlib.Core.List.{List, [], ◌∷◌, map}
 use mathlib.Core.Option.{Option, none, some}
-use Prim.Native.Nat.{ℕ, zero, suc, ◌+◌, ◌*◌, ◌-◌, ◌<◌, ◌≤◌}
+use Prim.Native.Nat.{ℕ, suc, ◌+◌, ◌*◌, ◌-◌, ◌<◌, ◌≤◌}
 use native.Mathlib.Omega.{arith}
 use native.Mathlib.Nat.{one-mul, zero-mul}
 use lib.ListN.{length, get_or}
@@ -19,10 +20,10 @@ use Rattle.rules.specs.Concept.{Concept, Axiom, SubChain, TransitiveRole, ClassA
 use Rattle.rules.specs.Deck.{Known, most_listed}
 use Rattle.rules.specs.DeckLaws.{axiom_width}
 use Rattle.rules.specs.Invariants.{Each}
-use Rattle.rules.specs.Semantics.{Interpretation, elements_below, means, related, implies}
-use Rattle.meaning.specs.Truth.{by_truth, both_ways, all_elements, elements_all}
+use Rattle.rules.specs.Semantics.{Interpretation, elements_below, means, related}
+use Rattle.meaning.specs.Truth.{by_truth, both_ways, all_elements, elements_all, implies_both}
 use Rattle.pool.specs.Layout.{tab, run}
-use Rattle.pool.specs.Tabs.{tab_each, tab_same}
+use Rattle.pool.specs.Tabs.{tab_each, tab_same, map_tab}
 use Rattle.states.specs.Conditions.{rises, least_of, place, chain_at, axiom_holds_at, axiom_broken}
 use Rattle.states.specs.LeastLaws.{all_rising}
 use Rattle.states.specs.SearchLaws.{least_same}
@@ -38,11 +39,6 @@ use Rattle.axiomtests.specs.Chains.{part_code, parts_of, RowsOf, Chained, ChainI
 use Rattle.axiomtests.proofs.LineLaws.{few_elements, arm_in, rows_of, code_small, codes_of, concept_of_lem}
 use Rattle.axiomtests.proofs.ListLaws.{Both}
 use Rattle.axiomtests.proofs.PathLaws.{length_parts}
-
-map_tab : {A B : Type 0} (g : A → B) (f : ℕ → A) (i n : ℕ) → map g (tab f i n) ≡ tab (λ j. g (f j)) i n
-unfolding tab
-map_tab g f i zero = refl
-map_tab g f i (suc n) = ap (λ l. g (f i) ∷ l) (map_tab g f (i + 1) n)
 
 -- ---- a chain of `count - 2` parts
 abbrev pub chain_of : (size sup at count : ℕ) → Chain
@@ -97,17 +93,13 @@ module _ {d : Known} {I : Interpretation} {w v : List ℕ} {t : Trial} {at count
 abbrev pub twice_of : (size sup at : ℕ) → Chain
 twice_of size sup at = record { size = size; sup = sup; at = at + 1; step = 0; parts = 2 }
 
-both_implied : (a b c : Bool) → implies a (implies b c) ≡ implies (a && b) c
-both_implied true b c = refl
-both_implied false b c = refl
-
 -- the condition of three elements
 transitive_at : (I : Interpretation) (p : List Concept) (r : Role) (l : List ℕ) → length l ≡ 3 → chain_at I r (place l 0) (r ∷ r ∷ []) l ≡ axiom_holds_at I p (TransitiveRole r) l
 unfolding chain_at
 transitive_at I p r [] h = absurd (omega arith)
 transitive_at I p r (x ∷ []) h = absurd (omega arith)
 transitive_at I p r (x ∷ y ∷ []) h = absurd (omega arith)
-transitive_at I p r (x ∷ y ∷ z ∷ []) h = both_implied (related I r x y) (related I r y z) (related I r x z)
+transitive_at I p r (x ∷ y ∷ z ∷ []) h = implies_both (related I r x y) (related I r y z) (related I r x z)
 transitive_at I p r (x ∷ y ∷ z ∷ u ∷ l) h = absurd (omega arith)
 
 module _ {d : Known} {I : Interpretation} {w v : List ℕ} {t : Trial} {at count : ℕ} (L : Line d I w v t 28 at count) (sup : ℕ) (e : sup ≡ row_number v at 1) where
@@ -217,15 +209,7 @@ module _ {d : Known} {I : Interpretation} {w v : List ℕ} {t : Trial} {at count
     by_truth_of x e = ap (λ y. pick {A = Option (List ℕ)} y none (some [])) (sym e) ∙ ap (axiom_broken I d.concepts) (sym assertion_arm)
 
     pub assertion_broken : m ≡ 0 → some [] ≡ axiom_broken I d.concepts (row_axiom v 36 at count)
-    assertion_broken z = by_truth_of false (turn _ (sym empty_is ∙ eq-eqb m 0 z))
-      where
-        turn : (x : Bool) → not x ≡ true → x ≡ false
-        turn true q = sym q
-        turn false q = refl
+    assertion_broken z = by_truth_of false (not-true _ (sym empty_is ∙ eq-eqb m 0 z))
 
     pub assertion_holds : (m ≡ 0 → ⊥) → none ≡ axiom_broken I d.concepts (row_axiom v 36 at count)
-    assertion_holds z = by_truth_of true (turn _ (sym empty_is ∙ ne_eqb m 0 z))
-      where
-        turn : (x : Bool) → not x ≡ false → x ≡ true
-        turn true q = refl
-        turn false q = sym q
+    assertion_holds z = by_truth_of true (not-false _ (sym empty_is ∙ ne_eqb m 0 z))

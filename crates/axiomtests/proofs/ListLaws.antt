@@ -1,4 +1,5 @@
 -- A list of sets, from its last number to its first. Assumes nothing.
+use Rattle.std.proofs.Math.Bool.{and_assoc}
 use mathlib.Core.Path.{◌≡◌, refl, sym, ap, ◌∙◌}
 use mathlib.Core.Bool.{Bool, true, false, not, ◌&&◌, ◌||◌}
 use mathlib.Core.List.{List, [], ◌∷◌}
@@ -31,11 +32,7 @@ module _ {A : Type 0} where
   pub all_paired : (p : A × A → Bool) (a : A) (l : List A) (rest : List (A × A)) → all p (paired a l rest) ≡ all (λ b. p (a, b)) l && all p rest
   unfolding paired
   all_paired p a [] rest = refl
-  all_paired p a (b ∷ l) rest = ap (λ c. p (a, b) && c) (all_paired p a l rest) ∙ assoc (p (a, b)) (all (λ c. p (a, c)) l) (all p rest)
-    where
-      assoc : (x y z : Bool) → x && (y && z) ≡ (x && y) && z
-      assoc true y z = refl
-      assoc false y z = refl
+  all_paired p a (b ∷ l) rest = ap (λ c. p (a, b) && c) (all_paired p a l rest) ∙ sym (and_assoc (p (a, b)) (all (λ c. p (a, c)) l) (all p rest))
 
   none_all : (q : A → Bool) (l : List A) → not (all (λ b. not (q b)) l) ≡ any q l
   none_all q [] = refl

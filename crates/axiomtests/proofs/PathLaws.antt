@@ -1,4 +1,5 @@
 -- The sets of a chain and the path through them. Assumes nothing.
+use Rattle.std.proofs.lemmas.Bool.{not-true}
 use mathlib.Core.Path.{◌≡◌, refl, sym, ap, subst, ◌∙◌}
 use mathlib.Core.Bool.{Bool, true, false, not, ◌&&◌, false≢true}
 use mathlib.Core.List.{List, [], ◌∷◌, ◌++◌, append-nil, append_assoc}
@@ -16,7 +17,7 @@ use Rattle.ir.specs.Scratch.{lines_at}
 use Rattle.ir.specs.declared.role.Role.{Role}
 use Rattle.rules.specs.Base.{all}
 use Rattle.rules.specs.Semantics.{Interpretation, related, implies}
-use Rattle.meaning.specs.Truth.{by_truth, all_same, and_right}
+use Rattle.meaning.specs.Truth.{by_truth, all_same, and_right, not_and_not}
 use Rattle.pool.specs.Layout.{tab}
 use Rattle.pool.specs.Tabs.{length_tab, tab_same}
 use Rattle.states.specs.Conditions.{rises, behind, first_of, least_of, place, chain_at}
@@ -88,11 +89,6 @@ chain_kept s s' size c A e C = record {
 }
 
 -- ---- the sets
-not_implied : (a b : Bool) → not (a && not b) ≡ implies a b
-not_implied true true = refl
-not_implied true false = refl
-not_implied false b = refl
-
 module _ (I : Interpretation) (sup : Role) (x : ℕ) where
   -- no part is left
   pub set_first : mask_of I.size (λ y. true && not (related I sup x y)) ≡ mask_of I.size (λ y. not (onward I sup x [] y))
@@ -102,7 +98,7 @@ module _ (I : Interpretation) (sup : Role) (x : ℕ) where
   onward_all : (r : Role) (parts : List Role) (y : ℕ) → all (λ w. not (related I r y w && not (onward I sup x parts w))) (rises 0 I.size) ≡ onward I sup x (r ∷ parts) y
   onward_all r parts y = sym (
       onward_step I sup x r parts y
-      ∙ all_same I.size (λ w. implies (related I r y w) (onward I sup x parts w)) (λ w. not (related I r y w && not (onward I sup x parts w))) (λ w _. sym (not_implied (related I r y w) (onward I sup x parts w)))
+      ∙ all_same I.size (λ w. implies (related I r y w) (onward I sup x parts w)) (λ w. not (related I r y w && not (onward I sup x parts w))) (λ w _. sym (not_and_not (related I r y w) (onward I sup x parts w)))
       ∙ all_rising I.size (λ w. not (related I r y w && not (onward I sup x parts w))))
 
   pub set_next : (r : Role) (parts : List Role) → mask_of I.size (λ y. not (all (λ w. not (related I r y w && not (onward I sup x parts w))) (rises 0 I.size))) ≡ mask_of I.size (λ y. not (onward I sup x (r ∷ parts) y))
@@ -123,11 +119,7 @@ module _ (I : Interpretation) (sup : Role) (x : ℕ) where
   next_breaks_lem r parts y h =
       let p : ℕ → Bool = λ w. related I r y w && not (onward I sup x parts w) in
       let w = first_where p (rises 0 I.size) in
-      not_true (onward I sup x parts w) (and_right (related I r y w) (not (onward I sup x parts w)) (first_is p 0 I.size (onward_all r parts y ∙ h)))
-    where
-      not_true : (b : Bool) → not b ≡ true → b ≡ false
-      not_true true q = sym q
-      not_true false q = refl
+      not-true (onward I sup x parts w) (and_right (related I r y w) (not (onward I sup x parts w)) (first_is p 0 I.size (onward_all r parts y ∙ h)))
 
 -- ---- the sets are filled: u are the words at entry
 abbrev pub SetLeft : Interpretation → List ℕ → Chain → (x k m : ℕ) → Type 0

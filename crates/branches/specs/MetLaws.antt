@@ -2,11 +2,11 @@
 use Rattle.std.specs.Prelude.{Bool, true, false, ◌||◌, ◌≡◌, List, [], ◌∷◌, ◌++◌, ℕ, suc, ◌+◌, ◌≤◌, ◌<◌, length, get_or, drop, set, eqb}
 use Rattle.std.proofs.Math.Path.{refl}
 use Rattle.std.proofs.Common.{sym, ap, ◌∙◌, arith, add-one, length-drop, length-set, drop_of_length-le, length-take-le, drop-cons, get_or-take, get_or-drop, take-suc-set, drop-set-lt}
-use borrow.Author.Tests.{eq-eqb, ne_eqb, eqb-true, eqb-false}
 use Rattle.std.proofs.lemmas.List.{take-set-le, drop-set-add}
 use Rattle.ir.specs.Pick.{pick}
 use Rattle.rules.specs.Base.{contains}
 use Rattle.rules.specs.Branches.{place_in, place_of}
+use Rattle.rules.specs.DeckLaws.{same_eqb}
 use Rattle.branches.specs.Renumbered.{run, Met}
 
 -- ---- the first n words from m on, at i
@@ -23,17 +23,10 @@ module _ (w : List ℕ) (m n i : ℕ) (long : m + n ≤ length w) where
 
 -- ---- places
 -- whether u is v, the test of either
-pub eqb_flip : (u v : ℕ) → eqb u v ≡ eqb v u
-eqb_flip u v = go (eqb u v) refl
-  where
-    go : (b : Bool) → eqb u v ≡ b → b ≡ eqb v u
-    go true e = sym (eq-eqb v u (sym (eqb-true u v e)))
-    go false e = sym (ne_eqb v u (λ q. eqb-false u v e (sym q)))
-
 pub place_in_lem : (met : List ℕ) (v : ℕ) → contains met v ≡ true → place_of met v < length met
 unfolding place_of
 place_in_lem [] v e = absurd (let z : ◌≡◌ {A = ℕ} 0 1 = ap (λ (t : Bool). pick t 1 0) e in omega arith)
-place_in_lem (u ∷ met) v e = rw (eqb_flip u v) (go (eqb v u) e (place_in_lem met v))
+place_in_lem (u ∷ met) v e = rw (same_eqb u v) (go (eqb v u) e (place_in_lem met v))
   where
     go : (b : Bool) → (b || contains met v) ≡ true → (contains met v ≡ true → place_of met v < length met) → place_in b (place_of met v) < suc (length met)
     go true h f = omega arith
@@ -42,18 +35,11 @@ place_in_lem (u ∷ met) v e = rw (eqb_flip u v) (go (eqb v u) e (place_in_lem m
 pub place_out : (met : List ℕ) (v : ℕ) → contains met v ≡ false → place_of met v ≡ length met
 unfolding place_of
 place_out [] v e = refl
-place_out (u ∷ met) v e = rw (eqb_flip u v) (go (eqb v u) e (place_out met v))
+place_out (u ∷ met) v e = rw (same_eqb u v) (go (eqb v u) e (place_out met v))
   where
     go : (b : Bool) → (b || contains met v) ≡ false → (contains met v ≡ false → place_of met v ≡ length met) → place_in b (place_of met v) ≡ suc (length met)
     go true h f = absurd (let z : ◌≡◌ {A = ℕ} 0 1 = ap (λ (t : Bool). pick t 0 1) h in omega arith)
     go false h f = let k = f h in omega arith
-
-pub place_most : (met : List ℕ) (v : ℕ) → place_of met v ≤ length met
-place_most met v = go (contains met v) refl
-  where
-    go : (b : Bool) → contains met v ≡ b → place_of met v ≤ length met
-    go true h = omega (arith, place_in_lem met v h)
-    go false h = omega (arith, place_out met v h)
 
 -- ---- one variable more
 -- a word at or behind the end of a run, and at it

@@ -1,19 +1,18 @@
 -- The name of a renumbered body. Assumes nothing.
-use Rattle.std.specs.Prelude.{Bool, true, false, ◌≡◌, refl, Some, None, List, [], ◌∷◌, ◌++◌, map, ℕ, ◌+◌, ◌*◌, ◌-◌, ◌≤◌, ◌<◌, length, get_or, take, drop}
+use Rattle.std.specs.Prelude.{◌≡◌, refl, Some, None, List, [], ◌∷◌, ◌++◌, map, ℕ, ◌+◌, ◌*◌, ◌-◌, ◌≤◌, ◌<◌, length, get_or, take, drop}
 use Rattle.std.proofs.Common.{sym, ap, subst, ◌∙◌, arith, length-append, get_or-take, get_or-drop}
 use Rattle.std.proofs.Math.Option.{Option as RuleOption, none, some}
-use Rattle.ir.specs.Pick.{pick}
 use Rattle.ir.specs.Records.{six}
 use Rattle.ir.specs.RecordLaws.{six_inj}
 use Rattle.ir.specs.declared.atom.Atom.{Atom}
 use Rattle.ir.specs.declared.atom.Atom.TheVariants.{Class, Exists, AtMost, AtLeast, Equal, Role as RoleAtom}
-use Rattle.rules.specs.Base.{ok, contains}
+use Rattle.rules.specs.Base.{ok}
 use Rattle.rules.specs.Run.{flat}
 use Rattle.rules.specs.DecodeLaws.{flat_long}
 use Rattle.rules.specs.Invariants.{Each}
 use Rattle.rules.specs.Branches.{memo_of, name_of, name_or_new, met_with, renumber, renumber_from}
 use Rattle.rules.specs.Branches as Rules
-use Rattle.rules.proofs.BranchLaws.{renumber_length}
+use Rattle.rules.proofs.BranchLaws.{renumber_length, place_within, met_within}
 use Rattle.branches.specs.Layout.{named_end, met_at, keep_at}
 use Rattle.tables.specs.TabledLaws.{At}
 use Rattle.branches.specs.Wide.{AtomsAre}
@@ -21,7 +20,6 @@ use Rattle.branches.specs.Memo.{packed, Packable, Tame, TameThere, named_words, 
 use Rattle.branches.specs.Renumbered.{run, OnlyRenumbered}
 use Rattle.branches.specs.Found.{BodyHeld, Found}
 use Rattle.branches.specs.PackLaws.{cons_same}
-use Rattle.branches.specs.MetLaws.{place_most}
 use Rattle.branches.specs.RenumberLaws.{run_kept}
 use Rattle.branches.specs.FilterLaws.{marks_kept}
 use Rattle.branches.specs.declared.memo.Naming.{Naming}
@@ -40,25 +38,18 @@ atoms_same w base count l m A B =
     flat_inj l m (sym A.there ∙ ap (λ (j : ℕ). run w (6 * base) j) n ∙ B.there)
 
 -- ---- a renumbered body fits in words
-met_more : (met : List ℕ) (v : ℕ) → length (met_with met v) ≤ length met + 1
-met_more met v = go (contains met v)
-  where
-    go : (b : Bool) → length (pick b met (met ++ (v ∷ []))) ≤ length met + 1
-    go true = omega arith
-    go false = let h = length-append met (v ∷ []) in omega arith
-
 renumber_packable : (met : List ℕ) (l : List Atom) → length met + 2 * length l < 1024 → Each Tame l → Each Packable (renumber_from met l)
 unfolding renumber_from
 renumber_packable met [] h p = tt
 renumber_packable met (Class k v ∷ l) h p =
-    let x = place_most met v in
-    let y = met_more met v in
+    let x = place_within met v in
+    let y = met_within met v in
     ((p.0, omega arith), renumber_packable (met_with met v) l (omega arith) p.1)
 renumber_packable met (RoleAtom r u v ∷ l) h p =
-    let x = place_most met u in
-    let y = met_more met u in
-    let z = place_most (met_with met u) v in
-    let t = met_more (met_with met u) v in
+    let x = place_within met u in
+    let y = met_within met u in
+    let z = place_within (met_with met u) v in
+    let t = met_within (met_with met u) v in
     ((p.0, omega arith, omega arith), renumber_packable (met_with (met_with met u) v) l (omega arith) p.1)
 renumber_packable met (Exists _ _ _ ∷ l) h p = absurd p.0
 renumber_packable met (AtMost _ _ _ _ ∷ l) h p = absurd p.0

@@ -2,17 +2,15 @@
 use Rattle.std.specs.Prelude.{Bool, true, false, ◌≡◌, refl, List, [], ◌∷◌, map, ℕ, suc, ◌+◌, ◌*◌, ◌/◌, ◌%◌, ◌<◌, length, get_or, drop, eqb}
 use Rattle.std.proofs.Common.{sym, ap, ◌∙◌, arith, eqb-true}
 use Rattle.std.proofs.lemmas.Bool.{eqb-false}
-use Rattle.ir.specs.Pick.{pick}
-use Rattle.ir.specs.Records.{same_atom}
-use Rattle.ir.specs.RecordLaws.{same_atom_lem, same_atom_refl}
+use Rattle.ir.specs.RecordLaws.{same_atom_refl}
 use Rattle.ir.specs.Roles.{role_id, role_code, role_of, role_code_lem}
 use Rattle.ir.specs.declared.role.Role.{Role}
 use Rattle.ir.specs.declared.role.Role.TheVariants.{Named, Inverse}
 use Rattle.ir.specs.declared.atom.Atom.{Atom}
 use Rattle.ir.specs.declared.atom.Atom.TheVariants.{Class, Exists, AtMost, AtLeast, Equal, Role as RoleAtom}
-use Rattle.rules.specs.Added.{both_true}
 use Rattle.rules.specs.Reflexive.{same_atoms}
 use Rattle.rules.specs.Invariants.{Each}
+use Rattle.rules.proofs.ReflexiveLaws.{same_atoms_lem}
 use Rattle.branches.specs.Memo.{packed, Packable}
 
 pub code_small : (r : Role) → role_code r < 2048 → role_id r < 2147483648
@@ -72,13 +70,6 @@ packs_inj (a ∷ l) (b ∷ m) p q e =
     cons_same a b l m (pack_inj a b p.0 q.0 h) (packs_inj l m p.1 q.1 t)
 
 -- equality of bodies is equality of their words
-same_is : (l m : List Atom) → same_atoms l m ≡ true → l ≡ m
-unfolding same_atoms
-same_is [] [] e = refl
-same_is [] (b ∷ m) e = absurd (let z : ◌≡◌ {A = ℕ} 0 1 = ap (λ (t : Bool). pick t 1 0) e in omega arith)
-same_is (a ∷ l) [] e = absurd (let z : ◌≡◌ {A = ℕ} 0 1 = ap (λ (t : Bool). pick t 1 0) e in omega arith)
-same_is (a ∷ l) (b ∷ m) e = let h = both_true (same_atom a b) (same_atoms l m) e in cons_same a b l m (same_atom_lem a b h.0) (same_is l m h.1)
-
 same_refl : (l : List Atom) → same_atoms l l ≡ true
 unfolding same_atoms
 same_refl [] = refl
@@ -91,5 +82,5 @@ pub other_packed : (l m : List Atom) → (map packed l ≡ map packed m → ⊥)
 other_packed l m f = go (same_atoms l m) refl
   where
     go : (b : Bool) → same_atoms l m ≡ b → b ≡ false
-    go true e = absurd (f (ap (map packed) (same_is l m e)))
+    go true e = absurd (f (ap (map packed) (same_atoms_lem l m e)))
     go false e = refl

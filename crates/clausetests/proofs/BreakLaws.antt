@@ -1,5 +1,6 @@
 -- The tables hold what breaks a clause: an element fits behind others exactly where it breaks every atom that it makes known; so
 -- the search by the tables finds the least elements that break it. Assumes nothing.
+use Rattle.std.proofs.Math.Bool.{and_assoc}
 use mathlib.Core.Path.{◌≡◌, refl, sym, ap, ap₂, ◌∙◌}
 use mathlib.Core.Bool.{Bool, true, false, not, ◌&&◌, ◌||◌, false≢true}
 use mathlib.Core.List.{List, [], ◌∷◌, ◌++◌}
@@ -21,7 +22,7 @@ use Rattle.rules.specs.Invariants.{Each, RisingFrom}
 use Rattle.rules.specs.JointLaws.{Rising, insert_rising}
 use Rattle.rules.specs.EachLaws.{each_any, each_left, each_right, each_map}
 use Rattle.rules.specs.Semantics.{Interpretation, implies, chosen, atom_holds, inserted, vars_of, clause_vars}
-use Rattle.meaning.specs.Truth.{or_none, and_unit, any_append, each_all}
+use Rattle.meaning.specs.Truth.{or_none, and_unit, any_append, each_all, and_crossed}
 use Rattle.meaning.specs.Choices.{AgreeOn, atom_agree, InVars, in_vars}
 use Rattle.states.specs.Conditions.{rises, behind, chosen_from, clause_broken}
 use Rattle.states.specs.ChainLaws.{first_same}
@@ -29,7 +30,6 @@ use Rattle.states.specs.SearchLaws.{search}
 use Rattle.states.specs.LiteralLaws.{Distinct, unchosen, decided, all_and, all_on, next_breaks, clause_search}
 use Rattle.clausetests.specs.Fitting.{turned, only_in, both_in, atom_one, atom_two, clause_one, clause_two}
 use Rattle.clausetests.specs.Search.{narrowed, search_by}
-use Rattle.clausetests.proofs.FittingLaws.{and_assoc}
 use Rattle.clausetests.proofs.PlaceLaws.{nth_in, places_same, not_true, both_means, both_there, both_turned}
 
 -- ---- a clause's variables: each once, and every atom has only these
@@ -130,15 +130,9 @@ fits_all : (t : Atom → ℕ → ℕ → ℕ → ℕ → Bool) (l : List Atom) (
 fits_all t l i [] j x = all_true l
 fits_all t l i (e ∷ p) j x = all_and (λ a. t a i j e x) (λ a. fits_from (t a) (suc i) p j x) l ∙ ap (λ b. all (λ a. t a i j e x) l && b) (fits_all t l (suc i) p j x)
 
-turn : (a b c d : Bool) → (a && b) && (c && d) ≡ (a && c) && (b && d)
-turn false b c d = refl
-turn true true c d = refl
-turn true false true d = refl
-turn true false false d = refl
-
 fits_and : (t u : ℕ → ℕ → ℕ → ℕ → Bool) (i : ℕ) (p : List ℕ) (j x : ℕ) → fits_from t i p j x && fits_from u i p j x ≡ fits_from (λ k q e y. t k q e y && u k q e y) i p j x
 fits_and t u i [] j x = refl
-fits_and t u i (e ∷ p) j x = turn (t i j e x) (fits_from t (suc i) p j x) (u i j e x) (fits_from u (suc i) p j x) ∙ ap (λ b. (t i j e x && u i j e x) && b) (fits_and t u (suc i) p j x)
+fits_and t u i (e ∷ p) j x = and_crossed (t i j e x) (fits_from t (suc i) p j x) (u i j e x) (fits_from u (suc i) p j x) ∙ ap (λ b. (t i j e x && u i j e x) && b) (fits_and t u (suc i) p j x)
 
 -- ---- the two searches
 module _ (n : ℕ) (one : ℕ → ℕ → Bool) (two : ℕ → ℕ → ℕ → ℕ → Bool) (next : List ℕ → ℕ → Bool) (k : ℕ) (so : (p : List ℕ) (x : ℕ) → length p < k → next p x ≡ fitting one two p (length p) x) where
@@ -347,7 +341,7 @@ module _ (I : Interpretation) (c : Clause) where
       let vs = clause_vars c in
       let k = length p in
       ap₂ ◌&&◌ (atoms_next I vs only p x lt false c.body) (atoms_next I vs only p x lt true c.head)
-      ∙ turn (all (λ a. atom_one I vs false a k x) c.body) (fits_from (λ i j e y. all (λ a. atom_two I vs false a i j e y) c.body) 0 p k x) (all (λ a. atom_one I vs true a k x) c.head) (fits_from (λ i j e y. all (λ a. atom_two I vs true a i j e y) c.head) 0 p k x)
+      ∙ and_crossed (all (λ a. atom_one I vs false a k x) c.body) (fits_from (λ i j e y. all (λ a. atom_two I vs false a i j e y) c.body) 0 p k x) (all (λ a. atom_one I vs true a k x) c.head) (fits_from (λ i j e y. all (λ a. atom_two I vs true a i j e y) c.head) 0 p k x)
       ∙ ap (λ b. clause_one I c k x && b) (fits_and (λ i j e y. all (λ a. atom_two I vs false a i j e y) c.body) (λ i j e y. all (λ a. atom_two I vs true a i j e y) c.head) 0 p k x)
 
   -- the search by the tables finds the least elements that break the clause

@@ -20,10 +20,6 @@ use Rattle.sets.specs.Places.{vars_at, pairs_at, rows_at, shown_at}
 use Rattle.clausetests.specs.Given.{Given, AtomThere}
 use Rattle.clausetests.specs.Fitting.{pairs, pair_at, Tables, turned, Changed}
 
-pub and_assoc : (a b c : Bool) → (a && b) && c ≡ a && (b && c)
-and_assoc true b c = refl
-and_assoc false b c = refl
-
 by_order : {P : Type 0} (i j : ℕ) → (i < j → P) → (j ≤ i → P) → P
 by_order i j f g = by_truth (ltb i j) (λ e. f (ltb-true i j e)) (λ e. g (ltb-false i j e))
 

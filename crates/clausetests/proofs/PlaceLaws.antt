@@ -1,6 +1,7 @@
 -- An atom by the places of its variables: the one table that it narrows. Assumes nothing.
+use Rattle.std.proofs.lemmas.Bool.{or_cases, false_from_ne_true}
 use mathlib.Core.Path.{◌≡◌, refl, sym, ap, subst, ◌∙◌}
-use mathlib.Core.Bool.{Bool, true, false, ◌&&◌, ◌||◌, false≢true}
+use mathlib.Core.Bool.{Bool, true, false, ◌&&◌, false≢true}
 use mathlib.Core.List.{List, [], ◌∷◌}
 use mathlib.Core.Logic.{◌⊎◌, inl, inr}
 use Prim.Native.Nat.{ℕ, zero, suc, ◌+◌, ◌*◌, ◌<◌, ◌≤◌}
@@ -45,19 +46,11 @@ places_same (v ∷ vs) D (suc i) zero a b e = absurd (false≢true (sym D.0 ∙ 
 places_same (v ∷ vs) D (suc i) (suc j) a b e = ap suc (places_same vs D.1 i j (omega arith) (omega arith) e)
 
 -- ---- the tests of an atom's variables
-pub not_true : (b : Bool) → (b ≡ true → ⊥) → b ≡ false
-not_true true h = absurd (h refl)
-not_true false h = refl
-
 pub only_first : (u x : ℕ) (l : List ℕ) → only_in u (x ∷ l) ≡ true → x ≡ u
 only_first u x l h = eqb-true x u (and_left (eqb x u) (only_in u l) h)
 
 pub only_second : (u x y : ℕ) → only_in u (x ∷ y ∷ []) ≡ true → y ≡ u
 only_second u x y h = only_first u y [] (and_right (eqb x u) (only_in u (y ∷ [])) h)
-
-or_cases : (a b : Bool) → a || b ≡ true → (a ≡ true) ⊎ (b ≡ true)
-or_cases true b h = inl refl
-or_cases false b h = inr h
 
 pub both_means : (s t x y : ℕ) → both_in s t (x ∷ y ∷ []) ≡ true → ((x ≡ s) × (y ≡ t)) ⊎ ((x ≡ t) × (y ≡ s))
 both_means s t x y h = go (or_cases (eqb x s && eqb y t) (eqb x t && eqb y s) h)
@@ -138,8 +131,8 @@ module _ (I : Interpretation) (roles : ℕ) (vs : List ℕ) (size : ℕ) (a : At
     at_one : only_in (get_or vs p 0) (atom_vars a) ≡ true → ((j : ℕ) → j < v.n → only_in (get_or vs j 0) (atom_vars a) ≡ true → j ≡ p) → ((i j : ℕ) → i < j → j < v.n → both_in (get_or vs i 0) (get_or vs j 0) (atom_vars a) ≡ true → ⊥) → Narrowed
     at_one here only none = tables_one size v.n one (one_with I vs head a one) two (two_with I vs head a two) s s' M.few small T p (λ x. turned head (atom_holds I (λ _. x) a)) hp C E
         (λ x. rw here refl)
-        (λ j h n x. kept_one j x (not_true (only_in (get_or vs j 0) (atom_vars a)) (λ q. n (only j h q))))
-        (λ i j e x h l. kept_two i j e x (not_true (both_in (get_or vs i 0) (get_or vs j 0) (atom_vars a)) (none i j h l)))
+        (λ j h n x. kept_one j x (false_from_ne_true (only_in (get_or vs j 0) (atom_vars a)) (λ q. n (only j h q))))
+        (λ i j e x h l. kept_two i j e x (false_from_ne_true (both_in (get_or vs i 0) (get_or vs j 0) (atom_vars a)) (none i j h l)))
 
     -- an atom of the variable at place p
     pub narrowed_single : (x : ℕ) → atom_vars a ≡ x ∷ [] → get_or vs p 0 ≡ x → Narrowed
@@ -168,8 +161,8 @@ module _ (I : Interpretation) (roles : ℕ) (vs : List ℕ) (size : ℕ) (a : At
         (subst (λ (t : ℕ). Changed (2 * t) (2 * (t + 64)) s s') ea C)
         (λ e h. ap (λ (t : ℕ). set_at s' (t + e)) (sym ea) ∙ E e h ∙ ap (λ (t : ℕ). mask_of size (λ x. two p q e x && turned head (atom_holds I (chosen (λ _. e) t x) a))) (sym ef))
         (λ e x. rw here refl)
-        (λ i j e x h l n. kept_two i j e x (not_true (both_in (get_or vs i 0) (get_or vs j 0) (atom_vars a)) (λ z. n (both i j h l z))))
-        (λ j x h. kept_one j x (not_true (only_in (get_or vs j 0) (atom_vars a)) (none j h)))
+        (λ i j e x h l n. kept_two i j e x (false_from_ne_true (both_in (get_or vs i 0) (get_or vs j 0) (atom_vars a)) (λ z. n (both i j h l z))))
+        (λ j x h. kept_one j x (false_from_ne_true (only_in (get_or vs j 0) (atom_vars a)) (none j h)))
 
     -- an atom of the variables at the places p and q, in either order
     pub narrowed_pair : (x y : ℕ) → atom_vars a ≡ x ∷ y ∷ [] → get_or vs p 0 ≡ x → get_or vs q 0 ≡ y → Narrowed

@@ -12,6 +12,7 @@ use Rattle.ir.specs.Records.{atom_at}
 use Rattle.ir.specs.declared.atom.Atom.{Atom}
 use Rattle.ir.specs.Records.{Read}
 use Rattle.std.specs.Prelude.{None, Some}
+use Rattle.std.proofs.Math.Bool.{and_assoc}
 use Rattle.rules.specs.Base.{all}
 use Rattle.rules.specs.Invariants.{Each}
 use Rattle.rules.specs.EachLaws.{each_left, each_right, each_nth}
@@ -25,7 +26,7 @@ use Rattle.tables.specs.AtomLaws.{no_atom, read_is, run_nth}
 use Rattle.clausetests.specs.declared.listed.Vars.{Vars}
 use Rattle.clausetests.specs.Given.{NamesRoles}
 use Rattle.clausetests.specs.Fitting.{Tables, atom_one, atom_two, one_with, two_with, ones_with, twos_with, Changed, Meant, MeantThere, RunMeant, ClauseMeant}
-use Rattle.clausetests.proofs.FittingLaws.{and_assoc, changed_none, changed_then, given_kept}
+use Rattle.clausetests.proofs.FittingLaws.{changed_none, changed_then, given_kept}
 
 -- ---- the same tables
 pub tables_same : (n k : ℕ) (one one' : ℕ → ℕ → Bool) (two two' : ℕ → ℕ → ℕ → ℕ → Bool) (v : List ℕ) → ((j x : ℕ) → one j x ≡ one' j x) → ((i j e x : ℕ) → two i j e x ≡ two' i j e x) → Tables n k one two v → Tables n k one' two' v

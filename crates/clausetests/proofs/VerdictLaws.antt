@@ -1,9 +1,9 @@
 -- The elements shown, one clause, and the clauses one after the other. Assumes nothing.
 use mathlib.Core.Path.{◌≡◌, refl, sym, ap, ◌∙◌}
-use mathlib.Core.Bool.{Bool, true, false, ◌||◌, false≢true}
-use mathlib.Core.List.{List, [], ◌∷◌, ◌++◌, append_assoc}
+use mathlib.Core.Bool.{false, false≢true}
+use mathlib.Core.List.{List, [], ◌++◌, append_assoc}
 use mathlib.Core.Option.{Option, none, some}
-use Prim.Native.Nat.{ℕ, zero, suc, ◌+◌, ◌*◌, ◌<◌, ◌≤◌}
+use Prim.Native.Nat.{ℕ, ◌+◌, ◌*◌, ◌<◌, ◌≤◌}
 use native.Mathlib.Omega.{arith}
 use lib.ListN.{length, get_or, take, drop, drop_of_length-le}
 use lib.Seq.{sets, sets-eq, drop_at, take-append-le, length-take-le}
@@ -16,6 +16,7 @@ use Rattle.rules.specs.State.{Clause}
 use Rattle.rules.specs.Invariants.{Each}
 use Rattle.rules.specs.EachLaws.{each_append, each_nth}
 use Rattle.rules.specs.Semantics.{Interpretation, clause_vars}
+use Rattle.rules.specs.DeckLaws.{any_false}
 use Rattle.meaning.specs.Choices.{in_vars}
 use Rattle.states.specs.Conditions.{clause_broken}
 use Rattle.states.specs.Test.{Verdict, holds, broken, or_broken, first_broken, clauses_verdict, most_vars, wide_clause}
@@ -99,26 +100,13 @@ pub verdict_none : (i : ℕ) (o : Option (List ℕ)) → none ≡ o → holds �
 verdict_none i o e = rw (← e) refl
 
 -- ---- the clauses one after the other
-any_nth : (f : Clause → Bool) (l : List Clause) (i : ℕ) → any f l ≡ false → i < length l → f (get_or l i no_clause) ≡ false
-any_nth f [] i e h = absurd (omega arith)
-any_nth f (x ∷ l) zero e h = left (f x) (any f l) e
-  where
-    left : (a b : Bool) → a || b ≡ false → a ≡ false
-    left true b e = e
-    left false b e = refl
-any_nth f (x ∷ l) (suc i) e h = any_nth f l i (right (f x) (any f l) e) (omega arith)
-  where
-    right : (a b : Bool) → a || b ≡ false → b ≡ false
-    right true b e = absurd (false≢true (sym e))
-    right false b e = e
-
 pub clause_is : (I : Interpretation) (roles size count i : ℕ) (l : List Clause) (text clauses atoms w s : List ℕ) → Given I roles size text w s → Tabled clauses atoms count l → Each (ClauseNames roles) l → any wide_clause l ≡ false → i < count
     → ClauseIs I roles size (get_or l i no_clause) i text clauses atoms w s
 clause_is I roles size count i l text clauses atoms w s G T N W h = record {
   given = G;
   at = clause_at clauses atoms count l T i h;
   names = each_nth (ClauseNames roles) l i no_clause N (omega (arith, T.count));
-  narrow = any_nth wide_clause l i W (omega (arith, T.count));
+  narrow = any_false wide_clause no_clause l i W (omega (arith, T.count));
 }
 
 goes_on : (i : ℕ) (o : Option (List ℕ)) (r : Verdict) → holds ≡ or_broken i o holds → or_broken i o r ≡ r

@@ -1,7 +1,6 @@
 -- Sets of a state that is laid out: a class's, and those made element by element of a role's rows. Assumes nothing.
 use Rattle.std.specs.Prelude.{◌≡◌, refl, Bool, true, false, ◌&&◌, ◌||◌, List, [], ◌∷◌, ℕ, ◌+◌, ◌*◌, ◌<◌, ◌≤◌, length, eqb, leb}
-use Rattle.std.proofs.Common.{sym, ap, ◌∙◌, subst, inl, inr, arith, eq-eqb, ne_eqb, eqb-true, le-leb}
-use Rattle.std.proofs.lemmas.Bool.{eqb-false}
+use Rattle.std.proofs.Common.{sym, ap, ◌∙◌, subst, inl, inr, arith, eq-eqb, ne_eqb, le-leb}
 use Rattle.ir.specs.Pick.{pick}
 use Rattle.ir.specs.Roles.{role_id, role_code, role_of, flipped, role_code_lem, flip_id, code_below}
 use Rattle.ir.specs.declared.role.Role.{Role}
@@ -13,6 +12,7 @@ use Rattle.rules.specs.Base.{any, contains}
 use Rattle.rules.specs.Deck.{most_roles}
 use Rattle.rules.specs.Run.{scratch_bytes}
 use Rattle.rules.specs.Semantics.{Interpretation, elements_below, count, related, qualifies, atom_holds, chosen}
+use Rattle.rules.specs.DeckLaws.{same_eqb}
 use Rattle.meaning.specs.Truth.{by_truth}
 use Rattle.meaning.specs.InverseMap.{flip_turns}
 use Rattle.states.specs.Conditions.{rises}
@@ -36,9 +36,6 @@ count_in n R f x = count (λ y. R x y && f y) (rises 0 n)
 any_count : (f : ℕ → Bool) (l : List ℕ) → any f l ≡ leb 1 (count f l)
 any_count f [] = refl
 any_count f (x ∷ l) = by_truth (f x) (λ e. rw e (sym (le-leb 1 (1 + count f l) (omega arith)))) (λ e. let z : 0 + count f l ≡ count f l = omega arith in rw (e, z) (any_count f l))
-
-eqb_turn : (p q : ℕ) → eqb p q ≡ eqb q p
-eqb_turn p q = by_truth (eqb p q) (λ e. e ∙ sym (eq-eqb q p (sym (eqb-true p q e)))) (λ e. e ∙ sym (ne_eqb q p (λ z. eqb-false p q e (sym z))))
 
 -- ---- of a state that is laid out
 pub code_small : (r : Role) (code roles : ℕ) → role_id r < roles → code ≡ role_code r → code < 2 * roles
@@ -139,7 +136,7 @@ module _ (I : Interpretation) (roles size : ℕ) (text w v : List ℕ) (G : Give
 
         go : OneIs free u y → m ≡ mask_of I.size (λ z. atom_holds I (chosen (λ _. x) free z) (Equal u y))
         go (inl p) = rw (eq-eqb u free p.0, ne_eqb y free p.1) is
-        go (inr p) = rw (ne_eqb u free p.1, eq-eqb y free p.0) (is ∙ mask_same I.size (λ z. eqb z x) (λ z. eqb x z) (λ z _. eqb_turn z x))
+        go (inr p) = rw (ne_eqb u free p.1, eq-eqb y free p.0) (is ∙ mask_same I.size (λ z. eqb z x) (λ z. eqb x z) (λ z _. same_eqb z x))
 
 -- ---- what the code asks of the bytes
 module _ (size : ℕ) (a : Atom) (text store scratch : List ℕ) (T : AtomThere size a text store scratch) where

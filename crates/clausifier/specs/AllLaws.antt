@@ -4,6 +4,7 @@ use Rattle.std.proofs.Math.Path.{refl}
 use Rattle.std.proofs.Common.{sym, ap, subst, ◌∙◌, arith}
 use Prim.{Unit, tt}
 use Rattle.words.specs.Words.{words}
+use Rattle.words.specs.Laws.{words_long}
 use Rattle.ir.specs.Counts.{at_line}
 use Rattle.ir.specs.declared.counters.Counters.{Counters}
 use Rattle.ir.specs.Answer.{Answer}
@@ -24,14 +25,15 @@ use Rattle.pool.specs.Held.{Held}
 use Rattle.pool.specs.Answers.{sized}
 use Rattle.pool.specs.HeldLaws.{pool_length}
 use Rattle.pool.specs.Tabs.{tab_next, tab_end, tab_each}
+use Rattle.pool.proofs.Interning.{sized_same}
 use Rattle.ontology.specs.Layout.{axiom_at, axioms_of}
 use Rattle.tables.specs.Drawn.{Tables, tables, show, counters_in, clauses_in, atoms_in, deferrals_in}
 use Rattle.tables.specs.Good.{Alike, alike_step, good_same}
 use Rattle.hands.specs.Hands.{Four, four}
-use Rattle.leaves.specs.StepLaws.{show_alike, words_long}
+use Rattle.leaves.specs.StepLaws.{show_alike}
 use Rattle.axioms.specs.BodyLaws.{encoding_kept}
 use Rattle.axioms.specs.Wholes.{Whole, whole, drawn, shown_whole, after_whole, standing, Clausifying, ClausifyingAfter, Untouched, Onward, OnwardAnswer}
-use Rattle.axioms.specs.WholeLaws.{sized_own, drawn_same}
+use Rattle.axioms.specs.WholeLaws.{drawn_same}
 use Rattle.clausifier.specs.Arms.{AxiomsOf, AxiomOf}
 use Rattle.clausifier.specs.Limited.{Readied, ReadyFor, Limited}
 use Rattle.clausifier.specs.All.{shown_lined, after_lined, ReadyForAll, ClausifiedAll}
@@ -100,7 +102,7 @@ module _ (k m : Counters) (rooms : Rooms) (y : Four) (z : Clausifier) (j : ℕ) 
   pool_is = cc
 
   sized_is : sized m z.pool ≡ m
-  sized_is = ap (sized m) (sym pool_is) ∙ sized_own y.scratch m H
+  sized_is = ap (sized m) (sym pool_is) ∙ sized_same y.scratch m H
 
   pub stands_drawn : tables m y.clauses y.atoms y.deferrals ≡ show m rooms z.out
   stands_drawn =
@@ -224,7 +226,7 @@ module _ (n line : ℕ) (k₀ : Counters) (x₀ : Four) (A : AxiomsOf x₀.scrat
     -- drawn by the counters of the start
     last_drawn : (rooms : Rooms) (s : Out) → tables k x.clauses x.atoms x.deferrals ≡ show k rooms s → whole (pool_of x.scratch k.concepts) (tables k x.clauses x.atoms x.deferrals) ≡ drawn k₀ rooms (standing k x s)
     last_drawn rooms s t =
-        let u : sized k (pool_of x.scratch k.concepts) ≡ k = sized_own x.scratch k H in
+        let u : sized k (pool_of x.scratch k.concepts) ≡ k = sized_same x.scratch k H in
         ap (whole (pool_of x.scratch k.concepts)) (t ∙ ap (λ (c : Counters). show c rooms s) (sym u)) ∙ drawn_same k₀ k rooms T.onward.nominals T.onward.options (standing k x s)
 
     pub turn_end : ClausifiedAll n line k₀ x₀ x (Finished k)

@@ -1,7 +1,8 @@
 -- The way from a deck that was read to the state before the first clause. Assumes nothing.
-use Rattle.std.specs.Prelude.{◌≡◌, refl, false, List, [], ◌∷◌, ℕ, ◌+◌, ◌*◌, ◌-◌, ◌<◌, ◌≤◌, length, get_or, take}
-use Rattle.std.proofs.Common.{sym, ap, subst, ◌∙◌, arith, ne_eqb, get_or-take}
+use Rattle.std.specs.Prelude.{◌≡◌, refl, false, List, [], ◌∷◌, ℕ, ◌+◌, ◌*◌, ◌-◌, ◌<◌, ◌≤◌, length, get_or}
+use Rattle.std.proofs.Common.{sym, ap, subst, ◌∙◌, arith, ne_eqb}
 use Rattle.words.specs.Words.{words}
+use Rattle.words.specs.Laws.{words_long, word_front}
 use Rattle.ir.specs.Scratch.{keys_at, roles_at, alternatives_at, axioms_at, numbers_at, lines_at, stack_at, limits_at, limits_words}
 use Rattle.ir.specs.Counts.{at_line}
 use Rattle.ir.specs.Options.{card_disjunct_atoms, equal_names}
@@ -32,7 +33,7 @@ use Rattle.inverse.specs.Layout.{RolesHeld, Beside, Building}
 use Rattle.tables.specs.Drawn.{padded, show}
 use Rattle.hands.specs.Hands.{EnvIn}
 use Rattle.antecedents.specs.Table.{Numbered, Outside}
-use Rattle.antecedents.specs.TableLaws.{same_words_lem, outside_pool, outside_held}
+use Rattle.antecedents.specs.TableLaws.{outside_pool, outside_held}
 use Rattle.axioms.specs.Wholes.{Clausifying}
 use Rattle.clausifier.specs.Arms.{AxiomsOf}
 use Rattle.ontology.specs.KeptAxioms.{axioms_kept, held_axioms}
@@ -128,10 +129,6 @@ start_shown d limit s rooms =
     rw (c, a, f) refl
 
 -- ---- what the code asks of it
--- a word below a place that was left alone
-word_below : (b : ℕ) (w w' : List ℕ) → take b w' ≡ take b w → (i : ℕ) → i < b → get_or w' i 0 ≡ get_or w i 0
-word_below b w w' e i h = sym (get_or-take b w' i 0 h) ∙ ap (λ (l : List ℕ). get_or l i 0) e ∙ get_or-take b w i 0 h
-
 module _ (d : Known) (limit : ℕ) (s : List ℕ) (v : Counters) (n : ℕ) (N : NormalIn d limit s v n) where
   pub normal_building : Building s n
   normal_building = record {
@@ -155,7 +152,7 @@ module _ (d : Known) (limit : ℕ) (s : List ℕ) (v : Counters) (n : ℕ) (N : 
     beside_pool = pool_same (words s) (words s') v.concepts v.members N.held beside_same v.concepts (omega arith)
 
     beside_held : Held (words s') v.concepts v.members
-    beside_held = held_same (words s) (words s') v.concepts v.members N.held beside_same (same_words_lem s s' l) (λ h i. B.below (28672 + h) (omega arith))
+    beside_held = held_same (words s) (words s') v.concepts v.members N.held beside_same (words_long s s' l) (λ h i. B.below (28672 + h) (omega arith))
 
     pub normal_ready : Ready s' v
     normal_ready = record { room = omega (arith, N.space); held = beside_held }
@@ -166,10 +163,10 @@ module _ (d : Known) (limit : ℕ) (s : List ℕ) (v : Counters) (n : ℕ) (N : 
       pool_is = outside_pool (words s') (words s'') O v.concepts v.members beside_held
 
       held_is : Held (words s'') v.concepts v.members
-      held_is = outside_held (words s') (words s'') O v.concepts v.members beside_held (same_words_lem s' s'' m)
+      held_is = outside_held (words s') (words s'') O v.concepts v.members beside_held (words_long s' s'' m)
 
       low : (j : ℕ) → j < roles_at → get_or (words s'') j 0 ≡ get_or (words s) j 0
-      low j h = word_below alternatives_at (words s') (words s'') O.low j (omega arith) ∙ B.below j h
+      low j h = word_front alternatives_at (words s') (words s'') O.low j (omega arith) ∙ B.below j h
 
       high : (j : ℕ) → axioms_at ≤ j → j < lines_at → get_or (words s'') j 0 ≡ get_or (words s) j 0
       high j h i = word_above axioms_at (words s') (words s'') O.high j h ∙ B.above j (omega arith)
@@ -185,7 +182,7 @@ module _ (d : Known) (limit : ℕ) (s : List ℕ) (v : Counters) (n : ℕ) (N : 
 
       module _ (R : RolesHeld (words s') (build_inverse_canon (axioms_of (words s) n))) (M : Numbered (words s'') (pool_of (words s') v.concepts) v.concepts) where
         roles_is : RolesHeld (words s'') (build_inverse_canon (axioms_of (words s) n))
-        roles_is = record { mapped = λ r h. word_below alternatives_at (words s') (words s'') O.low (roles_at + r) (omega arith) ∙ R.mapped r h }
+        roles_is = record { mapped = λ r h. word_front alternatives_at (words s') (words s'') O.low (roles_at + r) (omega arith) ∙ R.mapped r h }
 
         state_pool : pool_of (words s'') v.concepts ≡ N.told.state.pool
         state_pool = pool_is ∙ beside_pool ∙ N.told.pool

@@ -16,6 +16,7 @@ use Rattle.rules.specs.Deck.{most_roles, section_of, axiom_of}
 use Rattle.rules.specs.State.{Env, Out, defer}
 use Rattle.rules.specs.Axioms.{Clausifier, in_out, back_out, later_pairs, chain, chain_of, asymmetric, clausify_axiom}
 use Rattle.rules.specs.Invariants.{Each, RoleIn, AxiomIn}
+use Rattle.rules.specs.EachLaws.{each_unmapped}
 use Rattle.pool.specs.Layout.{tab, run, pool_of}
 use Rattle.pool.specs.Held.{Held}
 use Rattle.pool.specs.Tabs.{tab_each}
@@ -31,10 +32,6 @@ use Rattle.ontology.specs.Rows.{row_axiom, chain_is, transitive_is, irreflexive_
 use Rattle.clausifier.specs.Rows.{Row}
 use Rattle.inverse.specs.AxiomLaws.{code_small}
 use Rattle.clausifier.specs.ArmLaws.{axiom_as, did_arm, ok_fields, of_kind}
-
-each_unmapped : {A B : Type 0} (P : B → Type 0) (f : A → B) (l : List A) → Each P (map f l) → Each (λ x. P (f x)) l
-each_unmapped P f [] h = tt
-each_unmapped P f (x ∷ l) h = (h.0, each_unmapped P f l h.1)
 
 -- ---- one role
 module _ (w : List ℕ) (k : Counters) (kind at count : ℕ) (R : Row w k kind at count) (a : ℕ) (p : a ≡ get_or w (at + 1) 0) where

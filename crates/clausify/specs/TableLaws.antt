@@ -3,13 +3,13 @@
 use Rattle.std.specs.Prelude.{◌≡◌, Bool, true, false, ◌&&◌, List, ◌++◌, ℕ, ◌*◌, ◌-◌, ◌/◌, ◌%◌, ◌≤◌, length, take, replicate, eqb, leb}
 use Rattle.std.proofs.Common.{sym, ap, ◌∙◌, arith, eqb-true}
 use Rattle.std.proofs.Math.Seq.{take-append_seam}
+use Rattle.std.proofs.lemmas.Bool.{and_parts}
 use Rattle.words.specs.Words.{words, bytes}
 use Rattle.words.specs.Laws.{Bytes}
 use Rattle.words.specs.Bytes.{bytes_append, bytes_zeros, bytes_words}
 use Rattle.ir.specs.declared.counters.Counters.{Counters}
 use Rattle.rules.specs.State.{Rooms, total}
 use Rattle.rules.specs.Run.{Lengths, Accepted, table_ok, sizes_ok, rooms_of, clause_words, atom_words, deferral_words, most_clauses, most_atoms, most_deferrals, scratch_bytes, clause_records, atom_records, table_of}
-use Rattle.rules.specs.Added.{both_true}
 use Rattle.rules.proofs.RunLaws.{sizes_ok_lem}
 use Rattle.rules.specs.DecodeLaws.{clause_records_long, atom_records_long}
 use Rattle.tables.specs.Drawn.{padded, Sized}
@@ -44,16 +44,16 @@ pub record Whole (t : Lengths) : Type 0 where
   pub scratch : scratch_bytes ≤ t.scratch
 
 records_whole : (w most n : ℕ) → table_ok w most n ≡ true → n % (4 * w) ≡ 0
-records_whole w most n e = eqb-true (n % (4 * w)) 0 (both_true (eqb (n % (4 * w)) 0) (leb (n / (4 * w)) most) e).0
+records_whole w most n e = eqb-true (n % (4 * w)) 0 (and_parts (eqb (n % (4 * w)) 0) (leb (n / (4 * w)) most) e).0
 
 pub sizes_whole : (t : Lengths) → sizes_ok t ≡ true → Whole t
 sizes_whole t e =
     let x = table_ok clause_words most_clauses t.clauses in
     let y = table_ok atom_words most_atoms t.atoms in
     let z = table_ok deferral_words most_deferrals t.deferrals in
-    let f = both_true (x && y && z) (leb scratch_bytes t.scratch) e in
-    let g = both_true (x && y) z f.0 in
-    let h = both_true x y g.0 in
+    let f = and_parts (x && y && z) (leb scratch_bytes t.scratch) e in
+    let g = and_parts (x && y) z f.0 in
+    let h = and_parts x y g.0 in
     let c = records_whole clause_words most_clauses t.clauses h.0 in
     let a = records_whole atom_words most_atoms t.atoms h.1 in
     let d = records_whole deferral_words most_deferrals t.deferrals g.1 in

@@ -8,6 +8,7 @@ use Rattle.std.proofs.Math.ListN as Lists
 use Rattle.std.proofs.Math.ListN.{length, get_or, length-append, length-map}
 use Rattle.std.proofs.lemmas.List.Edits.{sets}
 use Rattle.words.specs.Words.{words}
+use Rattle.words.specs.Laws.{frame_less}
 use Rattle.ir.specs.Atoms.{substitute_atom, replaced}
 use Rattle.ir.specs.Records.{six, Fits, atom_at}
 use Rattle.ir.specs.Scratch.{hands_at}
@@ -88,11 +89,8 @@ module _ (s t : List ℕ) (i last drop keep : ℕ) (el : last ≡ length s / 24 
     (f1 : take (6 * hand_at) w1 ≡ take (6 * hand_at) w) (s1 : Substituted (take (24 * i) s) hand_at drop keep w1)
     (f2 : take (6 * (hand_at + i)) w2 ≡ take (6 * (hand_at + i)) w1) (s2 : Substituted (take (length s - (24 * i + 24)) (Lists.drop (24 * i + 24) s)) (hand_at + i) drop keep w2)
     (f3 : take (6 * (hand_at + last)) w3 ≡ take (6 * (hand_at + last)) w2) (s3 : Substituted t (hand_at + last) drop keep w3) where
-  low : (j k : ℕ) (u v : List ℕ) → j ≤ k → take k u ≡ take k v → take j u ≡ take j v
-  low j k u v h e = sym (take-take j k u h) ∙ ap (take j) e ∙ take-take j k v h
-
   pub contract_frame : take hands_at w3 ≡ take hands_at w
-  contract_frame = low hands_at (6 * (hand_at + last)) w3 w2 (omega arith) f3 ∙ low hands_at (6 * (hand_at + i)) w2 w1 (omega arith) f2 ∙ f1
+  contract_frame = frame_less hands_at (6 * (hand_at + last)) w2 w3 (omega arith) f3 ∙ frame_less hands_at (6 * (hand_at + i)) w1 w2 (omega arith) f2 ∙ f1
 
   module _ (before after heads : List Atom) (r : Role) (src tgt : ℕ) (S : Run s (before ++ (RoleAtom r src tgt ∷ after))) (T : Run t heads) (eb : i ≡ length before) where
     role : At (words s) (6 * i) (six (RoleAtom r src tgt))

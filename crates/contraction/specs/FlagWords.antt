@@ -1,5 +1,5 @@
 -- Role atoms over flagged roles, as they were read. Assumes nothing.
-use Rattle.std.specs.Prelude.{◌≡◌, refl, false, List, ℕ, ◌*◌, ◌/◌, ◌<◌, eqb, get_or, Some}
+use Rattle.std.specs.Prelude.{◌≡◌, refl, false, List, ℕ, ◌*◌, ◌<◌, eqb, get_or, Some}
 use Rattle.std.proofs.Common.{sym, ap, subst, ◌∙◌, arith, eq-eqb, ne_eqb}
 use Rattle.ir.specs.Records.{six, atom_at, Read}
 use Rattle.ir.specs.Roles.{role_id, role_code}
@@ -12,10 +12,6 @@ use Rattle.rules.specs.Deck.{most_roles}
 use Rattle.rules.specs.Reflexive.{is_reflexive, is_self_loop}
 use Rattle.contraction.specs.InHands.{AtomThere}
 use Rattle.contraction.specs.ContractLaws.{read_same}
-
-pub code_id : (r : Role) → role_code r / 2 ≡ role_id r
-code_id (Named i) = omega arith
-code_id (Inverse i) = omega arith
 
 pub code_small : (r : Role) → role_code r < 2 * most_roles → role_id r < most_roles
 code_small (Named i) h = omega arith

@@ -1,7 +1,7 @@
 -- Runs of words compared word by word, and the atoms and clauses that they are. Assumes nothing.
 use Rattle.std.specs.Prelude.{◌≡◌, refl, Bool, true, false, ◌&&◌, ◌||◌, List, [], ◌∷◌, ◌++◌, ℕ, zero, suc, ◌+◌, ◌*◌, ◌<◌, ◌≤◌, eqb, length, get_or, take, drop}
 use Rattle.std.proofs.Common.{ap, ap₂, ◌∙◌, add-one, arith, drop_of_length-le, drop-cons}
-use Rattle.std.proofs.Math.Bool.{and-false}
+use Rattle.std.proofs.Math.Bool.{and-false, or-true}
 use Rattle.ir.specs.Pick.{pick}
 use Rattle.ir.specs.Records.{six, same_words, same_atom}
 use Rattle.ir.specs.declared.atom.Atom.{Atom}
@@ -26,15 +26,11 @@ module _ {A : Type 0} (p : A → Bool) (l : List A) (i : ℕ) (d : A) where
 pub any_none : {A : Type 0} (p : A → Bool) (l : List A) (i : ℕ) → length l ≤ i → any p (drop i l) ≡ false
 any_none p l i h = rw (drop_of_length-le l {i = i} h) refl
 
-or_true : (b : Bool) → (b || true) ≡ true
-or_true true = refl
-or_true false = refl
-
 any_drop : {A : Type 0} (p : A → Bool) (l : List A) (j : ℕ) → any p (drop j l) ≡ true → any p l ≡ true
 any_drop p [] zero e = e
 any_drop p [] (suc j) e = e
 any_drop p (x ∷ l) zero e = e
-any_drop p (x ∷ l) (suc j) e = rw (any_drop p l j e) (or_true (p x))
+any_drop p (x ∷ l) (suc j) e = rw (any_drop p l j e) (or-true (p x))
 
 -- what is found behind is found
 pub any_behind : {A : Type 0} (p : A → Bool) (l : List A) (i j : ℕ) → i ≤ j → any p (drop j l) ≡ true → any p (drop i l) ≡ true

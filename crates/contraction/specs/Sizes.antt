@@ -1,8 +1,7 @@
 -- Clauses of a table with as many atoms as one in hand; the others are not equal to it. Assumes nothing.
 use Rattle.std.specs.Prelude.{Bool, true, false, ◌&&◌, ◌≡◌, refl, List, ℕ, eqb}
 use Rattle.std.proofs.Common.{sym, ap, ◌∙◌, eqb-true}
-use Rattle.std.proofs.lemmas.Bool.{eqb-false}
-use Rattle.rules.specs.Added.{both_true}
+use Rattle.std.proofs.lemmas.Bool.{eqb-false, and_parts}
 use Rattle.rules.specs.State.{Clause}
 use Rattle.rules.specs.Reflexive.{same_clause}
 use Rattle.tables.specs.Tabled.{body_count, head_count, ClauseAt}
@@ -16,7 +15,7 @@ has_size c nb nh i = eqb (body_count c i) nb && eqb (head_count c i) nh
 -- the two counts
 pub size_both : (c : List ℕ) (nb nh i : ℕ) → has_size c nb nh i ≡ true → (body_count c i ≡ nb) × (head_count c i ≡ nh)
 size_both c nb nh i e =
-    let h = both_true (eqb (body_count c i) nb) (eqb (head_count c i) nh) e in
+    let h = and_parts (eqb (body_count c i) nb) (eqb (head_count c i) nh) e in
     (eqb-true (body_count c i) nb h.0, eqb-true (head_count c i) nh h.1)
 
 -- a clause of another size is not the one in hand

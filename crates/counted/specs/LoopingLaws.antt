@@ -16,12 +16,11 @@ use Rattle.rules.specs.Ends.{Ends, ends, stops}
 use Rattle.rules.specs.EachLaws.{each_append}
 use Rattle.rules.specs.Invariants.{Each, ClauseIn}
 use Rattle.tables.specs.Drawn.{tables, show, shown, after}
-use Rattle.tables.specs.DrawnLaws.{atoms_count}
+use Rattle.tables.specs.DrawnLaws.{atoms_count, show_same}
 use Rattle.leaves.specs.StepLaws.{lent_kept}
 use Rattle.tables.specs.Tabled.{Tabled}
 use Rattle.contraction.specs.Passes.{StandingBelow, Standing, Drawn}
 use Rattle.tables.specs.ClauseLaws.{clauses_append, show_tabled, tabled_same}
-use Rattle.counted.specs.StandingLaws.{show_same}
 use Rattle.counted.specs.SelfLoops.{Showing, Looping, Looped, LoopedAfter}
 
 showing_tabled : (k : Counters) (c a : List ℕ) (l : List Clause) → Showing k c a l → Tabled c a k.clauses l

@@ -26,11 +26,12 @@ use Rattle.tables.specs.AtomLaws.{kind_is, role_is, source_is, read_is, run_nth}
 use Rattle.hands.specs.Hands.{InHand}
 use Rattle.contraction.specs.InHands.{hand_at, ClauseInHand, HandThere}
 use Rattle.contraction.specs.PlainLaws.{plain_in, plain_clause}
-use Rattle.contraction.specs.FlagWords.{code_id, code_small}
+use Rattle.contraction.specs.FlagWords.{code_small}
 use Rattle.counted.specs.StandingLaws.{nth}
 use Rattle.counted.specs.SelfLoops.{push_new, push_over, push_of, Looping}
 use Rattle.counted.specs.LoopingLaws.{looping_tabled, looping_within}
 use Rattle.counted.specs.VarLaws.{VarsThere}
+use Rattle.reflexive.specs.IdLaws.{code_id}
 
 abbrev pub head_at : Clause → ℕ → Atom
 head_at x j = get_or x.head j (Equal 0 0)

@@ -1,10 +1,10 @@
 -- A loop in hand: a part of the atom table, and two atoms behind it. Assumes nothing.
 use Rattle.std.specs.Prelude.{◌≡◌, List, [], ◌∷◌, ◌++◌, ℕ, ◌+◌, ◌*◌, ◌/◌, ◌≤◌, length, take, drop}
-use Rattle.std.proofs.Common.{sym, ap, ◌∙◌, arith, length-append, length-take-le, take-take, take_at}
+use Rattle.std.proofs.Common.{sym, ap, ◌∙◌, arith, length-append, length-take-le, take_at}
 use Rattle.std.proofs.lemmas.List.Edits.{sets, sets-eq}
 use Rattle.std.proofs.Math.Seq.{length-sets}
 use Rattle.words.specs.Words.{words}
-use Rattle.words.specs.Laws.{length_words}
+use Rattle.words.specs.Laws.{length_words, frame_less}
 use Rattle.ir.specs.Records.{six}
 use Rattle.ir.specs.declared.role.Role.{Role}
 use Rattle.ir.specs.declared.atom.Atom.{Atom}
@@ -52,7 +52,4 @@ module _ (s w w1 w2 w3 : List ℕ) (nb v fresh : ℕ) (r : Role) (en : nb ≡ le
       let f1 : take (6 * hand_at) w1 ≡ take (6 * hand_at) w = put_frame hand_at nb w w1 (words s) (6 * hand_at) e1 (omega arith) in
       let f2 : take (6 * (hand_at + nb)) w2 ≡ take (6 * (hand_at + nb)) w1 = put_frame hand_at nb w1 w2 (six (RoleAtom r v fresh)) (6 * (hand_at + nb)) e2 (omega (arith, l1)) in
       let f3 : take (6 * (hand_at + nb + 1)) w3 ≡ take (6 * (hand_at + nb + 1)) w2 = put_frame hand_at nb w2 w3 (six (RoleAtom r v v)) (6 * (hand_at + nb + 1)) e3 (omega (arith, l2)) in
-      below (6 * hand_at) (6 * (hand_at + nb + 1)) w2 w3 (omega arith) f3 ∙ below (6 * hand_at) (6 * (hand_at + nb)) w1 w2 (omega arith) f2 ∙ f1
-    where
-      below : (m n : ℕ) (v v' : List ℕ) → m ≤ n → take n v' ≡ take n v → take m v' ≡ take m v
-      below m n v v' h e = sym (take-take m n v' h) ∙ ap (take m) e ∙ take-take m n v h
+      frame_less (6 * hand_at) (6 * (hand_at + nb + 1)) w2 w3 (omega arith) f3 ∙ frame_less (6 * hand_at) (6 * (hand_at + nb)) w1 w2 (omega arith) f2 ∙ f1

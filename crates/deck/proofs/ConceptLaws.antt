@@ -16,9 +16,10 @@ use Rattle.rules.specs.Concept.{Concept, Top, concept_row, same_concept}
 use Rattle.rules.specs.Deck.{most_depth, concept_of, parts_of, depth_of, nest_ok, member_of, under_and, under_or, list_ok, members_ok, bound_ok}
 use Rattle.rules.specs.DeckLaws.{all_each}
 use Rattle.std.specs.Prelude.{Option, Some, None}
+use Rattle.std.proofs.lemmas.Bool.{and_parts}
 use Rattle.rules.specs.Base.{all, any}
 use Rattle.rules.specs.Invariants.{Each}
-use Rattle.rules.specs.TextLaws.{and_true, by_test}
+use Rattle.rules.specs.TextLaws.{by_test}
 use Rattle.rules.specs.Pool.{at}
 use Rattle.rules.specs.Text.{most_number}
 use Rattle.text.specs.Rows.{row_at}
@@ -148,5 +149,5 @@ module _ (s t : List ℕ) (k : State) where
   nest_each p n j L h =
       let m : ℕ = length (concepts_in s (words t) k.concepts) in
       let ps : List ℕ = parts_of (concept_of j (row_at s p n)) in
-      let a = (and_true (all (λ c. ltb c m) ps) (leb (depth_of (depths_in (words t) k.concepts) (concept_of j (row_at s p n))) most_depth) h).0 in
+      let a = (and_parts (all (λ c. ltb c m) ps) (leb (depth_of (depths_in (words t) k.concepts) (concept_of j (row_at s p n))) most_depth) h).0 in
       rw (← line_parts s p n j L, ← counted_known.concepts) (all_each (λ c. ltb c m) (λ c. c < m) (λ c q. ltb-true c m q) ps a)

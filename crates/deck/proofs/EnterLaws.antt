@@ -1,4 +1,5 @@
 -- What a good line leaves: the header, a key mark, a concept, an axiom. Assumes nothing.
+use Rattle.std.proofs.lemmas.Bool.{and_parts}
 use mathlib.Core.Path.{◌≡◌, refl, sym, ap, subst, ◌∙◌}
 use mathlib.Core.Bool.{true, false≢true}
 use mathlib.Core.List.{List}
@@ -13,7 +14,7 @@ use Rattle.ir.specs.Pick.{pick}
 use Rattle.rules.specs.Deck.{most_concept_lines, most_axioms, most_listed, section_of, list_of, header_of, in_order, fields_ok, header_ok, room_ok, depth_of, entered}
 use Rattle.rules.specs.DeckLaws.{Passed, verdict_zero, ConceptPassed, concept_zero}
 use Rattle.rules.specs.Invariants.{Each}
-use Rattle.rules.specs.TextLaws.{and_true, by_test}
+use Rattle.rules.specs.TextLaws.{by_test}
 use Rattle.text.specs.Rows.{row_at}
 use Rattle.text.specs.RowLaws.{length_row}
 use Rattle.deck.specs.Index.{hash_of}
@@ -47,7 +48,7 @@ module _ (s t : List ℕ) (p n : ℕ) (k : State) (E : Entering s t p n k) where
   passed = verdict_zero (known_in s t k) (get_or (row_at s p n) 0 0) (row_at s p n) E.good
 
   shaped : (in_order (section_number k.section) (section_of (get_or (row_at s p n) 0 0)) ≡ true) × (fields_ok (get_or (row_at s p n) 0 0) (length (row_at s p n)) ≡ true)
-  shaped = and_true (in_order (section_number k.section) (section_of (get_or (row_at s p n) 0 0))) (fields_ok (get_or (row_at s p n) 0 0) (length (row_at s p n))) passed.shape
+  shaped = and_parts (in_order (section_number k.section) (section_of (get_or (row_at s p n) 0 0))) (fields_ok (get_or (row_at s p n) 0 0) (length (row_at s p n))) passed.shape
 
   order_is : (i : ℕ) → section_of (get_or (row_at s p n) 0 0) ≡ i → in_order (section_number k.section) i ≡ true
   order_is i e = subst (λ (j : ℕ). in_order (section_number k.section) j ≡ true) e shaped.0
@@ -59,7 +60,7 @@ module _ (s t : List ℕ) (p n : ℕ) (k : State) (E : Entering s t p n k) where
       → pick (eqb i 1) (header_ok (header_of (row_at s p n))) (pick (eqb i 3) (ltb (length (concepts_in s (words t) k.concepts)) most_concept_lines) (pick (eqb i 4) (ltb (length (axioms_in s (words t) k.axioms)) most_axioms) true)) ≡ true
   room_is i e =
       subst (λ (j : ℕ). pick (eqb j 1) (header_ok (header_of (row_at s p n))) (pick (eqb j 3) (ltb (length (concepts_in s (words t) k.concepts)) most_concept_lines) (pick (eqb j 4) (ltb (length (axioms_in s (words t) k.axioms)) most_axioms) true)) ≡ true) e
-      (and_true (leb (length (list_of (get_or (row_at s p n) 0 0) (row_at s p n))) most_listed) (room_ok (known_in s t k) (get_or (row_at s p n) 0 0) (row_at s p n)) passed.limits).1
+      (and_parts (leb (length (list_of (get_or (row_at s p n) 0 0) (row_at s p n))) most_listed) (room_ok (known_in s t k) (get_or (row_at s p n) 0 0) (row_at s p n)) passed.limits).1
 
   -- a good line is of a section
   pub section_some : section_of (get_or (row_at s p n) 0 0) ≡ 0 → ⊥
@@ -92,7 +93,7 @@ module _ (s t : List ℕ) (p n : ℕ) (k : State) (E : Entering s t p n k) where
   unfolding entered
   enter_key_law e =
       let H = E.held in
-      let o = leb-true (section_number k.section) 2 (and_true (leb 1 (section_number k.section)) (leb (section_number k.section) 2) (order_is 2 e)).1 in
+      let o = leb-true (section_number k.section) 2 (and_parts (leb 1 (section_number k.section)) (leb (section_number k.section) 2) (order_is 2 e)).1 in
       let z : k.marks + 23 * k.keys ≡ p = H.last_key o in
       let q : n ≡ 2 = eqb-true n 2 (subst (λ (j : ℕ). fields_ok j n ≡ true) (key_kind (get_or (row_at s p n) 0 0) e) fields_are) in
       let r : key_in s k.marks k.keys ≡ get_or (row_at s p n) 1 0 = rw (z, q) refl in

@@ -19,7 +19,7 @@ use Rattle.rules.specs.Concept.{Top, Bot, Atomic, Nominal, SelfRestriction, Not,
 use Rattle.rules.specs.Deck.{most_listed, sections, fixed_fields, list_kinds, section_of, fixed_of, list_of, concept_of, fields_ok, parts_of, member_of, under_and, under_or, list_ok, members_ok, bound_ok}
 use Rattle.rules.specs.DeckLaws.{all_each}
 use Rattle.rules.specs.Text.{most_number}
-use Rattle.rules.specs.TextLaws.{each_get_d, by_test, and_true}
+use Rattle.rules.specs.TextLaws.{each_get_d, by_test}
 use Rattle.deck.specs.Kinds.{Says}
 use Rattle.deck.specs.Records.{section_number, firsts, first_part, kind_member, under, IsList}
 use Rattle.deck.specs.declared.kinds.Kind.{Kind}
@@ -27,6 +27,7 @@ use Rattle.deck.specs.declared.state.Section.{Section}
 use Rattle.deck.specs.declared.state.Section.TheVariants.{Header, Keys, Concepts, Axioms}
 use Rattle.std.specs.Prelude.{Option}
 use Rattle.std.specs.declared.option.Option.TheVariants as option
+use Rattle.std.proofs.lemmas.Bool.{and_parts}
 
 -- ---- the code's table of kinds
 zeros : (m n : ℕ) → get_or (replicate {0} {A = ℕ} m 0) n 0 ≡ 0
@@ -93,9 +94,6 @@ pub first_most : (k : ℕ) → first_part k ≤ 5
 first_most k = each_get_d (λ n. n ≤ 5) firsts k 0 (all_each (λ n. leb n 5) (λ n. n ≤ 5) (λ n. leb-true n 5) firsts refl) (omega arith)
 
 -- ---- the sections
-pub section_most : (k : ℕ) → section_of k ≤ 4
-section_most k = each_get_d (λ n. n ≤ 4) sections k 0 (all_each (λ n. leb n 4) (λ n. n ≤ 4) (λ n. leb-true n 4) sections refl) (omega arith)
-
 -- a number that is no entry of a list
 none_is : (v : ℕ) (l : List ℕ) → all (λ n. not (eqb n v)) l ≡ true → (0 ≡ v → ⊥) → (i : ℕ) → get_or l i 0 ≡ v → ⊥
 none_is v l h z i = each_get_d (λ n. n ≡ v → ⊥) l i 0 (all_each (λ n. not (eqb n v)) (λ n. n ≡ v → ⊥) (λ n b. eqb-false n v (not-true (eqb n v) b)) l h) z
@@ -111,8 +109,8 @@ early m k v a z h e = none_is v (take m sections) a z k (get_or-take m sections 
 -- kinds in a row that have one section: n of them from m on
 same_at : (v : ℕ) (l : List ℕ) → all (λ n. eqb n v) l ≡ true → (i : ℕ) → i < length l → v ≡ get_or l i 0
 same_at v [] a i h = absurd (omega arith)
-same_at v (x ∷ l) a zero h = sym (eqb-true x v (and_true (eqb x v) (all (λ n. eqb n v) l) a).0)
-same_at v (x ∷ l) a (suc i) h = same_at v l (and_true (eqb x v) (all (λ n. eqb n v) l) a).1 i (omega arith)
+same_at v (x ∷ l) a zero h = sym (eqb-true x v (and_parts (eqb x v) (all (λ n. eqb n v) l) a).0)
+same_at v (x ∷ l) a (suc i) h = same_at v l (and_parts (eqb x v) (all (λ n. eqb n v) l) a).1 i (omega arith)
 
 pub stretch : (m n v k : ℕ) → all (λ i. eqb i v) (take n (drop m sections)) ≡ true → length (take n (drop m sections)) ≡ n → m ≤ k → k < m + n → v ≡ section_of k
 stretch m n v k a e h l =

@@ -1,10 +1,11 @@
 -- Laws of the index: a search along its links is a search of all, and one number more. Assumes nothing.
-use Rattle.std.specs.Prelude.{◌≡◌, Bool, true, false, ◌||◌, List, eqb, ltb, get_or}
+use Rattle.std.specs.Prelude.{◌≡◌, Bool, true, false, List, eqb, ltb, get_or}
 use Rattle.std.proofs.Math.Path.{refl, sym}
 use Rattle.std.proofs.Common.{ap, ◌∙◌, add-one, eqb-true, ltb-true, ltb-false}
 use Prim.Native.Nat.{ℕ, zero, suc, ◌+◌, ◌-◌, ◌<◌, ◌≤◌}
 use native.Mathlib.Omega.{arith}
 use Rattle.std.proofs.lemmas.Bool.{eqb-false}
+use Rattle.std.proofs.Math.Bool.{or-true, or-false}
 use Rattle.rules.specs.Base.{any}
 use Rattle.rules.specs.TextLaws.{by_test}
 use Rattle.deck.specs.Index.{last, Indexed}
@@ -30,14 +31,6 @@ unfolding last
 last_same H G zero h e = refl
 last_same H G (suc n) h e = rw (e n (omega arith), last_same H G n h (λ i l. e i (omega arith))) refl
 
-or_false : (t : Bool) → (t || false) ≡ t
-or_false true = refl
-or_false false = refl
-
-or_true : (t : Bool) → (t || true) ≡ true
-or_true true = refl
-or_true false = refl
-
 -- ---- the search among the first n of f for one that passes p, where all that pass have hash h
 module _ {A : Type 0} (p : A → Bool) (f : ℕ → A) (H : ℕ → ℕ) (h n : ℕ) where
   -- at c of the chain: the answer is the answer among the first c
@@ -54,7 +47,7 @@ module _ {A : Type 0} (p : A → Bool) (f : ℕ → A) (H : ℕ → ℕ) (h n : 
     skip (suc m) l =
         by_test (eqb (H m) h) (λ a. rw a refl)
         (λ a. by_test (p (f m)) (λ b. absurd (eqb-false (H m) h a (agree m (omega arith) b)))
-        (λ b. rw a (skip m (omega arith) ∙ sym (any_more f p m ∙ rw b (or_false (any p (tab f m)))))))
+        (λ b. rw a (skip m (omega arith) ∙ sym (any_more f p m ∙ rw b (or-false (any p (tab f m)))))))
 
     module _ (head link : ℕ) (w : List ℕ) (I : Indexed head link H w n) where
       pub chase_first : (c g : ℕ) → g ≡ h → g < 1024 → c ≡ get_or w (head + g) 0 → Chasing c
@@ -70,7 +63,7 @@ module _ {A : Type 0} (p : A → Bool) (f : ℕ → A) (H : ℕ → ℕ) (h n : 
         chase_in = omega (arith, C.within)
 
         pub chase_yes : p (f (c - 1)) ≡ true → true ≡ any p (tab f n)
-        chase_yes a = sym (ap (λ (j : ℕ). any p (tab f j)) before ∙ any_more f p (c - 1) ∙ rw a (or_true (any p (tab f (c - 1))))) ∙ C.rest
+        chase_yes a = sym (ap (λ (j : ℕ). any p (tab f j)) before ∙ any_more f p (c - 1) ∙ rw a (or-true (any p (tab f (c - 1))))) ∙ C.rest
 
         next : (d : ℕ) → d ≡ get_or w (link + (c - 1)) 0 → d ≡ last H (c - 1) h
         next d e = e ∙ I.links (c - 1) chase_in ∙ ap (last H (c - 1)) (C.hashed (c - 1) before)
@@ -83,7 +76,7 @@ module _ {A : Type 0} (p : A → Bool) (f : ℕ → A) (H : ℕ → ℕ) (h n : 
             let q = next d e in
             let l = chase_less d e in
             let down : any p (tab f d) ≡ any p (tab f (c - 1)) = rw q (skip (c - 1) (omega (arith, C.within))) in
-            let one : any p (tab f c) ≡ any p (tab f (c - 1)) = ap (λ (j : ℕ). any p (tab f j)) before ∙ any_more f p (c - 1) ∙ rw a (or_false (any p (tab f (c - 1)))) in
+            let one : any p (tab f c) ≡ any p (tab f (c - 1)) = ap (λ (j : ℕ). any p (tab f j)) before ∙ any_more f p (c - 1) ∙ rw a (or-false (any p (tab f (c - 1)))) in
             record { within = omega (arith, C.within); hashed = λ i b. last_at H h (c - 1) i (sym q ∙ b); rest = down ∙ sym one ∙ C.rest }
 
   pub chase_end : (c : ℕ) → Chasing c → c ≡ 0 → false ≡ any p (tab f n)

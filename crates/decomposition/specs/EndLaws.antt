@@ -1,24 +1,18 @@
 -- The numbers at the end of the pass are small. Assumes nothing.
-use Rattle.std.proofs.Common.{ap, arith, length-append, take_all}
-use Rattle.std.specs.Prelude.{List, [], ◌∷◌, map, ℕ, ◌*◌, ◌≤◌, length}
+use Rattle.std.proofs.Common.{ap, arith, take_all}
+use Rattle.std.specs.Prelude.{List, ℕ, ◌*◌, ◌≤◌, length}
 use Rattle.ir.specs.declared.counters.Counters.{Counters}
 use Rattle.rules.specs.State.{Clause, total}
 use Rattle.rules.specs.Run.{clause_words}
-use Rattle.rules.specs.Branches.{Branch}
-use Rattle.branches.specs.Memo.{packed, named_words}
 use Rattle.branches.specs.declared.memo.Naming.{Naming}
 use Rattle.decomposition.specs.Turning.{EndThere}
 use Rattle.decomposition.specs.StartLaws.{clauses_many, atoms_many, clauses_fit, atoms_fit}
+use Rattle.naming.specs.CallLaws.{named_least}
 
 -- each branch has a word of its own
-named_few : (l : List Branch) → length l ≤ length (named_words l)
-unfolding named_words
-named_few [] = omega arith
-named_few (b ∷ l) = omega (arith, named_few l, length-append (map packed b.body) (named_words l))
-
 module _ (k : Counters) (w c' a' : List ℕ) (s : Naming) (to n : ℕ) (E : EndThere k w c' a' s to n) where
   pub end_named : s.named ≤ 262144
-  end_named = omega (arith, named_few E.passed.state.named, E.passed.held.many, E.passed.held.used, E.passed.held.few)
+  end_named = omega (arith, named_least E.passed.state.named, E.passed.held.many, E.passed.held.used, E.passed.held.few)
 
   pub end_used : s.used ≤ 262144
   end_used = E.passed.held.few

@@ -1,11 +1,12 @@
 -- The end of the pass: the branches behind the clauses, or no room. Assumes nothing.
-use Rattle.std.specs.Prelude.{Bool, true, false, ◌&&◌, ◌≡◌, ℕ, suc, ◌+◌, ◌*◌, ◌-◌, ◌≤◌, ◌<◌, length, take, drop, replicate, leb}
+use Rattle.std.specs.Prelude.{Bool, true, false, ◌≡◌, ℕ, suc, ◌+◌, ◌*◌, ◌-◌, ◌≤◌, ◌<◌, length, take, drop, replicate, leb}
 use Rattle.std.proofs.Math.Path.{refl, ap}
 use Rattle.std.proofs.Common.{sym, ap₂, ◌∙◌, arith, length-append, drop_of_length-le, take_all}
 use mathlib.Core.List.{List, [], ◌∷◌, ◌++◌, map}
 use borrow.Author.Tests.{le-leb, lt-leb, leb-true, leb-false}
 use Rattle.std.proofs.lemmas.List.{length-map}
 use Rattle.std.proofs.lemmas.List.Edits.{sets}
+use Rattle.std.proofs.Math.Bool.{and-false}
 use Rattle.ir.specs.Counts.{counters}
 use Rattle.ir.specs.declared.counters.Counters.{Counters}
 use Rattle.rules.specs.Base.{Res, ok, refused}
@@ -41,10 +42,6 @@ branches_total (b ∷ l) =
       length-map b.body packed,
     )
 
-and_false : (b : Bool) → (b && false) ≡ false
-and_false true = refl
-and_false false = refl
-
 -- so many clauses and atoms, and this class next
 abbrev pub end_counters : Counters → (clauses atoms class : ℕ) → Counters
 end_counters k c a q = counters k.visits k.limit k.concepts k.members k.next_var q c a k.deferrals k.line k.nominal_base k.options
@@ -60,7 +57,7 @@ module _ (k : Counters) (c a : List ℕ) (D : Decomposing k c a) where
       go (ok R z) f =
           let l : List Clause = R.clauses ++ map branch_clause z.named in
           let n : D.env.rooms.atoms < total l = omega (arith, total_append R.clauses (map branch_clause z.named), branches_total z.named) in
-          rw (lt-leb (total l) D.env.rooms.atoms n, and_false (leb (length l) D.env.rooms.clauses)) refl
+          rw (lt-leb (total l) D.env.rooms.atoms n, and-false (leb (length l) D.env.rooms.clauses)) refl
       go (refused e) f = absurd f
 
   module _ (w c' a' : List ℕ) (s : Naming) (to n : ℕ) (P : AllPassed k c a D w c' a' s to n) where
@@ -90,7 +87,7 @@ module _ (k : Counters) (c a : List ℕ) (D : Decomposing k c a) where
     no_clauses h = rw (rule_ends, lt-leb (length ended) D.env.rooms.clauses (omega (arith, many))) refl
 
     pub no_atoms : D.env.rooms.atoms < to + s.used → refused 12 ≡ shown (λ j. j) k D.env.rooms (decompose_wide_bodies D.env D.state)
-    no_atoms h = rw (rule_ends, lt-leb (total ended) D.env.rooms.atoms (omega (arith, sum)), and_false (leb (length ended) D.env.rooms.clauses)) refl
+    no_atoms h = rw (rule_ends, lt-leb (total ended) D.env.rooms.atoms (omega (arith, sum)), and-false (leb (length ended) D.env.rooms.clauses)) refl
 
     module _ (in_clauses : k.clauses + s.named ≤ D.env.rooms.clauses) (in_atoms : to + s.used ≤ D.env.rooms.atoms) where
       -- ---- the tables

@@ -8,13 +8,14 @@ use native.Mathlib.Omega.{arith}
 use Rattle.std.proofs.Math.ListN.{length, length-append}
 use Rattle.std.proofs.lemmas.List.Edits.{sets}
 use Rattle.std.proofs.Math.Seq.{length-sets}
+use Rattle.words.specs.Runs.{drop_sets}
 use Rattle.rules.specs.State.{Clause, total}
 use Rattle.rules.specs.Run.{clause_words, flat, clause_records, atom_records}
 use Rattle.rules.specs.DecodeLaws.{flat_long, clause_records_long}
 use Rattle.rules.specs.Added.{total_append}
 use Rattle.decomposition.specs.Placing.{Half}
 use Rattle.tables.specs.ClauseLaws.{clauses_append, atoms_append}
-use Rattle.decomposition.specs.StoreLaws.{take_store, drop_store, next_clause}
+use Rattle.decomposition.specs.StoreLaws.{take_store, next_clause}
 
 pub half_start : (l : List Clause) (c a : List ℕ) → Half l c a c a 0 0 []
 unfolding clause_records atom_records total
@@ -61,10 +62,10 @@ module _ (l : List Clause) (c a c' a' : List ℕ) (i to : ℕ) (done : List Clau
         low = omega (arith, n.1, H.low);
         clauses = ap (take (clause_words * (i + 1))) ec ∙ take_store c' row (clause_words * i) (clause_words * (i + 1)) u (omega arith) ∙ ap (λ (v : List ℕ). v ++ row) H.clauses
             ∙ sym (clauses_append 0 done (y ∷ []) ∙ ap (λ (v : ℕ). clause_records 0 done ++ clause_records v (y ∷ [])) z);
-        clauses_rest = ap (drop (clause_words * (i + 1))) ec ∙ drop_store row c' (clause_words * i) (clause_words * (i + 1)) (omega arith) ∙ rest_same c c' (clause_words * i) (clause_words * (i + 1)) (omega arith) H.clauses_rest;
+        clauses_rest = ap (drop (clause_words * (i + 1))) ec ∙ drop_sets row c' (clause_words * i) (clause_words * (i + 1)) (omega arith) ∙ rest_same c c' (clause_words * i) (clause_words * (i + 1)) (omega arith) H.clauses_rest;
         atoms = ap (take (6 * t)) ea ∙ take_store a' run (6 * to) (6 * t) q (omega (arith, H.low)) ∙ ap (λ (v : List ℕ). v ++ run) H.atoms
             ∙ sym (atoms_append done (y ∷ []) ∙ ap (λ (v : List ℕ). atom_records done ++ v) (append-nil run));
-        atoms_rest = ap (drop (6 * total (take (i + 1) l))) ea ∙ drop_store run a' (6 * to) (6 * total (take (i + 1) l)) (omega (arith, n.1, H.low))
+        atoms_rest = ap (drop (6 * total (take (i + 1) l))) ea ∙ drop_sets run a' (6 * to) (6 * total (take (i + 1) l)) (omega (arith, n.1, H.low))
             ∙ rest_same a a' (6 * total (take i l)) (6 * total (take (i + 1) l)) (omega (arith, n.1)) H.atoms_rest;
         same_clauses = ap length ec ∙ length-sets c' (clause_words * i) row ∙ H.same_clauses;
         same_atoms = ap length ea ∙ length-sets a' (6 * to) run ∙ H.same_atoms;

@@ -2,13 +2,12 @@
 use Rattle.std.specs.Prelude.{◌≡◌, List, ◌++◌, ℕ, ◌+◌, ◌*◌, ◌≤◌, length, take, drop}
 use Rattle.std.proofs.Common.{sym, ap, ◌∙◌, arith}
 use Rattle.std.proofs.lemmas.List.Edits.{sets}
-use Rattle.words.specs.Runs.{sets_append}
+use Rattle.words.specs.Runs.{sets_append, drop_sets}
 use Rattle.ir.specs.declared.atom.Atom.{Atom}
 use Rattle.rules.specs.Run.{flat}
 use Rattle.rules.specs.DecodeLaws.{flat_long, flat_append}
 use Rattle.tables.specs.Tabled.{At}
 use Rattle.decomposition.specs.Placing.{moved}
-use Rattle.decomposition.specs.StoreLaws.{drop_store}
 
 pub atoms_words : (w : List ℕ) (p n : ℕ) (l : List Atom) → n ≡ length l → At w p (flat l) → take (6 * n) (drop p w) ≡ flat l
 atoms_words w p n l e h = let f : 6 * n ≡ length (flat l) = omega (arith, flat_long l) in rw f h
@@ -22,7 +21,7 @@ pub run_new : (a body : List ℕ) (from to k nh : ℕ) (b h : List Atom) → bod
 run_new a body from to k nh b h eb ek eh l A =
     let n = flat_long b in
     let q : 6 * (to + k) ≡ 6 * to + length (flat b) = omega arith in
-    let d : drop (6 * from) (sets a (6 * to) (flat b)) ≡ drop (6 * from) a = drop_store (flat b) a (6 * to) (6 * from) (omega arith) in
+    let d : drop (6 * from) (sets a (6 * to) (flat b)) ≡ drop (6 * from) a = drop_sets (flat b) a (6 * to) (6 * from) (omega arith) in
     let r : take (6 * nh) (drop (6 * from) (sets a (6 * to) (flat b))) ≡ flat h = ap (take (6 * nh)) d ∙ atoms_words a (6 * from) nh h eh A in
     ap (λ (t : List ℕ). moved (sets a (6 * to) t) (6 * from) (6 * (to + k)) (6 * nh)) eb
     ∙ ap (sets (sets a (6 * to) (flat b)) (6 * (to + k))) r

@@ -1,6 +1,6 @@
 -- Runs of words stored in a table. Assumes nothing.
-use Rattle.std.specs.Prelude.{◌≡◌, refl, List, [], ◌∷◌, ◌++◌, ℕ, zero, suc, ◌+◌, ◌≤◌, length, take, drop, set}
-use Rattle.std.proofs.Common.{ap, ◌∙◌, arith, length-append, take_at, drop-set-lt, length-take-le}
+use Rattle.std.specs.Prelude.{◌≡◌, List, [], ◌∷◌, ◌++◌, ℕ, zero, suc, ◌+◌, ◌≤◌, length, take, drop}
+use Rattle.std.proofs.Common.{ap, ◌∙◌, arith, length-append, take_at, length-take-le}
 use Rattle.std.proofs.lemmas.List.Edits.{sets, sets-eq}
 use Rattle.rules.specs.State.{Clause, total}
 
@@ -11,11 +11,6 @@ take_store w m p q e h =
     let n : length (take p w ++ m) ≡ q = omega (arith, length-append (take p w) m, length-take-le p w (omega arith)) in
     ap (take q) (sets-eq m w p (omega arith))
     ∙ take_at (take p w ++ m) (drop (p + length m) w) q n
-
--- and behind it
-pub drop_store : (m w : List ℕ) (p q : ℕ) → p + length m ≤ q → drop q (sets w p m) ≡ drop q w
-drop_store [] w p q h = refl
-drop_store (x ∷ m) w p q h = drop_store m (set w p x) (suc p) q (omega arith) ∙ drop-set-lt q w p x (omega arith)
 
 -- ---- one clause more of a list
 pub next_clause : (l : List Clause) (i : ℕ) (x : Clause) (m : List Clause) → drop i l ≡ x ∷ m

@@ -1,6 +1,7 @@
 -- Sets against tests over the elements: one of them, all of them, how many. Assumes nothing.
-use mathlib.Core.Path.{◌≡◌, refl, sym, ap, ◌∙◌, subst}
-use mathlib.Core.Bool.{Bool, true, false, not, ◌&&◌}
+use Rattle.std.proofs.Math.Bool.{not-not}
+use mathlib.Core.Path.{◌≡◌, sym, ap, ◌∙◌, subst}
+use mathlib.Core.Bool.{Bool, not, ◌&&◌}
 use mathlib.Core.List.{List, [], ◌∷◌, ◌++◌}
 use Prim.Native.Nat.{ℕ, ◌+◌, ◌<◌}
 use native.Mathlib.Omega.{arith}
@@ -11,7 +12,7 @@ use Rattle.rules.specs.Base.{all, any}
 use Rattle.rules.specs.Invariants.{Each}
 use Rattle.rules.specs.JointLaws.{Joint}
 use Rattle.rules.specs.Semantics.{elements_below, implies, count}
-use Rattle.meaning.specs.Truth.{all_same}
+use Rattle.meaning.specs.Truth.{all_same, not_and_not}
 use Rattle.meaning.specs.Joints.{joins, over, joins_unit, over_append, not_any}
 use Rattle.states.specs.LeastLaws.{all_rising}
 use Rattle.states.specs.Masks.{mask_of, mask_none}
@@ -19,27 +20,17 @@ use Rattle.states.specs.MaskLaws.{mask_same}
 use Rattle.pool.specs.Layout.{members_at, run}
 use Rattle.pool.specs.Tabs.{tab_snoc, tab_each}
 
--- ---- tests
-twice : (b : Bool) → not (not b) ≡ b
-twice true = refl
-twice false = refl
-
-within : (a b : Bool) → not (a && not b) ≡ implies a b
-within true true = refl
-within true false = refl
-within false b = refl
-
 -- no element
 none_is : (n : ℕ) (f : ℕ → Bool) → eqb (mask_of n f) 0 ≡ not (any f (elements_below n))
 none_is n f = mask_none n f ∙ sym (all_rising n (λ x. not (f x))) ∙ sym (not_any f (elements_below n))
 
 pub some_is : (n : ℕ) (f : ℕ → Bool) → not (eqb (mask_of n f) 0) ≡ any f (elements_below n)
-some_is n f = ap not (none_is n f) ∙ twice (any f (elements_below n))
+some_is n f = ap not (none_is n f) ∙ not-not (any f (elements_below n))
 
 pub all_is : (n : ℕ) (f g : ℕ → Bool) → eqb (mask_of n (λ y. f y && not (g y))) 0 ≡ all (λ y. implies (f y) (g y)) (elements_below n)
 all_is n f g =
     mask_none n (λ y. f y && not (g y)) ∙ sym (all_rising n (λ y. not (f y && not (g y))))
-    ∙ all_same n (λ y. not (f y && not (g y))) (λ y. implies (f y) (g y)) (λ y _. within (f y) (g y))
+    ∙ all_same n (λ y. not (f y && not (g y))) (λ y. implies (f y) (g y)) (λ y _. not_and_not (f y) (g y))
 
 -- ---- one list member more
 pub joint_more : (v : List ℕ) (s i n : ℕ) (j : Joint) (m : ℕ → ℕ → Bool)

@@ -1,7 +1,8 @@
 -- What a write above the regions leaves alone, and the room that is left for a smaller concept. Assumes nothing.
 use Rattle.std.specs.Prelude.{◌≡◌, refl, Bool, true, false, List, ℕ, ◌+◌, ◌*◌, ◌<◌, ◌≤◌, ◌^◌, length, get_or, take}
-use Rattle.std.proofs.Common.{sym, ap, subst, ◌∙◌, arith, take-take}
+use Rattle.std.proofs.Common.{sym, ap, subst, ◌∙◌, arith}
 use Rattle.words.specs.Words.{words}
+use Rattle.words.specs.Laws.{words_long, frame_less}
 use Rattle.ir.specs.Pick.{pick}
 use Rattle.ir.specs.Scratch.{hands_at, limits_at}
 use Rattle.ir.specs.declared.counters.Counters.{Counters}
@@ -21,7 +22,7 @@ use Rattle.waiting.specs.Limits.{appended}
 use Rattle.waiting.specs.LimitLaws.{appended_below}
 use Rattle.leaves.specs.Classes.{Restricts}
 use Rattle.leaves.specs.Reading.{Reading}
-use Rattle.leaves.specs.StepLaws.{word_below, words_long}
+use Rattle.leaves.specs.StepLaws.{word_below}
 use Rattle.heads.specs.Emits.{room_of, Emitting}
 
 pub reading_alike : (s : List ℕ) (k k' : Counters) → Alike k k' → Reading s k → Reading s k'
@@ -42,9 +43,6 @@ waited_below w w' filler name p true e h = ap (take p) e ∙ appended_below w fi
 waited_below w w' filler name p false e h = ap (take p) e
 
 -- the frame below a place above
-pub frame_less : (m n : ℕ) (w w' : List ℕ) → m ≤ n → take n w' ≡ take n w → take m w' ≡ take m w
-frame_less m n w w' h e = sym (take-take m n w' h) ∙ ap (take m) e ∙ take-take m n w h
-
 module _ (s s' : List ℕ) (k : Counters) (top : ℕ) (R : Reading s k) (ab : hands_at ≤ 6 * top) (e : take (6 * top) (words s') ≡ take (6 * top) (words s)) where
   front : take pool_words (words s') ≡ take pool_words (words s)
   front = frame_less pool_words (6 * top) (words s) (words s') (omega arith) e

@@ -9,6 +9,7 @@ use native.Mathlib.Omega.{arith}
 use Rattle.std.proofs.Math.ListN.{length, take, get_or, length-append}
 use Rattle.std.proofs.Math.Seq.{sets}
 use Rattle.words.specs.Words.{words}
+use Rattle.words.specs.Laws.{words_long, frame_less}
 use Rattle.ir.specs.Records.{six}
 use Rattle.ir.specs.Scratch.{hands_at}
 use Rattle.ir.specs.declared.counters.Counters.{Counters}
@@ -33,8 +34,7 @@ use Rattle.tables.specs.Good.{Good, GoodAnswer, Alike, KeptAnswer}
 use Rattle.hands.specs.Hands.{InHand, Four, four, four_of, EnvHeld, Did}
 use Rattle.hands.specs.HandLaws.{put_frame, hand_kept, hand_more}
 use Rattle.leaves.specs.Made.{headed, shown_atom, GoodHeaded, KeptHeaded, DidAtom}
-use Rattle.leaves.specs.StepLaws.{words_long, alike_then, shown_alike, shown_atom_alike, kept_then, env_alike, env_kept, lent_kept, after_done, after_no, drawn_alike}
-use Rattle.heads.specs.FrameLaws.{frame_less}
+use Rattle.leaves.specs.StepLaws.{alike_then, shown_alike, shown_atom_alike, kept_then, env_alike, env_kept, lent_kept, after_done, after_no, drawn_alike}
 
 -- tables of the same sizes
 pub record SameSizes (x y : Four) : Type 0 where

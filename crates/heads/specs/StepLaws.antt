@@ -9,6 +9,7 @@ use Prim.{Unit, tt}
 use Prim.Native.Nat.{ℕ, zero, suc, ◌+◌, ◌*◌, ◌≤◌, ◌<◌}
 use Rattle.std.proofs.lemmas.List.Edits.{sets}
 use Rattle.words.specs.Words.{words}
+use Rattle.words.specs.Laws.{frame_less}
 use Rattle.ir.specs.Pick.{pick}
 use Rattle.ir.specs.Counts.{tick, visited, fresh_var, fresh_class}
 use Rattle.ir.specs.Records.{six, Fits}
@@ -46,7 +47,7 @@ use Rattle.leaves.specs.Reading.{form_of}
 use Rattle.leaves.specs.Made.{headed, shown_atom, DidAtom, DidAfter, MadeAfter}
 use Rattle.leaves.specs.StepLaws.{alike_same, alike_tick, alike_var, alike_class, shown_alike, shown_atom_alike, kept_then, headed_then, env_alike, env_kept, lent_kept, ticked, vared, classed, visits_are, limit_is, var_is_lem, class_is, drawn_classed, drawn_vared, drawn_ticked, hand_zero}
 use Rattle.heads.specs.Emits.{Emitting}
-use Rattle.heads.specs.FrameLaws.{frame_less, reading_alike, pool_alike}
+use Rattle.heads.specs.FrameLaws.{reading_alike, pool_alike}
 
 -- ---- the visit
 pub begun_by : (x : Bool) (k l : Counters) → pick x (Begun (tick k)) Full ≡ Begun l → (x ≡ true) × (l ≡ tick k)

@@ -12,10 +12,10 @@ use Rattle.rules.specs.Concept.{Concept}
 use Rattle.rules.specs.Concept.{Top, Bot, Atomic, Nominal, SelfRestriction, Not, And, Or, Some, All, Min, Max}
 use Rattle.rules.specs.Pool.{at, members, most_concepts, most_members}
 use Rattle.rules.specs.Axioms.{conjuncts}
+use Rattle.rules.specs.TextLaws.{by_test}
 use Rattle.pool.specs.Layout.{pool_bytes, members_at, tab, run, field, is_list, concept_from, concept_at, pool_of, plain}
 use Rattle.pool.specs.Held.{Held}
 use Rattle.pool.specs.Tabs.{tab_same, tab_each}
-use Rattle.pool.specs.Shapes.{by_test}
 use Rattle.pool.specs.HeldLaws.{pool_at, members_next, members_rise, record_kind, list_count, list_within, list_below, concept_is}
 
 -- how many concept c has, and the i-th of them

@@ -1,7 +1,8 @@
 -- A pool that has grown, with the rows of its antecedents filled again. Assumes nothing.
 use Rattle.std.specs.Prelude.{◌≡◌, refl, List, ℕ, ◌*◌, ◌<◌, ◌≤◌, length, get_or, take}
-use Rattle.std.proofs.Common.{sym, ap, subst, ◌∙◌, arith, take-take, get_or-take}
+use Rattle.std.proofs.Common.{sym, ap, subst, ◌∙◌, arith, take-take}
 use Rattle.words.specs.Words.{words}
+use Rattle.words.specs.Laws.{words_long, word_front}
 use Rattle.ir.specs.Scratch.{keys_at, alternatives_at, axioms_at, stack_at}
 use Rattle.ir.specs.declared.counters.Counters.{Counters}
 use Rattle.ir.specs.Answer.{Done}
@@ -19,7 +20,6 @@ use Rattle.normalize.specs.StateLaws.{grown_count}
 use Rattle.tables.specs.Good.{Good, Alike}
 use Rattle.waiting.specs.Limits.{Behind}
 use Rattle.leaves.specs.Reading.{Reading}
-use Rattle.leaves.specs.StepLaws.{words_long}
 use Rattle.antecedents.specs.Table.{Numbered, Outside}
 use Rattle.antecedents.specs.TableLaws.{numbered_kept, outside_pool}
 use Rattle.axioms.specs.Bodies.{Encoding}
@@ -29,9 +29,6 @@ use Rattle.inclusions.specs.Parted.{Normalised}
 use Rattle.axioms.specs.OnwardLaws.{roles_untouched, untouched_then, untouched_kept, onward_then}
 
 -- ---- scratch below n is as it was
-word_front : (n : ℕ) (w w' : List ℕ) → take n w' ≡ take n w → (j : ℕ) → j < n → get_or w' j 0 ≡ get_or w j 0
-word_front n w w' e j h = sym (get_or-take n w' j 0 h) ∙ ap (λ (l : List ℕ). get_or l j 0) e ∙ get_or-take n w j 0 h
-
 module _ (s s' : List ℕ) (k : Counters) (n : ℕ) (R : Reading s k) (at : pool_words ≤ n) (e : take n (words s') ≡ take n (words s)) where
   front : take pool_words (words s') ≡ take pool_words (words s)
   front = sym (take-take pool_words n (words s') at) ∙ ap (take pool_words) e ∙ take-take pool_words n (words s) at

@@ -8,6 +8,7 @@ use Prim.{tt}
 use native.Mathlib.Omega.{arith}
 use Rattle.std.proofs.lemmas.List.{take-set-le}
 use Rattle.words.specs.Words.{words}
+use Rattle.words.specs.Laws.{words_long, frame_less}
 use Rattle.ir.specs.Counts.{vars_restarted}
 use Rattle.ir.specs.Scratch.{stack_at, limits_at}
 use Rattle.ir.specs.declared.counters.Counters.{Counters}
@@ -22,19 +23,18 @@ use Rattle.rules.specs.State.{Env, Out, E, restarted, restart_vars}
 use Rattle.rules.specs.Antecedents.{Alternatives, encode_by}
 use Rattle.rules.specs.Axioms as Rules
 use Rattle.rules.specs.Axioms.{conjuncts, sorted, partition}
+use Rattle.rules.specs.TextLaws.{by_test}
 use Rattle.pool.specs.Layout.{pool_words, tab, run, field, pool_of}
 use Rattle.pool.specs.Held.{Held, Ready}
 use Rattle.pool.specs.Tabs.{tab_next, tab_end, tab_same}
-use Rattle.pool.specs.Shapes.{by_test}
 use Rattle.pool.specs.HeldLaws.{pool_kept, held_kept}
 use Rattle.normalize.specs.KeptLaws.{run_next}
 use Rattle.tables.specs.Good.{Good, Alike}
 use Rattle.waiting.specs.Limits.{Behind}
 use Rattle.waiting.specs.LimitLaws.{behind_same, behind_then}
-use Rattle.leaves.specs.StepLaws.{words_long, alike_same, alike_then}
+use Rattle.leaves.specs.StepLaws.{alike_same, alike_then}
 use Rattle.antecedents.specs.States.{Counted, varied, summary}
 use Rattle.antecedents.specs.Counts.{GoodEncoded}
-use Rattle.heads.specs.FrameLaws.{frame_less}
 use Rattle.axioms.specs.RoleLaws.{alike_restart}
 use Rattle.axioms.specs.QuietLaws.{Quiet, encode_quiet}
 use Rattle.axioms.specs.MemberLaws.{AlikeEncoded, encoded_alike}

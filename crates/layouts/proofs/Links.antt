@@ -1,4 +1,5 @@
 -- Sets of a line's elements, and rows with one pair more. Assumes nothing.
+use Rattle.std.proofs.Math.Bool.{or_comm}
 use mathlib.Core.Path.{◌≡◌, refl, sym, ap, ◌∙◌}
 use mathlib.Core.Bool.{Bool, true, false, ◌&&◌, ◌||◌}
 use mathlib.Core.List.{List, [], ◌∷◌}
@@ -25,12 +26,6 @@ use Rattle.sets.specs.Laid.{row_of}
 use Rattle.layouts.specs.Drawn.{room_put, Linked, RowsAs, with_pair, with_pairs}
 use Rattle.layouts.proofs.NumberLaws.{past}
 
-or_turned : (a b : Bool) → a || b ≡ b || a
-or_turned true true = refl
-or_turned true false = refl
-or_turned false true = refl
-or_turned false false = refl
-
 -- ---- a line's elements
 pub element_below : (l : List ℕ) (b k : ℕ) → all (λ e. ltb e b) l ≡ true → k < length l → get_or l k 0 < b
 element_below [] b k h q = absurd (omega arith)
@@ -49,7 +44,7 @@ pub set_none : (n : ℕ) (l : List ℕ) (k : ℕ) → length l ≤ k → 0 ≡ m
 set_none n l k h = rw (past l k h) (sym (mask_empty n))
 
 pub set_more : (n : ℕ) (l : List ℕ) (k x r : ℕ) → k < length l → x ≡ get_or l k 0 → r ≡ mask_of n (λ y. contains (drop (k + 1) l) y || eqb y x) → r ≡ mask_of n (contains (drop k l))
-set_more n l k x r h e q = q ∙ mask_same n (λ y. contains (drop (k + 1) l) y || eqb y x) (contains (drop k l)) (λ y _. or_turned (contains (drop (k + 1) l) y) (eqb y x) ∙ ap (λ (u : List ℕ). contains u y) (sym (next l k x h e)))
+set_more n l k x r h e q = q ∙ mask_same n (λ y. contains (drop (k + 1) l) y || eqb y x) (contains (drop k l)) (λ y _. or_comm (contains (drop (k + 1) l) y) (eqb y x) ∙ ap (λ (u : List ℕ). contains u y) (sym (next l k x h e)))
 
 -- ---- a set put, where there is room
 length_put : (w : List ℕ) (c m : ℕ) → length (set_put w c m) ≡ length w
@@ -171,5 +166,5 @@ pairs_more n roles v f r a b l R = rows_same n roles v (with_pair (with_pairs f 
   where
     go : (u t p h : Bool) → (u || (t && h)) || (t && p) ≡ u || (t && (p || h))
     go true t p h = refl
-    go false true p h = or_turned h p
+    go false true p h = or_comm h p
     go false false p h = refl

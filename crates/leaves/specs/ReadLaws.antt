@@ -18,10 +18,10 @@ use Rattle.rules.specs.Deck.{most_individuals, most_roles}
 use Rattle.rules.specs.State.{Env, canon, class_id_of, is_dkey}
 use Rattle.rules.specs.Heads.{is_top}
 use Rattle.rules.specs.Invariants.{Bounds, Bounded}
+use Rattle.rules.specs.TextLaws.{by_test}
 use Rattle.pool.specs.declared.record.Record.{Record}
 use Rattle.pool.specs.Layout.{field, concept_from, concept_at, pool_of, plain, starts_at, members_at, run}
 use Rattle.pool.specs.HeldLaws.{pool_length, pool_at, record_kind, concept_is, kind_range}
-use Rattle.pool.specs.Shapes.{by_test}
 use Rattle.tables.specs.Good.{most_names}
 use Rattle.leaves.specs.declared.leaf.Leaf.TheVariants as LeafIs
 use Rattle.leaves.specs.declared.disjunct.Disjunct.TheVariants as DisjunctIs

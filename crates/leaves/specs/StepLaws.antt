@@ -8,8 +8,6 @@ use Rattle.std.proofs.Math.Option.{Option, some}
 use Prim.{tt}
 use Rattle.std.proofs.Math.ListN.{take}
 use Rattle.std.proofs.lemmas.List.Edits.{sets}
-use Rattle.words.specs.Words.{words}
-use Rattle.words.specs.Laws.{length_words}
 use Rattle.ir.specs.Counts.{tick, fresh_var, fresh_class}
 use Rattle.ir.specs.Options.{card_disjunct_atoms, equal_names}
 use Rattle.ir.specs.Records.{six}
@@ -103,9 +101,6 @@ env_kept env k w w' top h e E = record {
 }
 
 -- ---- tables of the same sizes
-pub words_long : (s s' : List ℕ) → length s' ≡ length s → length (words s') ≡ length (words s)
-words_long s s' e = length_words s' ∙ rw e (sym (length_words s))
-
 pub lent_kept : (rooms : Rooms) (c a d c' a' d' : List ℕ) → length c' ≡ length c → length a' ≡ length a → length d' ≡ length d → Lent rooms c a d → Lent rooms c' a' d'
 lent_kept rooms c a d c' a' d' x y z l = record { clauses = x ∙ l.clauses; atoms = y ∙ l.atoms; deferrals = z ∙ l.deferrals }
 

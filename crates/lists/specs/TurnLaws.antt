@@ -3,6 +3,7 @@ use Rattle.std.specs.Prelude.{◌≡◌, refl, List, ℕ, length}
 use Rattle.std.proofs.Common.{sym, ap, subst, ◌∙◌, arith}
 use Prim.{Unit, tt}
 use Rattle.words.specs.Words.{words}
+use Rattle.words.specs.Laws.{words_long}
 use Rattle.ir.specs.declared.counters.Counters.{Counters}
 use Rattle.ir.specs.Answer.{Answer}
 use Rattle.ir.specs.Answer.{Done, Refused}
@@ -13,12 +14,14 @@ use Rattle.rules.specs.Axioms.{Clausifier, C, in_out}
 use Rattle.pool.specs.Layout.{pool_of}
 use Rattle.pool.specs.Held.{Held}
 use Rattle.pool.specs.Answers.{sized}
+use Rattle.pool.proofs.Interning.{sized_same}
 use Rattle.tables.specs.Drawn.{tables, show, Sized}
+use Rattle.tables.specs.DrawnLaws.{show_same}
 use Rattle.hands.specs.Hands.{Four, four, EnvHeld, Did}
-use Rattle.leaves.specs.StepLaws.{words_long, lent_kept}
+use Rattle.leaves.specs.StepLaws.{lent_kept}
 use Rattle.axioms.specs.RoleAxioms.{hand_at}
 use Rattle.axioms.specs.Wholes.{Whole, whole, drawn, shown_whole, after_whole, standing, Clausifying, ClausifyingAfter, Untouched, Onward, Clausified}
-use Rattle.axioms.specs.WholeLaws.{Standing, show_same, drawn_same, sized_own, did_clausified, clausifying_after}
+use Rattle.axioms.specs.WholeLaws.{Standing, drawn_same, did_clausified, clausifying_after}
 use Rattle.axioms.specs.OnwardLaws.{env_untouched, untouched_same, untouched_then, onward_same, onward_then, onward_answer, shown_same}
 use Rattle.lists.specs.Turns.{SameLong, Answered, Passed, DidTurn, Turned}
 
@@ -54,7 +57,7 @@ own_state m rooms y z S = ap (λ (p : Pool). record { pool = p; out = z.out }) S
 pub standing_drawn : (k m : Counters) (rooms : Rooms) (y : Four) (z : Clausifier) → Held y.scratch m.concepts m.members → Onward k m → Standing m rooms y z
     → whole (pool_of y.scratch m.concepts) (tables m y.clauses y.atoms y.deferrals) ≡ drawn k rooms z
 standing_drawn k m rooms y z H O S =
-    let u : sized m z.pool ≡ m = ap (sized m) (sym S.pool) ∙ sized_own y.scratch m H in
+    let u : sized m z.pool ≡ m = ap (sized m) (sym S.pool) ∙ sized_same y.scratch m H in
     let d : drawn k rooms z ≡ drawn m rooms z = sym (drawn_same k m rooms O.nominals O.options z) in
     rw (d, u, S.pool, S.tables) refl
 

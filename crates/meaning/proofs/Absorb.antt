@@ -18,11 +18,12 @@ use Rattle.rules.specs.Antecedents.{Alternatives, encode_antecedent}
 use Rattle.rules.specs.Heads.{emit_head}
 use Rattle.rules.specs.Axioms.{Clausifier, C, visited_to, back_nnf, in_nnf, back_out, in_out, conjuncts, Parts, emit_bodies, sorted, partition, soft_and, bodies_or_defer, absorb_parts, absorb_hard_antecedent, gci_with, clausify_gci}
 use Rattle.rules.specs.Post.{Post, gives, give, refuses, post_then, post_map, post_every}
-use Rattle.rules.specs.Invariants.{Each, Bounds, Bounded, Wf, Grown}
+use Rattle.rules.specs.Invariants.{Each, Bounds, Wf, Grown}
 use Rattle.rules.specs.PoolLaws.{grown_refl, grown_trans, grown_length, below_more}
 use Rattle.rules.specs.Semantics.{Interpretation, with_classes, concept_means, means, implies}
 use Rattle.rules.specs.EachLaws.{each_append}
-use Rattle.meaning.specs.Truth.{or_none, and_unit, all_append, any_append}
+use Rattle.rules.proofs.AxiomLaws.{conjuncts_in}
+use Rattle.meaning.specs.Truth.{or_none, and_unit, all_append, any_append, implies_both, or_nots}
 use Rattle.meaning.specs.Valuations.{Valuation}
 use Rattle.meaning.specs.Adds.{Nothing, Setting}
 use Rattle.meaning.proofs.Antecedents.{Quiet, quiet_trans, Coded, coded_reads, encode_means}
@@ -65,15 +66,6 @@ out_last {A} {P} {Q} z f h g = go h
     go (gives {a = a} {s = s} p) = give (g a s p)
     go refuses = refuses
 
--- ---- truth
-curry : (a b c : Bool) → implies a (implies b c) ≡ implies (a && b) c
-curry true b c = refl
-curry false b c = refl
-
-not_both_lem : (a b : Bool) → not a || not b ≡ not (a && b)
-not_both_lem true b = refl
-not_both_lem false b = refl
-
 -- all of the ids
 abbrev alls : Interpretation → Pool → List ℕ → ℕ → Bool
 alls J p l x = all (λ c. means J p c x) l
@@ -97,20 +89,6 @@ parts_same J p c x (All _ _) q = and_unit (means J p c x)
 parts_same J p c x (Min _ _ _) q = and_unit (means J p c x)
 parts_same J p c x (Max _ _ _) q = and_unit (means J p c x)
 
-pub parts_below : (B : Bounds) (n c : ℕ) → c < n → (e : Concept) → Bounded B c e → Each (λ d. d < n) (conjuncts c e)
-parts_below B n c h Top b = (h, tt)
-parts_below B n c h Bot b = (h, tt)
-parts_below B n c h (Atomic _) b = (h, tt)
-parts_below B n c h (Nominal _) b = (h, tt)
-parts_below B n c h (SelfRestriction _) b = (h, tt)
-parts_below B n c h (Not _) b = (h, tt)
-parts_below B n c h (And l) b = below_more (omega arith) l b
-parts_below B n c h (Or _) b = (h, tt)
-parts_below B n c h (Some _ _) b = (h, tt)
-parts_below B n c h (All _ _) b = (h, tt)
-parts_below B n c h (Min _ _ _) b = (h, tt)
-parts_below B n c h (Max _ _ _) b = (h, tt)
-
 -- ---- the negations of a list
 pub record Negated (B : Bounds) (J : Interpretation) (s : St) (l ks : List ℕ) (t : St) : Type 0 where
   pub grows : Grown s.pool t.pool
@@ -130,7 +108,7 @@ each_negated B J (c ∷ l) s w h =
       held = (le_trans N.made.held (grown_length D.grows), D.held);
       says = λ x.
           ap₂ ◌||◌ (ap (λ z. z x) (means_grown J D.grows k N.made.held ∙ N.meaning)) (D.says x ∙ ap not (alls_grown J N.made.grows x l h.1))
-          ∙ not_both_lem (means J s.pool c x) (alls J s.pool l x);
+          ∙ or_nots (means J s.pool c x) (alls J s.pool l x);
     })))
 
 -- ---- what a rule over both states does to the pool
@@ -263,7 +241,7 @@ module _ (I : Interpretation) (B : Bounds) (env : Env) (base : ℕ) (S : Setting
         ∙ any_append (λ c. means J t.pool c x) ns (sup ∷ [])
         ∙ ap₂ ◌||◌ ((M J).says x) (or_none (means J t.pool sup x) ∙ ap (λ z. z x) (means_grown J (M J).grows sup ksup)) in
         let is : (J : Interpretation) (x : ℕ) → implies (means J r g x) (means J r h x) ≡ implies (means J p sub x) (means J p sup x) =
-        λ J x. ap₂ implies (soft_is J x) (head_is_lem J x) ∙ curry (alls J p (a ∷ soft) x) (alls J p hard x) (means J p sup x) ∙ ap (λ z. implies z (means J p sup x)) (same J x) in
+        λ J x. ap₂ implies (soft_is J x) (head_is_lem J x) ∙ implies_both (alls J p (a ∷ soft) x) (alls J p hard x) (means J p sup x) ∙ ap (λ z. implies z (means J p sup x)) (same J x) in
         record {
           moved = record { grows = grown_trans g₁ (O I).made.grows; wf = (O I).made.wf };
           added = quiet_added I B env base S r (O I).made.wf (record { clauses = refl; deferrals = refl; fresh = refl; limits = refl; line = refl }) (added_map I B env base S r (O I).made.wf
@@ -277,7 +255,7 @@ module _ (I : Interpretation) (B : Bounds) (env : Env) (base : ℕ) (S : Setting
     unfolding absorb_hard_antecedent
     absorb_means s b =
         out_then (record { pool = p; out = s }) (λ pool. partition env pool (conjuncts sub (at pool sub)) [] []) _
-        (partition_parts p w (conjuncts sub (at p sub)) [] [] s (parts_below B (length p) sub ksub (at p sub) (w sub ksub)) tt tt) (λ ps s₁ Z.
+        (partition_parts p w (conjuncts sub (at p sub)) [] [] s (conjuncts_in B (length p) sub ksub (at p sub) (w sub ksub)) tt tt) (λ ps s₁ Z.
         post_map (go s₁ ps.soft ps.hard (le_trans b (omega (arith, Z.quiet.fresh))) Z.soft_in Z.hard_in
         (λ J x. Z.same J x ∙ parts_same J p sub x (at p sub) (means_at J B p w sub ksub)))
         (λ _ t D. record { moved = record { grows = D.moved.grows; wf = D.moved.wf }; added = quiet_added I B env base S t.pool D.moved.wf Z.quiet D.added }))

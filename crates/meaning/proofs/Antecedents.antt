@@ -1,17 +1,16 @@
 -- Antecedents: where encode_antecedent answers, an alternative holds exactly where the concept does; and it only reads. Assumes
 -- nothing.
-use Rattle.std.specs.Prelude.{◌≡◌, Bool, false, ◌&&◌, length, leb, ltb, eqb}
+use Rattle.std.specs.Prelude.{◌≡◌, Bool, false, ◌&&◌, length, leb, ltb}
 use Rattle.std.proofs.Math.Path.{refl, sym, ap, ap₂}
-use Rattle.std.proofs.Common.{◌∙◌, not-suc-le-zero, le_refl, arith, eq-eqb, ne_eqb}
-use Rattle.std.proofs.Math.Bool.{true, ◌||◌}
-use Rattle.std.proofs.lemmas.Bool.{false≢true}
+use Rattle.std.proofs.Common.{◌∙◌, not-suc-le-zero, le_refl, arith}
+use Rattle.std.proofs.Math.Bool.{true, ◌||◌, and-false, and-or_distrib_left, and-or_distrib_right, and_assoc, or_assoc}
+use Rattle.std.proofs.lemmas.Bool.{false≢true, or_left, or_right}
 use mathlib.Core.List.{List, [], ◌∷◌, ◌++◌, map}
 use Rattle.std.proofs.Math.Option.{Option, none, some}
 use Prim.Native.Nat.{ℕ, zero, suc, ◌+◌, ◌≤◌, ◌<◌}
-use Rattle.ir.specs.Pick.{pick}
 use Rattle.ir.specs.declared.role.Role.{Role}
 use Rattle.ir.specs.declared.atom.Atom.{Atom}
-use Rattle.ir.specs.declared.atom.Atom.TheVariants.{Class, Exists, AtMost, AtLeast, Equal, Role as RoleAtom}
+use Rattle.ir.specs.declared.atom.Atom.TheVariants.{Class, Role as RoleAtom}
 use Rattle.rules.specs.Base.{ok, then, all, any}
 use Rattle.rules.specs.Concept.{Concept}
 use Rattle.rules.specs.Concept.{Top, Bot, Atomic, Nominal, SelfRestriction, Not, And, Or, Some, All, Min, Max}
@@ -21,14 +20,16 @@ use Rattle.rules.specs.Antecedents.{Alternatives, cross, in_hand, within, antece
 use Rattle.rules.specs.Post.{Post, give, refuses, post_then, post_map}
 use Rattle.rules.specs.Invariants.{Each, Bounds, Bounded, Wf}
 use Rattle.rules.specs.PoolLaws.{bounded_more}
-use Rattle.rules.specs.Semantics.{Interpretation, with_classes, elements, related, qualifies, count, concept_means, means, atom_holds, chosen}
+use Rattle.rules.specs.Semantics.{Interpretation, with_classes, related, concept_means, means, atom_holds, chosen}
 use Rattle.rules.specs.EachLaws.{each_append}
-use Rattle.meaning.specs.Truth.{or_none, or_unit, and_unit, and_left, and_right, and_both, all_append, any_append, any_at, any_find}
+use Rattle.rules.proofs.AntecedentLaws.{each_one, each_cross}
+use Rattle.meaning.specs.Truth.{or_none, and_unit, and_left, and_right, and_both, all_append, any_append, any_at, any_find}
 use Rattle.meaning.proofs.Finite.{means_at}
 use Rattle.meaning.specs.Choices.{Choice}
 use Rattle.meaning.specs.Valuations.{Valuation, AtomUnder, each_of_lem}
 use Rattle.meaning.specs.Tracks.{Still}
 use Rattle.meaning.specs.Adds.{VarsUnder, Setting, Alone}
+use Rattle.meaning.specs.Steps.{body_agree, chosen_at, chosen_below, chosen_choice, vars_under_more}
 
 -- ---- what only reads: no clause, no deferral, no fresh class
 pub record Quiet (s t : Out) : Type 0 where
@@ -63,84 +64,19 @@ visit_reads s = go (ltb s.visits s.limit)
     go true = give (record { quiet = record { clauses = refl; deferrals = refl; fresh = refl; limits = refl; line = refl }; var = le_refl s.next_var })
     go false = refuses
 
--- ---- variables below n
-pub vars_more : {m n : ℕ} → m ≤ n → (a : Atom) → VarsUnder m a → VarsUnder n a
-vars_more h (Class c v) u = omega arith
-vars_more h (RoleAtom r x v) u = (omega arith, omega arith)
-vars_more h (Exists r c v) u = omega arith
-vars_more h (AtMost r q k v) u = omega arith
-vars_more h (AtLeast r q k v) u = omega arith
-vars_more h (Equal x v) u = (omega arith, omega arith)
-
--- choices that agree on them
-module _ (I : Interpretation) (n : ℕ) (f g : ℕ → ℕ) (h : (v : ℕ) → v < n → f v ≡ g v) where
-  holds_choice : (a : Atom) → VarsUnder n a → atom_holds I f a ≡ atom_holds I g a
-  holds_choice (Class c v) u = ap (I.class c) (h v u)
-  holds_choice (RoleAtom r x v) u = ap₂ (related I r) (h x u.0) (h v u.1)
-  holds_choice (Exists r c v) u = ap (λ z. any (λ y. related I r z y && I.class c y) (elements I)) (h v u)
-  holds_choice (AtMost r q k v) u = ap (λ z. leb (count (λ y. related I r z y && qualifies I q y) (elements I)) k) (h v u)
-  holds_choice (AtLeast r q k v) u = ap (λ z. leb k (count (λ y. related I r z y && qualifies I q y) (elements I))) (h v u)
-  holds_choice (Equal x v) u = ap₂ eqb (h x u.0) (h v u.1)
-
-  all_choice : (b : List Atom) → Each (VarsUnder n) b → all (atom_holds I f) b ≡ all (atom_holds I g) b
-  all_choice [] u = refl
-  all_choice (a ∷ b) u = ap₂ ◌&&◌ (holds_choice a u.0) (all_choice b u.1)
-
--- a choice with one variable changed
-chosen_at : (f : ℕ → ℕ) (v z : ℕ) → chosen f v z v ≡ z
-chosen_at f v z = ap (λ b. pick b z (f v)) (eq-eqb v v refl)
-
-chosen_other : (f : ℕ → ℕ) (v z u : ℕ) → u < v → f u ≡ chosen f v z u
-chosen_other f v z u h = sym (ap (λ b. pick b z (f u)) (ne_eqb u v (λ e. omega arith)))
-
-chosen_choice : (I : Interpretation) (f : ℕ → ℕ) (v z : ℕ) → Choice I f → z < I.size → Choice I (chosen f v z)
-chosen_choice I f v z c h u = go (eqb u v)
-  where
-    go : (b : Bool) → pick b z (f u) < I.size
-    go true = h
-    go false = c u
-
 -- ---- alternatives
-pub and_none : (a : Bool) → a && false ≡ false
-and_none true = refl
-and_none false = refl
-
-and_or : (p q r : Bool) → (p && q) || (p && r) ≡ p && (q || r)
-and_or true q r = refl
-and_or false q r = refl
-
-or_and : (p q k : Bool) → (p && k) || (q && k) ≡ (p || q) && k
-or_and true true true = refl
-or_and true true false = refl
-or_and true false k = or_none k
-or_and false q k = refl
-
-and_assoc : (a b c : Bool) → (a && b) && c ≡ a && (b && c)
-and_assoc true b c = refl
-and_assoc false b c = refl
-
-pub or_assoc : (a b c : Bool) → (a || b) || c ≡ a || (b || c)
-or_assoc true b c = refl
-or_assoc false b c = refl
-
-pub or_left : (a b : Bool) → a ≡ true → a || b ≡ true
-or_left a b h = rw h
-
-pub or_right : (a b : Bool) → b ≡ true → a || b ≡ true
-or_right a b h = rw h (or_unit a)
-
 -- one of them holds
 abbrev pub some_holds : Interpretation → (ℕ → ℕ) → Alternatives → Bool
 some_holds I f l = any (λ b. all (atom_holds I f) b) l
 
 module _ (I : Interpretation) (f : ℕ → ℕ) where
   before_holds : (a : List Atom) (k : Alternatives) → some_holds I f (map (λ b. a ++ b) k) ≡ all (atom_holds I f) a && some_holds I f k
-  before_holds a [] = sym (and_none (all (atom_holds I f) a))
-  before_holds a (b ∷ k) = ap₂ ◌||◌ (all_append (atom_holds I f) a b) (before_holds a k) ∙ and_or (all (atom_holds I f) a) (all (atom_holds I f) b) (some_holds I f k)
+  before_holds a [] = sym (and-false (all (atom_holds I f) a))
+  before_holds a (b ∷ k) = ap₂ ◌||◌ (all_append (atom_holds I f) a b) (before_holds a k) ∙ sym (and-or_distrib_left (all (atom_holds I f) a) (all (atom_holds I f) b) (some_holds I f k))
 
   one_holds : (a : Atom) (k : Alternatives) → some_holds I f (map (λ b. a ∷ b) k) ≡ atom_holds I f a && some_holds I f k
-  one_holds a [] = sym (and_none (atom_holds I f a))
-  one_holds a (b ∷ k) = ap (λ z. (atom_holds I f a && all (atom_holds I f) b) || z) (one_holds a k) ∙ and_or (atom_holds I f a) (all (atom_holds I f) b) (some_holds I f k)
+  one_holds a [] = sym (and-false (atom_holds I f a))
+  one_holds a (b ∷ k) = ap (λ z. (atom_holds I f a && all (atom_holds I f) b) || z) (one_holds a k) ∙ sym (and-or_distrib_left (atom_holds I f a) (all (atom_holds I f) b) (some_holds I f k))
 
   cross_holds : (l k : Alternatives) → some_holds I f (cross l k) ≡ some_holds I f l && some_holds I f k
   unfolding cross
@@ -148,26 +84,13 @@ module _ (I : Interpretation) (f : ℕ → ℕ) where
   cross_holds (a ∷ l) k =
       any_append (λ b. all (atom_holds I f) b) (map (λ b. a ++ b) k) (cross l k)
       ∙ ap₂ ◌||◌ (before_holds a k) (cross_holds l k)
-      ∙ or_and (all (atom_holds I f) a) (some_holds I f l) (some_holds I f k)
+      ∙ sym (and-or_distrib_right (all (atom_holds I f) a) (some_holds I f l) (some_holds I f k))
 
 some_choice_lem : (I : Interpretation) (n : ℕ) (f g : ℕ → ℕ) → ((v : ℕ) → v < n → f v ≡ g v) → (l : Alternatives) → Each (Each (VarsUnder n)) l → some_holds I f l ≡ some_holds I g l
 some_choice_lem I n f g h [] u = refl
-some_choice_lem I n f g h (b ∷ l) u = ap₂ ◌||◌ (all_choice I n f g h b u.0) (some_choice_lem I n f g h l u.1)
+some_choice_lem I n f g h (b ∷ l) u = ap₂ ◌||◌ (body_agree I n f g h b u.0) (some_choice_lem I n f g h l u.1)
 
 -- P of every atom of every alternative
-each_before : (P : Atom → Type 0) (a : List Atom) (k : Alternatives) → Each P a → Each (Each P) k → Each (Each P) (map (λ b. a ++ b) k)
-each_before P a [] u w = tt
-each_before P a (b ∷ k) u w = (each_append P a b u w.0, each_before P a k u w.1)
-
-each_one : (P : Atom → Type 0) (a : Atom) (k : Alternatives) → P a → Each (Each P) k → Each (Each P) (map (λ b. a ∷ b) k)
-each_one P a [] u w = tt
-each_one P a (b ∷ k) u w = ((u, w.0), each_one P a k u w.1)
-
-each_cross : (P : Atom → Type 0) (l k : Alternatives) → Each (Each P) l → Each (Each P) k → Each (Each P) (cross l k)
-unfolding cross
-each_cross P [] k u w = tt
-each_cross P (a ∷ l) k u w = each_append (Each P) (map (λ b. a ++ b) k) (cross l k) (each_before P a k u.0 w) (each_cross P l k u.1 w)
-
 pub each_deep : {P Q : Atom → Type 0} → ((a : Atom) → P a → Q a) → (l : Alternatives) → Each (Each P) l → Each (Each Q) l
 each_deep h l u = each_of_lem (λ b. each_of_lem h b) l u
 
@@ -194,7 +117,7 @@ module _ (I : Interpretation) (B : Bounds) (env : Env) (base : ℕ) (S : Setting
   cross_coded {s} {s₁} {s₂} f g v l k h A D = record {
     reads = reads_trans A.reads D.reads;
     under = each_cross (AtomUnder base) l k A.under D.under;
-    vars = each_cross (VarsUnder s₂.next_var) l k (each_deep (vars_more D.reads.var) l A.vars) D.vars;
+    vars = each_cross (VarsUnder s₂.next_var) l k (each_deep (vars_under_more D.reads.var) l A.vars) D.vars;
     sound = λ m n i c e.
         let e' = sym (cross_holds (with_classes I m) i l k) ∙ e in
         and_both (A.sound m n i c (and_left (some_holds (with_classes I m) i l) (some_holds (with_classes I m) i k) e'))
@@ -214,7 +137,7 @@ module _ (I : Interpretation) (B : Bounds) (env : Env) (base : ℕ) (S : Setting
   either_coded {s} {s₁} {s₂} f g v l k A D = record {
     reads = reads_trans A.reads D.reads;
     under = each_append (Each (AtomUnder base)) l k A.under D.under;
-    vars = each_append (Each (VarsUnder s₂.next_var)) l k (each_deep (vars_more D.reads.var) l A.vars) D.vars;
+    vars = each_append (Each (VarsUnder s₂.next_var)) l k (each_deep (vars_under_more D.reads.var) l A.vars) D.vars;
     sound = λ m n i c e. split m n i c (some_holds (with_classes I m) i l) refl (sym (any_append (λ b. all (atom_holds (with_classes I m) i) b) l k) ∙ e);
     full = λ m n i c e. choose m n i c (f m (i v)) refl e;
   }
@@ -312,7 +235,7 @@ module _ (I : Interpretation) (B : Bounds) (env : Env) (base : ℕ) (S : Setting
           let j = chosen i s.next_var z.0 in
           let here : j s.next_var ≡ z.0 = chosen_at i s.next_var z.0 in
           let p = A.full m n j (chosen_choice I i s.next_var z.0 c z.1) (ap (meant m d) here ∙ and_right (related I r (i v) z.0) (meant m d z.0) z.2) in
-          let old : (u : ℕ) → u < s.next_var → i u ≡ p.0 u = λ u l. chosen_other i s.next_var z.0 u l ∙ p.2 u (omega arith) in
+          let old : (u : ℕ) → u < s.next_var → i u ≡ p.0 u = λ u l. chosen_below i s.next_var z.0 u l ∙ p.2 u (omega arith) in
           let new : p.0 s.next_var ≡ z.0 = sym (p.2 s.next_var (omega arith)) ∙ here in
           let edge : related I (canon env r) (p.0 v) (p.0 s.next_var) ≡ true =
           ap₂ (related I (canon env r)) (sym (old v h)) new ∙ S.keeps r (i v) z.0 (c v) z.1 ∙ and_left (related I r (i v) z.0) (meant m d z.0) z.2 in

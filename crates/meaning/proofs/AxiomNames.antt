@@ -3,11 +3,12 @@
 use Rattle.std.specs.Prelude.{◌≡◌, Bool, false, eqb}
 use Rattle.std.proofs.Math.Path.{refl, sym, ap, subst}
 use Rattle.std.proofs.Common.{◌∙◌, arith, length-append, eq-eqb}
-use Rattle.std.proofs.lemmas.Bool.{false≢true}
+use Rattle.std.proofs.lemmas.Bool.{false≢true, or_parts}
 use mathlib.Core.List.{List, [], ◌∷◌, ◌++◌, append-nil, append_assoc, Memᴰ}
 use Rattle.std.proofs.Math.Option.{Option, none, some}
 use Prim.Native.Nat.{ℕ, zero, suc, ◌+◌, ◌≤◌, ◌<◌}
 use Rattle.std.proofs.Math.ListN.{length}
+use Rattle.std.proofs.lemmas.List.{nil_from_length}
 use Rattle.ir.specs.declared.atom.Atom.TheVariants.{Class}
 use Rattle.rules.specs.Base.{Res, ok, then, any}
 use Rattle.rules.specs.Concept.{Axiom}
@@ -23,7 +24,6 @@ use Rattle.rules.specs.PoolLaws.{grown_trans, grown_length, post_both}
 use Rattle.rules.proofs.NormalizeLaws.{axiom_more}
 use Rattle.rules.specs.EachLaws.{each_map, each_both, each_append, each_left, each_right}
 use Rattle.rules.specs.LimitLaws.{wf_up}
-use Rattle.rules.specs.DeckLaws.{or_false}
 use Rattle.rules.specs.EqualNames.{Call, called, go_on, leaving, next_calls, settle_calls, whole_calls, axioms_calls, NameBelow, keyless, Halves, Settle, nothing, settles, Settles}
 use Rattle.rules.specs.Semantics.{Interpretation}
 use Rattle.meaning.specs.Truth.{any_append}
@@ -34,14 +34,10 @@ use Rattle.meaning.proofs.EqualNames.{some_is, none_some, append_cancel}
 use Rattle.meaning.proofs.Settle.{Held, Puts, other_half_means, holds_after}
 
 -- ---- small laws
-empty_of : {A : Type 0} (l : List A) → length l ≡ 0 → l ≡ []
-empty_of [] e = refl
-empty_of (a ∷ l) e = absurd (omega (arith, e))
-
 -- records with line n, none of which has it
 no_line : (n : ℕ) (l : List Deferred) → Each (λ d. d.line ≡ n) l → any (λ e. eqb e.line n) l ≡ false → l ≡ []
 no_line n [] q f = refl
-no_line n (d ∷ l) q f = absurd (false≢true (sym (or_false (eqb d.line n) (any (λ e. eqb e.line n) l) f).0 ∙ eq-eqb d.line n q.0))
+no_line n (d ∷ l) q f = absurd (false≢true (sym (or_parts (eqb d.line n) (any (λ e. eqb e.line n) l) f).0 ∙ eq-eqb d.line n q.0))
 
 -- without keys an environment is keyless
 keyless_is : (env : Env) → env.dkey_classes ≡ [] → env ≡ keyless env
@@ -101,7 +97,7 @@ module _ (env : Env) (calls : List Call) where
 
 -- both are empty
 both_empty : {A : Type 0} (k l : List A) → k ++ l ≡ [] → (k ≡ []) × (l ≡ [])
-both_empty k l e = let n = sym (length-append k l) ∙ ap length e in (empty_of k (omega (arith, n)), empty_of l (omega (arith, n)))
+both_empty k l e = let n = sym (length-append k l) ∙ ap length e in (nil_from_length k (omega (arith, n)), nil_from_length l (omega (arith, n)))
 
 module _ (env : Env) (calls : List Call) where
   -- its turn comes
@@ -237,8 +233,8 @@ module _ (env : Env) (calls : List Call) where
             let all : last ≡ z.out.deferrals ++ (X.deferred ++ (Y.deferred ++ late)) = e ∙ ap (λ k. k ++ late) (Y.deferrals ∙ ap (λ k. k ++ Y.deferred) X.deferrals) ∙ append_assoc (z.out.deferrals ++ X.deferred) Y.deferred late
             ∙ append_assoc z.out.deferrals X.deferred (Y.deferred ++ late) in
             let on : Deferred → Bool = λ d. eqb d.line n in
-            let g = or_false (any on z.out.deferrals) (any on (X.deferred ++ (Y.deferred ++ late))) (sym (any_append on z.out.deferrals (X.deferred ++ (Y.deferred ++ late))) ∙ ap (any on) (sym all) ∙ f) in
-            no_line n X.deferred q (or_false (any on X.deferred) (any on (Y.deferred ++ late)) (sym (any_append on X.deferred (Y.deferred ++ late)) ∙ g.1)).0
+            let g = or_parts (any on z.out.deferrals) (any on (X.deferred ++ (Y.deferred ++ late))) (sym (any_append on z.out.deferrals (X.deferred ++ (Y.deferred ++ late))) ∙ ap (any on) (sym all) ∙ f) in
+            no_line n X.deferred q (or_parts (any on X.deferred) (any on (Y.deferred ++ late)) (sym (any_append on X.deferred (Y.deferred ++ late)) ∙ g.1)).0
 
         free_calls : (last : List Deferred) (l : List Call) → Each (λ c. c.before.out.line ≡ line) l → (X.deferred ≡ [] → Each (SettledCall env calls) l)
             → ((c : Call) → c.before.out.line ≡ line → FreeAt last c → X.deferred ≡ []) → Each (λ c. FreeAt last c → SettledCall env calls c) l

@@ -3,8 +3,8 @@
 use Rattle.std.specs.Prelude.{◌≡◌, refl, Bool, not, ◌&&◌, ◌||◌, ℕ, suc, ◌≤◌, ◌<◌, length, ltb}
 use Rattle.std.proofs.Math.Path.{sym, ap}
 use Rattle.std.proofs.Common.{ap₂, ◌∙◌, subst, le_refl, arith}
-use Rattle.std.proofs.Math.Bool.{true, false}
-use Rattle.std.proofs.lemmas.Bool.{false≢true}
+use Rattle.std.proofs.Math.Bool.{true, false, and-false, or_assoc}
+use Rattle.std.proofs.lemmas.Bool.{false≢true, or_left, or_right}
 use mathlib.Core.List.{List, [], ◌∷◌, ◌++◌, map}
 use Rattle.std.proofs.Math.Option.{Option, none, some}
 use Rattle.ir.specs.declared.atom.Atom.{Atom}
@@ -29,7 +29,7 @@ use Rattle.meaning.proofs.Finite.{means_at}
 use Rattle.meaning.specs.Choices.{Choice, Follows}
 use Rattle.meaning.specs.Valuations.{Valuation, AtomUnder}
 use Rattle.meaning.specs.Adds.{Setting, Alone, means_agree, Nothing}
-use Rattle.meaning.proofs.Antecedents.{Quiet, quiet_trans, and_none, or_left, or_right, or_assoc, some_holds, Encoded, Coded, cross_coded, encode_means}
+use Rattle.meaning.proofs.Antecedents.{Quiet, quiet_trans, some_holds, Encoded, Coded, cross_coded, encode_means}
 use Rattle.meaning.proofs.Added.{Stable, each_stable, Added, added_none, added_map, added_then, quiet_added, push_added, defer_added, follows_stable, each_does}
 use Rattle.meaning.proofs.Inclusions.{restart_quiet}
 use Rattle.meaning.specs.Pairs.{any_gives, every_each, each_every, later_each}
@@ -154,7 +154,7 @@ module _ (I : Interpretation) (B : Bounds) (env : Env) (base : ℕ) (S : Setting
 
       second : (l : Alternatives) (s₁ : Out) → Encoded I B env base S (restarted s) (λ v. meant v q.0) 0 l s₁ → (o : Option Alternatives) (s₂ : Out)
           → Coded I B env base S s₁ (λ v. meant v q.1) 0 o s₂ → is_some o ≡ coded q.1 → Post (λ _ t. Step s (Apart q) G t) (pair_with env other (some l) o s₂)
-      second l s₁ A none s₂ D e = after s₂ (quiet_trans (restart_quiet s) (quiet_trans A.reads.quiet D.quiet)) (ap (λ z. coded q.0 && z) (sym e) ∙ and_none (coded q.0))
+      second l s₁ A none s₂ D e = after s₂ (quiet_trans (restart_quiet s) (quiet_trans A.reads.quiet D.quiet)) (ap (λ z. coded q.0 && z) (sym e) ∙ and-false (coded q.0))
       second l s₁ A (some k) s₂ D e = post_map (both_added q s s₁ s₂ l k b A D) (λ _ t Z. added_map I B env base S p w (λ v m i. i) (λ v m i. gives v i) Z)
 
       first_none : (s₁ : Out) → Quiet s s₁ → is_some {A = Alternatives} none ≡ coded q.0 → (o : Option Alternatives) (s₂ : Out) → Coded I B env base S s₁ (λ v. meant v q.1) 0 o s₂

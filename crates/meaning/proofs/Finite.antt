@@ -26,7 +26,7 @@ use Rattle.rules.specs.Semantics.{Interpretation, elements_below, elements, one,
 use Rattle.rules.specs.Semantics.{concept_means as finite_concept_means, meanings_from as finite_meanings_from, means as finite_means}
 use Rattle.rules.specs.Statements.{FiniteInterpretationsAreWorlds, FiniteNormalFormKeepsMeaning}
 use Rattle.meaning.specs.Finite.{counts}
-use Rattle.meaning.specs.Truth.{and_unit, and_left, and_right, and_both, implies_elim, implies_intro, same_truth_lem, truth_same, both_ways, by_truth, all_elements, elements_all, count_same, any_at, any_find}
+use Rattle.meaning.specs.Truth.{and_unit, and_left, and_right, and_both, implies_elim, implies_intro, same_truth_lem, truth_same, both_ways, by_truth, all_elements, elements_all, count_same, any_at, any_find, not_and_not}
 use Rattle.meaning.specs.Joints.{not_any}
 use Rattle.rules.specs.Worlds.{Different, Many, World, concept_means, meaning_at, meanings_from, means, EveryElement, EveryPair, EveryTwo, DisjointAt, Chain, RolesApart, Satisfied, Same, EachSame}
 use Rattle.meaning.specs.AxiomMeans.{same_refl, same_trans, same_by, satisfied_grown as world_satisfied_grown}
@@ -133,13 +133,8 @@ module _ (I : Interpretation) where
       go true h = le-leb 1 (1 + count f l) (omega arith)
       go false h = ap (leb 1) (zero-add (count f l)) ∙ h
 
-  not_both_lem : (a b : Bool) → not (a && not b) ≡ implies a b
-  not_both_lem true true = refl
-  not_both_lem true false = refl
-  not_both_lem false b = refl
-
   all_count : (r f : ℕ → Bool) (l : List ℕ) → not (leb 1 (count (λ y. r y && not (f y)) l)) ≡ all (λ y. implies (r y) (f y)) l
-  all_count r f l = ap not (some_count (λ y. r y && not (f y)) l) ∙ not_any (λ y. r y && not (f y)) l ∙ ap (λ g. all g l) (fun_ext (λ y. not_both_lem (r y) (f y)))
+  all_count r f l = ap not (some_count (λ y. r y && not (f y)) l) ∙ not_any (λ y. r y && not (f y)) l ∙ ap (λ g. all g l) (fun_ext (λ y. not_and_not (r y) (f y)))
 
   concept_finite : (m : ℕ → ℕ → Bool) (e : Concept) (x : ℕ) → concept_means (world_of I) m e x ≡ finite_concept_means I m e x
   concept_finite m Top x = refl

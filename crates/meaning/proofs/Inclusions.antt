@@ -2,7 +2,7 @@
 -- nothing.
 use Rattle.std.specs.Prelude.{◌≡◌, refl, Bool, true, false, ◌||◌, ℕ, suc, ◌≤◌, ◌<◌, length}
 use Rattle.std.proofs.Common.{ap, ◌∙◌, subst, arith}
-use Rattle.std.proofs.lemmas.Bool.{false≢true}
+use Rattle.std.proofs.lemmas.Bool.{false≢true, or_left, or_right}
 use mathlib.Core.List.{List, [], ◌∷◌}
 use Rattle.std.proofs.Math.Option.{Option, none, some}
 use Rattle.std.proofs.Math.Nat.{le_refl, le_trans}
@@ -21,9 +21,10 @@ use Rattle.meaning.specs.Truth.{implies_elim, implies_intro}
 use Rattle.meaning.specs.Choices.{Choice}
 use Rattle.meaning.specs.Valuations.{Valuation, AtomUnder, each_of_lem, all_agree, atom_under_more}
 use Rattle.meaning.specs.Adds.{VarsUnder, Setting, means_agree, Gives, Nothing}
-use Rattle.meaning.proofs.Antecedents.{Quiet, quiet_trans, vars_more, some_holds, or_left, or_right, Encoded, Coded, encode_means}
+use Rattle.meaning.proofs.Antecedents.{Quiet, quiet_trans, some_holds, Encoded, Coded, encode_means}
 use Rattle.meaning.proofs.Added.{Stable, Added, adds_added, added_map, quiet_added, defer_added, Does, each_does}
 use Rattle.meaning.proofs.Heads.{emit_means}
+use Rattle.meaning.specs.Steps.{vars_under_more}
 
 -- sub is below sup in the pool's meaning
 abbrev pub Included : Interpretation → Pool → ℕ → ℕ → Valuation → Type 0
@@ -67,7 +68,7 @@ module _ (I : Interpretation) (B : Bounds) (env : Env) (base : ℕ) (S : Setting
           root = omega arith;
           var = omega arith;
           under = each_of_lem (atom_under_more b) x f.0;
-          vars = each_of_lem (vars_more g) x f.1;
+          vars = each_of_lem (vars_under_more g) x f.1;
         })) (λ _ t₁ A. record { moved = A.var; added = adds_added I B env base S p w A })
 
     -- the first half: the inclusion gives each alternative's clauses

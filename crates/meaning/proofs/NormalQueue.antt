@@ -25,7 +25,8 @@ use Rattle.rules.proofs.EmitLaws.{awaiting}
 use Rattle.rules.proofs.KeepLaws.{Invariant, Keeps, PartsIn, Reach, keeps_antecedent, keeps_partition, keeps_head, keeps_bodies, keeps_bodies_or, keeps_domain, keeps_range}
 use Rattle.rules.proofs.WholeLaws.{AnyRefusal, axiom_leaves}
 use Rattle.rules.specs.Handed.{names_limits}
-use Rattle.meaning.proofs.Absorb.{nnf_then, pool_then, out_then, out_last, parts_below}
+use Rattle.rules.proofs.AxiomLaws.{conjuncts_in}
+use Rattle.meaning.proofs.Absorb.{nnf_then, pool_then, out_then, out_last}
 use Rattle.meaning.specs.Pairs.{later_each, ordered_of_later}
 
 -- every filler is a normal concept of the pool
@@ -189,7 +190,7 @@ module _ (B : Bounds) (env : Env) where
     unfolding absorb_hard_antecedent
     absorb_kept s j =
         out_then (record { pool = p; out = s }) (λ pool. partition env pool (conjuncts sub (at pool sub)) [] []) _
-        (by_post (keeps_partition AnyRefusal (λ _. tt) env (NormalQueue p) (kept B env p w) p (Held p) (held_reach B env p w) (conjuncts sub (at p sub)) [] [] (parts_below B (length p) sub ksub (at p sub) (w sub ksub)) tt tt s j))
+        (by_post (keeps_partition AnyRefusal (λ _. tt) env (NormalQueue p) (kept B env p w) p (Held p) (held_reach B env p w) (conjuncts sub (at p sub)) [] [] (conjuncts_in B (length p) sub ksub (at p sub) (w sub ksub)) tt tt s j))
         (λ ps t Z. go t ps.soft ps.hard Z.kept Z.soft Z.hard)
       where
         go : (t : Out) (soft hard : List ℕ) → NormalQueue p t → Each (λ c. c < length p) soft → Each (λ c. c < length p) hard

@@ -39,6 +39,10 @@ module _ (I : Interpretation) where
   atom_agree f g (AtLeast r q n v) u = ap (λ z. leb n (count (λ y. related I r z y && qualifies I q y) (elements I))) u.0
   atom_agree f g (Equal x v) u = ap₂ eqb u.0 u.1.0
 
+-- ---- a choice overridden on one variable
+pub chosen_choice : (I : Interpretation) (f : ℕ → ℕ) (v x : ℕ) → Choice I f → x < I.size → Choice I (chosen f v x)
+chosen_choice I f v x c l u = by_truth (eqb u v) (λ e. rw e l) (λ e. rw e (c u))
+
 -- ---- a choice overridden on a list of variables
 unfoldable overridden : (ℕ → ℕ) → (ℕ → ℕ) → List ℕ → ℕ → ℕ
 overridden g f [] = f
@@ -62,10 +66,7 @@ module _ (I : Interpretation) where
   unfolding every_choice
   every_intro f [] t c h = h f c
   every_intro f (v ∷ vs) t c h =
-      all_elements I.size (λ x. every_choice I vs (chosen f v x) t) (λ x l. every_intro (chosen f v x) vs t (chosen_choice f v x c l) h)
-    where
-      chosen_choice : (f : ℕ → ℕ) (v x : ℕ) → Choice I f → x < I.size → Choice I (chosen f v x)
-      chosen_choice f v x c l u = by_truth (eqb u v) (λ e. rw e l) (λ e. rw e (c u))
+      all_elements I.size (λ x. every_choice I vs (chosen f v x) t) (λ x l. every_intro (chosen f v x) vs t (chosen_choice I f v x c l) h)
 
 -- ---- the clause's own variables
 contains_insert : (u x : ℕ) (l : List ℕ) → contains l u ≡ true → contains (insert x l) u ≡ true

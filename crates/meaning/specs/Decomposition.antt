@@ -17,7 +17,7 @@ use Rattle.rules.specs.Branches.{add_var, add_vars, head_vars_from, head_vars, B
 use Rattle.rules.specs.Post.{Post, gives, give, refuses, post_then, post_map}
 use Rattle.rules.specs.Invariants.{Each}
 use Rattle.rules.specs.Semantics.{Interpretation, with_classes}
-use Rattle.rules.specs.EachLaws.{each_append, each_left, each_right, each_mapped}
+use Rattle.rules.specs.EachLaws.{each_append, each_left, each_right, each_mapped, each_unmapped}
 use Rattle.meaning.specs.Truth.{by_truth}
 use Rattle.meaning.specs.Choices.{Follows}
 use Rattle.meaning.specs.Valuations.{Valuation, Agree, AtomUnder, ClauseUnder, atom_under_more, clause_under_more, follow_agree, each_of_lem}
@@ -83,10 +83,6 @@ known_same z v (inr q) = z.keeps v q
 abbrev pub head_of : Clause → List Atom
 head_of c = c.head
 
-map_each : {A B : Type 0} (P : B → Type 0) (f : A → B) (l : List A) → Each P (map f l) → Each (λ a. P (f a)) l
-map_each P f [] e = tt
-map_each P f (x ∷ l) e = (e.0, map_each P f l e.1)
-
 -- what the pass did. `names`: the named branches, whose clauses stand last
 pub record Decomposed (I : Interpretation) (s t : Out) : Type 0 where
   pub names : List Branch
@@ -101,7 +97,7 @@ pub record Decomposed (I : Interpretation) (s t : Out) : Type 0 where
 -- what holds of every head atom after the pass held before
 pub decomposed_heads : (I : Interpretation) (s t : Out) (P : Atom → Type 0) → Decomposed I s t → Each (λ c. Each P c.head) t.clauses → Each (λ c. Each P c.head) s.clauses
 decomposed_heads I s t P D e =
-    map_each (Each P) head_of s.clauses (each_left (Each P) (map head_of s.clauses) (map (λ b. Class b.name 0 ∷ []) D.names) (subst (Each (Each P)) D.heads (each_mapped (λ c. Each P (head_of c)) (Each P) head_of (λ _ h. h) t.clauses e)))
+    each_unmapped (Each P) head_of s.clauses (each_left (Each P) (map head_of s.clauses) (map (λ b. Class b.name 0 ∷ []) D.names) (subst (Each (Each P)) D.heads (each_mapped (λ c. Each P (head_of c)) (Each P) head_of (λ _ h. h) t.clauses e)))
 
 -- ---- the clauses of the names
 named_under : (n m : ℕ) (l : List Branch) → Chain n l m → Each (ClauseUnder m) (map branch_clause l)
@@ -208,7 +204,7 @@ decomposed I s fresh l u q A = record {
       );
   says = λ k f.
       let g : Each (Follows (with_classes I k)) (A.to ++ map branch_clause l) = subst (λ c. Each (Follows (with_classes I k)) (c ++ map branch_clause l)) A.grown f in
-      A.says k (map_each (Follows (with_classes I k)) branch_clause l (each_right (Follows (with_classes I k)) A.to (map branch_clause l) g))
+      A.says k (each_unmapped (Follows (with_classes I k)) branch_clause l (each_right (Follows (with_classes I k)) A.to (map branch_clause l) g))
       (each_left (Follows (with_classes I k)) A.to (map branch_clause l) g);
 }
 

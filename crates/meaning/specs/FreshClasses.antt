@@ -8,12 +8,12 @@ use Rattle.ir.specs.declared.atom.Atom.{Atom}
 use Rattle.ir.specs.declared.atom.Atom.TheVariants.{Class, Exists, AtMost, AtLeast, Equal, Role as RoleAtom}
 use Rattle.ir.specs.Qualifiers.{Qualifier}
 use Rattle.std.specs.Prelude.{None, Some}
+use Rattle.std.proofs.lemmas.Bool.{or_parts}
 use Rattle.rules.specs.Base.{any}
 use Rattle.rules.specs.State.{Clause}
 use Rattle.rules.specs.Deck.{Known}
 use Rattle.rules.specs.Run.{first_fresh}
 use Rattle.rules.specs.Invariants.{Each, QualifierIn}
-use Rattle.rules.specs.DeckLaws.{or_false}
 use Rattle.rules.specs.Semantics.{Interpretation}
 use Rattle.rules.specs.Statements.{is_fresh, names_fresh, is_fresh_at_most, has_fresh_at_most}
 use Rattle.meaning.specs.Truth.{by_truth, and_both, any_append}
@@ -40,14 +40,14 @@ module _ (d : Known) (n : ℕ) where
 
   atoms_fine : (l : List Atom) → Each (AtomUnder (first_fresh d + n)) l → any (is_fresh_at_most (is_fresh d n)) l ≡ false → Each (FineAtom (first_fresh d)) l
   atoms_fine [] u e = tt
-  atoms_fine (a ∷ l) u e = let o = or_false (is_fresh_at_most (is_fresh d n) a) (any (is_fresh_at_most (is_fresh d n)) l) e in (atom_fine a u.0 o.0, atoms_fine l u.1 o.1)
+  atoms_fine (a ∷ l) u e = let o = or_parts (is_fresh_at_most (is_fresh d n) a) (any (is_fresh_at_most (is_fresh d n)) l) e in (atom_fine a u.0 o.0, atoms_fine l u.1 o.1)
 
   clause_fine : (c : Clause) → ClauseUnder (first_fresh d + n) c → has_fresh_at_most (is_fresh d n) (some c) ≡ false → Fine (first_fresh d) c
-  clause_fine c u e = atoms_fine c.head u.head (or_false (any (is_fresh_at_most (is_fresh d n)) c.body) (any (is_fresh_at_most (is_fresh d n)) c.head) (sym (any_append (is_fresh_at_most (is_fresh d n)) c.body c.head) ∙ e)).1
+  clause_fine c u e = atoms_fine c.head u.head (or_parts (any (is_fresh_at_most (is_fresh d n)) c.body) (any (is_fresh_at_most (is_fresh d n)) c.head) (sym (any_append (is_fresh_at_most (is_fresh d n)) c.body c.head) ∙ e)).1
 
   pub clauses_fine : (l : List Clause) → Each (ClauseUnder (first_fresh d + n)) l → any (has_fresh_at_most (is_fresh d n)) (map some l) ≡ false → Each (Fine (first_fresh d)) l
   clauses_fine [] u e = tt
-  clauses_fine (c ∷ l) u e = let o = or_false (has_fresh_at_most (is_fresh d n) (some c)) (any (has_fresh_at_most (is_fresh d n)) (map some l)) e in (clause_fine c u.0 o.0, clauses_fine l u.1 o.1)
+  clauses_fine (c ∷ l) u e = let o = or_parts (has_fresh_at_most (is_fresh d n) (some c)) (any (has_fresh_at_most (is_fresh d n)) (map some l)) e in (clause_fine c u.0 o.0, clauses_fine l u.1 o.1)
 
   -- ---- the given sets for the fresh classes, the interpretation's own for the others
   abbrev pub sets : Interpretation → Valuation → Valuation

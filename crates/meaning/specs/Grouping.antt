@@ -3,7 +3,7 @@
 use Rattle.std.specs.Prelude.{◌≡◌, Bool, ◌&&◌, ◌⊎◌, ℕ, zero, suc, length, eqb}
 use Rattle.std.proofs.Math.Path.{refl, sym, ap}
 use Rattle.std.proofs.Common.{◌∙◌, subst}
-use Rattle.std.proofs.Math.Bool.{true, false}
+use Rattle.std.proofs.Math.Bool.{true, false, and_assoc}
 use Rattle.std.proofs.lemmas.Bool.{false≢true}
 use mathlib.Core.List.{List, [], ◌∷◌, ◌++◌}
 use Rattle.std.proofs.Math.Option.{Option, none, some}
@@ -149,10 +149,6 @@ and_last true false true = refl
 and_last true false false = refl
 and_last false b c = refl
 
-and_deep : (a b c : Bool) → a && (b && c) ≡ (a && b) && c
-and_deep true b c = refl
-and_deep false b c = refl
-
 all_last : (p : Atom → Bool) (l : List Atom) (a : Atom) → all p (l ++ (a ∷ [])) ≡ all p l && p a
 all_last p l a = all_append p l (a ∷ []) ∙ ap (λ b. all p l && b) (and_unit (p a))
 
@@ -191,7 +187,7 @@ module _ (t : ℕ) (a : Atom) where
     where
       go : (b : Bool) → all_groups p (into_group l t a) ≡ all_groups p l && p a → all_groups p (join_group q a l (into_group l t a) b) ≡ (all p q.1 && all_groups p l) && p a
       go true r = ap (λ b. b && all_groups p l) (all_last p q.1 a) ∙ and_last (all p q.1) (all_groups p l) (p a)
-      go false r = ap (λ b. all p q.1 && b) r ∙ and_deep (all p q.1) (all_groups p l) (p a)
+      go false r = ap (λ b. all p q.1 && b) r ∙ sym (and_assoc (all p q.1) (all_groups p l) (p a))
 
 module _ (parents : List (ℕ × ℕ)) (root : ℕ) (P : Atom → Type 0) where
   -- what the atoms l add to g
@@ -218,7 +214,7 @@ module _ (parents : List (ℕ × ℕ)) (root : ℕ) (P : Atom → Type 0) where
             same = λ p. q.same p
                 ∙ ap (λ b. (b && all_groups p g.groups) && all p l) (all_last p g.root_atoms a)
                 ∙ ap (λ b. b && all p l) (and_last (all p g.root_atoms) (all_groups p g.groups) (p a))
-                ∙ sym (and_deep (all_sorted p g) (p a) (all p l));
+                ∙ and_assoc (all_sorted p g) (p a) (all p l);
           })
           (r k (record {
             rooted = each_append (Rooted root P) g.root_atoms (a ∷ []) s.rooted (record { held = e.0; tree = t; vars = each_of_lem (λ v. top_root parents root v) (atom_vars a) u }, tt);
@@ -231,8 +227,8 @@ module _ (parents : List (ℕ × ℕ)) (root : ℕ) (P : Atom → Type 0) where
             sorted = q.sorted;
             same = λ p. q.same p
                 ∙ ap (λ b. (all p g.root_atoms && b) && all p l) (into_all x a p g.groups)
-                ∙ ap (λ b. b && all p l) (and_deep (all p g.root_atoms) (all_groups p g.groups) (p a))
-                ∙ sym (and_deep (all_sorted p g) (p a) (all p l));
+                ∙ ap (λ b. b && all p l) (sym (and_assoc (all p g.root_atoms) (all_groups p g.groups) (p a)))
+                ∙ and_assoc (all_sorted p g) (p a) (all p l);
           })
           (r k (record {
             rooted = s.rooted;

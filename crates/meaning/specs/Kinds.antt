@@ -1,12 +1,12 @@
 -- Normal form keeps each axiom's kind, so that what the axioms of some kinds say is said alike before and after. Assumes nothing.
 use Rattle.std.specs.Prelude.{◌≡◌, refl, Bool, not, ◌&&◌, ◌||◌, List, [], ◌∷◌, map, ℕ, suc, ◌+◌}
 use Rattle.std.proofs.Common.{ap₂, arith}
-use Rattle.rules.specs.Base.{Res, ok, refused, all, each}
+use Rattle.rules.specs.Base.{all, each}
 use Rattle.rules.specs.Concept.{Axiom}
 use Rattle.rules.specs.Concept.{SubClassOf, EquivalentClasses, DisjointClasses, DisjointUnion, ObjectPropertyDomain, ObjectPropertyRange, SubChain, TransitiveRole, IrreflexiveRole, AsymmetricRole, DisjointObjectProperties, InverseObjectProperties, SubObjectPropertyOf, EquivalentObjectProperties, ReflexiveRole, ClassAssertion}
 use Rattle.rules.specs.Normalize.{St, to_nnf, nnf_axiom}
 use Rattle.rules.specs.Run.{nnf_axioms}
-use Rattle.rules.specs.Post.{Post, gives, give, refuses, post_then}
+use Rattle.rules.specs.Post.{Post, give, post_then, post_any}
 use Rattle.rules.specs.LinedPost.{LinedPost, finish, lined_post, lined_then_lem}
 use Rattle.rules.specs.Statements.{is_inverse_axiom, is_clausified}
 
@@ -15,18 +15,14 @@ pub record SameKind (a b : Axiom) : Type 0 where
   pub inverse : is_inverse_axiom b ≡ is_inverse_axiom a
   pub clausified : is_clausified b ≡ is_clausified a
 
-answer : {S A : Type 0} (r : Res S A) → Post (λ _ _. Unit {0}) r
-answer (ok a s) = gives tt
-answer (refused k) = refuses
-
 nnf_kind : (a : Axiom) (s : St) → Post (λ b _. SameKind a b) (nnf_axiom a s)
 unfolding nnf_axiom
-nnf_kind (SubClassOf sub sup) s = post_then (answer (to_nnf (suc sub) sub s)) (λ _ t _. post_then (answer (to_nnf (suc sup) sup t)) (λ _ _ _. give (record { inverse = refl; clausified = refl })))
-nnf_kind (EquivalentClasses l) s = post_then (answer (each (λ c. to_nnf (suc c) c) l s)) (λ _ _ _. give (record { inverse = refl; clausified = refl }))
-nnf_kind (DisjointClasses l) s = post_then (answer (each (λ c. to_nnf (suc c) c) l s)) (λ _ _ _. give (record { inverse = refl; clausified = refl }))
-nnf_kind (DisjointUnion a l) s = post_then (answer (each (λ c. to_nnf (suc c) c) l s)) (λ _ _ _. give (record { inverse = refl; clausified = refl }))
-nnf_kind (ObjectPropertyDomain r c) s = post_then (answer (to_nnf (suc c) c s)) (λ _ _ _. give (record { inverse = refl; clausified = refl }))
-nnf_kind (ObjectPropertyRange r c) s = post_then (answer (to_nnf (suc c) c s)) (λ _ _ _. give (record { inverse = refl; clausified = refl }))
+nnf_kind (SubClassOf sub sup) s = post_then (post_any (to_nnf (suc sub) sub s)) (λ _ t _. post_then (post_any (to_nnf (suc sup) sup t)) (λ _ _ _. give (record { inverse = refl; clausified = refl })))
+nnf_kind (EquivalentClasses l) s = post_then (post_any (each (λ c. to_nnf (suc c) c) l s)) (λ _ _ _. give (record { inverse = refl; clausified = refl }))
+nnf_kind (DisjointClasses l) s = post_then (post_any (each (λ c. to_nnf (suc c) c) l s)) (λ _ _ _. give (record { inverse = refl; clausified = refl }))
+nnf_kind (DisjointUnion a l) s = post_then (post_any (each (λ c. to_nnf (suc c) c) l s)) (λ _ _ _. give (record { inverse = refl; clausified = refl }))
+nnf_kind (ObjectPropertyDomain r c) s = post_then (post_any (to_nnf (suc c) c s)) (λ _ _ _. give (record { inverse = refl; clausified = refl }))
+nnf_kind (ObjectPropertyRange r c) s = post_then (post_any (to_nnf (suc c) c s)) (λ _ _ _. give (record { inverse = refl; clausified = refl }))
 nnf_kind (SubChain sup parts) s = give (record { inverse = refl; clausified = refl })
 nnf_kind (TransitiveRole r) s = give (record { inverse = refl; clausified = refl })
 nnf_kind (IrreflexiveRole r) s = give (record { inverse = refl; clausified = refl })
@@ -36,7 +32,7 @@ nnf_kind (InverseObjectProperties r o) s = give (record { inverse = refl; clausi
 nnf_kind (SubObjectPropertyOf r o) s = give (record { inverse = refl; clausified = refl })
 nnf_kind (EquivalentObjectProperties l) s = give (record { inverse = refl; clausified = refl })
 nnf_kind (ReflexiveRole r) s = give (record { inverse = refl; clausified = refl })
-nnf_kind (ClassAssertion c i) s = post_then (answer (to_nnf (suc c) c s)) (λ _ _ _. give (record { inverse = refl; clausified = refl }))
+nnf_kind (ClassAssertion c i) s = post_then (post_any (to_nnf (suc c) c s)) (λ _ _ _. give (record { inverse = refl; clausified = refl }))
 
 -- the kinds of all axioms
 pub record SameKinds (l k : List Axiom) : Type 0 where

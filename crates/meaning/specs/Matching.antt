@@ -1,6 +1,6 @@
 -- The elements at which a body can be matched: a search over the choices of elements for the body's variables. The fresh class
 -- of a named branch is given this set. Assumes nothing.
-use Rattle.std.specs.Prelude.{◌≡◌, Bool, true, false, ℕ, ◌<◌}
+use Rattle.std.specs.Prelude.{◌≡◌, Bool, true, ℕ, ◌<◌}
 use Rattle.std.proofs.Math.Path.{refl, ap, ap₂, fun_ext}
 use Rattle.std.proofs.Common.{sym, ◌∙◌, subst}
 use Rattle.std.proofs.Math.Bool.{◌&&◌, ◌||◌}
@@ -8,7 +8,6 @@ use Rattle.std.proofs.lemmas.Bool.{false≢true}
 use mathlib.Core.List.{List, [], ◌∷◌, ◌++◌}
 use Rattle.std.proofs.Math.Dec.{eqb}
 use borrow.Author.Tests.{eq-eqb, eqb-true}
-use Rattle.ir.specs.Pick.{pick}
 use Rattle.ir.specs.Atoms.{atom_vars}
 use Rattle.ir.specs.declared.atom.Atom.{Atom}
 use Rattle.rules.specs.Base.{all, any, contains}
@@ -16,7 +15,7 @@ use Rattle.rules.specs.Reflexive.{atoms_vars}
 use Rattle.rules.specs.Invariants.{Each}
 use Rattle.rules.specs.Semantics.{Interpretation, with_classes, elements, atom_holds, chosen}
 use Rattle.meaning.specs.Truth.{and_left, and_right, and_both, or_unit, by_truth, any_append, any_at, any_find}
-use Rattle.meaning.specs.Choices.{Choice, atom_agree}
+use Rattle.meaning.specs.Choices.{Choice, atom_agree, chosen_choice}
 use Rattle.meaning.specs.Valuations.{Valuation, Agree, AtomUnder, all_agree}
 
 -- ---- the members of a list of variables
@@ -80,13 +79,6 @@ module _ (I : Interpretation) (f g : ℕ → ℕ) where
 unfoldable pub some_choice : Interpretation → List ℕ → (ℕ → ℕ) → ((ℕ → ℕ) → Bool) → Bool
 some_choice I [] f t = t f
 some_choice I (v ∷ vs) f t = any (λ x. some_choice I vs (chosen f v x) t) (elements I)
-
-chosen_choice : (I : Interpretation) (f : ℕ → ℕ) (v x : ℕ) → Choice I f → x < I.size → Choice I (chosen f v x)
-chosen_choice I f v x c l u = go (eqb u v)
-  where
-    go : (b : Bool) → pick b x (f u) < I.size
-    go true = l
-    go false = c u
 
 -- f with g's elements for these variables
 unfoldable puts : (ℕ → ℕ) → List ℕ → (ℕ → ℕ) → ℕ → ℕ

@@ -3,12 +3,9 @@
 use Rattle.std.specs.Prelude.{◌≡◌, refl, Bool, true, false, ◌⊎◌, ℕ, suc, ◌+◌, ◌≤◌, ◌<◌, eqb}
 use Rattle.std.proofs.Math.Path.{sym}
 use Rattle.std.proofs.Common.{ap, ◌∙◌, subst, inl, inr, le_refl, arith, eq-eqb, ne_eqb}
-use Rattle.std.proofs.lemmas.Bool.{false≢true}
 use mathlib.Core.List.{List, [], ◌∷◌, ◌++◌, append-nil, append_assoc}
 use Rattle.std.proofs.Math.Option.{Option, none, some}
 use Rattle.ir.specs.Pick.{pick}
-use Rattle.ir.specs.Records.{same_atom}
-use Rattle.ir.specs.RecordLaws.{same_atom_lem}
 use Rattle.ir.specs.declared.atom.Atom.{Atom}
 use Rattle.rules.specs.Reflexive.{same_atoms}
 use Rattle.rules.specs.Branches.{Branch, Naming, branch_name, memo_of, name_or_new, name_of, branch_clause}
@@ -16,7 +13,8 @@ use Rattle.rules.specs.Post.{Post, give}
 use Rattle.rules.specs.Invariants.{Each}
 use Rattle.rules.specs.Semantics.{Interpretation, with_classes}
 use Rattle.rules.specs.EachLaws.{each_left}
-use Rattle.meaning.specs.Truth.{or_none, and_left, and_right}
+use Rattle.rules.proofs.ReflexiveLaws.{same_atoms_lem}
+use Rattle.meaning.specs.Truth.{or_none}
 use Rattle.meaning.specs.Choices.{Follows}
 use Rattle.meaning.specs.Valuations.{Valuation, Agree, agree_refl, agree_trans, AtomUnder}
 use Rattle.meaning.specs.Matching.{matches, matches_has, matches_agree}
@@ -82,13 +80,6 @@ pub step_each : {base : ℕ} {w u : Naming} (P : Branch → Type 0) → Step bas
 step_each {w = w} P s e = each_left P w.named s.new (subst (Each P) s.grown e)
 
 -- ---- the name of a body
-same_atoms_lem : (l m : List Atom) → same_atoms l m ≡ true → l ≡ m
-unfolding same_atoms
-same_atoms_lem [] [] h = refl
-same_atoms_lem [] (b ∷ m) h = absurd (false≢true h)
-same_atoms_lem (a ∷ l) [] h = absurd (false≢true h)
-same_atoms_lem (a ∷ l) (b ∷ m) h = ap (λ z. z ∷ l) (same_atom_lem a b (and_left (same_atom a b) (same_atoms l m) h)) ∙ ap (λ z. b ∷ z) (same_atoms_lem l m (and_right (same_atom a b) (same_atoms l m) h))
-
 memo_among : (l : List Branch) (b : List Atom) → Given (λ e. Among (branch_of b e) l) (memo_of l b)
 unfolding memo_of
 memo_among [] b = nothing

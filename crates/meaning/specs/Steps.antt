@@ -13,12 +13,13 @@ use Rattle.ir.specs.declared.atom.Atom.{Atom}
 use Rattle.ir.specs.declared.atom.Atom.TheVariants.{Class, Exists, AtMost, AtLeast, Equal, Role as RoleAtom}
 use Rattle.ir.specs.declared.deferral.Deferral.{Deferral}
 use Rattle.rules.specs.Base.{then, all}
-use Rattle.rules.specs.State.{clause, total, Env, Out, out, E, most_in_hand, begun, visit, restarted, restart_vars, fresh_var, longer, with, push_in, push, defer_in, defer}
+use Rattle.rules.specs.State.{clause, total, Env, Out, out, E, most_in_hand, begun, visit, fresh_var, longer, with, push_in, push, defer_in, defer}
 use Rattle.rules.specs.Post.{Post, give, refuses, post_map}
 use Rattle.rules.specs.Pool.{Pool}
 use Rattle.rules.specs.Invariants.{Each, Bounds, Wf}
 use Rattle.rules.specs.Semantics.{Interpretation, with_classes, atom_holds, chosen}
-use Rattle.meaning.specs.Choices.{Choice, Follows, AgreeOn, atom_agree}
+pub use Rattle.meaning.specs.Choices.{chosen_choice}
+use Rattle.meaning.specs.Choices.{Follows, AgreeOn, atom_agree}
 use Rattle.meaning.specs.Valuations.{Valuation, Agree, agree_refl, AtomUnder, each_of_lem, atom_under_more}
 use Rattle.rules.specs.PoolLaws.{grown_refl}
 use Rattle.meaning.specs.Tracks.{track_still, track_trans, track_push, track_defer}
@@ -43,13 +44,6 @@ chosen_at f v x = ap (λ t. pick t x (f v)) (eq-eqb v v refl)
 
 pub chosen_below : (f : ℕ → ℕ) (v x u : ℕ) → u < v → f u ≡ chosen f v x u
 chosen_below f v x u h = sym (ap (λ t. pick t x (f u)) (ne_eqb u v (λ e. omega arith)))
-
-pub chosen_choice : (I : Interpretation) (f : ℕ → ℕ) (v x : ℕ) → Choice I f → x < I.size → Choice I (chosen f v x)
-chosen_choice I f v x g l u = go (eqb u v)
-  where
-    go : (t : Bool) → pick t x (f u) < I.size
-    go true = l
-    go false = g u
 
 pub vars_under_more : {m n : ℕ} → m ≤ n → (a : Atom) → VarsUnder m a → VarsUnder n a
 vars_under_more h (Class c v) u = omega arith
@@ -94,10 +88,6 @@ visit_then {Q} s f h = go (ltb s.visits s.limit)
     go : (t : Bool) → Post Q (then (begun s t) (λ _. f))
     go true = h
     go false = refuses
-
-pub restart_then : {A : Type 0} {Q : A → Out → Type 0} (s : Out) (f : E A) → Post Q (f (restarted s)) → Post Q (then (restart_vars s) (λ _. f))
-unfolding restart_vars
-restart_then s f h = h
 
 pub variable_then : {A : Type 0} {Q : A → Out → Type 0} (s : Out) (f : ℕ → E A) → Post Q (f s.next_var (next_variable s)) → Post Q (then (fresh_var s) f)
 unfolding fresh_var

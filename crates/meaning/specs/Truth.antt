@@ -3,31 +3,16 @@ use Rattle.std.specs.Prelude.{◌≡◌, refl, Bool, true, false, not, ◌&&◌,
 use Rattle.std.proofs.Common.{sym, ap, ap₂, ◌∙◌, not-suc-le-zero, le_refl, arith}
 use Rattle.std.proofs.lemmas.Bool.{false≢true}
 use Rattle.std.proofs.Math.Decide.{ℕ_discrete}
+use Rattle.std.proofs.Math.Bool.{and_assoc, or_assoc}
 use Rattle.rules.specs.Base.{all, any}
 use Rattle.rules.specs.Semantics.{elements_below, one, count, implies, same_truth}
 use Rattle.rules.specs.Invariants.{Each}
+-- laws of the library, by the names that they have here and above
+pub use Rattle.std.proofs.Math.Bool.{or-false as or_none, or-true as or_unit, and-true as and_unit}
+pub use Rattle.std.specs.Cmp.{first_so as and_left, second_so as and_right, both_ways}
+pub use Rattle.rules.specs.TextLaws.{by_test as by_truth}
 
 -- ---- connectives
-pub or_none : (a : Bool) → a || false ≡ a
-or_none true = refl
-or_none false = refl
-
-pub or_unit : (a : Bool) → a || true ≡ true
-or_unit true = refl
-or_unit false = refl
-
-pub and_unit : (a : Bool) → a && true ≡ a
-and_unit true = refl
-and_unit false = refl
-
-pub and_left : (a b : Bool) → a && b ≡ true → a ≡ true
-and_left true b h = refl
-and_left false b h = h
-
-pub and_right : (a b : Bool) → a && b ≡ true → b ≡ true
-and_right true b h = h
-and_right false b h = absurd (false≢true h)
-
 pub and_both : {a b : Bool} → a ≡ true → b ≡ true → a && b ≡ true
 and_both h k = rw (h, k)
 
@@ -57,32 +42,34 @@ pub truth_same : (a b : Bool) → a ≡ b → same_truth a b ≡ true
 truth_same true b e = rw (← e)
 truth_same false b e = rw (← e)
 
--- two truth values that give each other are equal
-pub both_ways : (a b : Bool) → (a ≡ true → b ≡ true) → (b ≡ true → a ≡ true) → a ≡ b
-both_ways true b f g = sym (f refl)
-both_ways false true f g = g refl
-both_ways false false f g = refl
+-- tests of a and b that stand for one of both
+pub not_and_not : (a b : Bool) → not (a && not b) ≡ implies a b
+not_and_not true true = refl
+not_and_not true false = refl
+not_and_not false b = refl
 
-pub by_truth : {P : Type 0} (b : Bool) → (b ≡ true → P) → (b ≡ false → P) → P
-by_truth true f g = f refl
-by_truth false f g = g refl
+pub or_nots : (a b : Bool) → not a || not b ≡ not (a && b)
+or_nots true b = refl
+or_nots false b = refl
+
+pub implies_both : (a b c : Bool) → implies a (implies b c) ≡ implies (a && b) c
+implies_both true b c = refl
+implies_both false b c = refl
+
+pub and_crossed : (a b c d : Bool) → (a && b) && (c && d) ≡ (a && c) && (b && d)
+and_crossed true true c d = refl
+and_crossed true false true d = refl
+and_crossed true false false d = refl
+and_crossed false b c d = refl
 
 -- ---- lists
 pub all_append : {A : Type 0} (p : A → Bool) (k l : List A) → all p (k ++ l) ≡ all p k && all p l
 all_append p [] l = refl
-all_append p (x ∷ k) l = ap (λ b. p x && b) (all_append p k l) ∙ and_assoc (p x) (all p k) (all p l)
-  where
-    and_assoc : (a b c : Bool) → a && (b && c) ≡ (a && b) && c
-    and_assoc true b c = refl
-    and_assoc false b c = refl
+all_append p (x ∷ k) l = ap (λ b. p x && b) (all_append p k l) ∙ sym (and_assoc (p x) (all p k) (all p l))
 
 pub any_append : {A : Type 0} (p : A → Bool) (k l : List A) → any p (k ++ l) ≡ any p k || any p l
 any_append p [] l = refl
-any_append p (x ∷ k) l = ap (λ b. p x || b) (any_append p k l) ∙ or_assoc (p x) (any p k) (any p l)
-  where
-    or_assoc : (a b c : Bool) → a || (b || c) ≡ (a || b) || c
-    or_assoc true b c = refl
-    or_assoc false b c = refl
+any_append p (x ∷ k) l = ap (λ b. p x || b) (any_append p k l) ∙ sym (or_assoc (p x) (any p k) (any p l))
 
 -- a test of a list's elements, at each of them
 pub all_each : {A : Type 0} (p : A → Bool) (l : List A) → all p l ≡ true → Each (λ x. p x ≡ true) l

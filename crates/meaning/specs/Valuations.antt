@@ -10,6 +10,7 @@ use Rattle.rules.specs.Base.{all, any}
 use Rattle.rules.specs.State.{Clause}
 use Rattle.rules.specs.Invariants.{Each, Bounds, QualifierIn, AtomIn, ClauseIn}
 use Rattle.rules.specs.Semantics.{Interpretation, with_classes, elements, related, qualifies, count, atom_holds}
+use Rattle.rules.proofs.EmitLaws.{qualifier_more}
 use Rattle.meaning.specs.Choices.{Follows}
 
 -- a set for each class id
@@ -45,10 +46,6 @@ pub record ClauseUnder (n : ℕ) (c : Clause) : Type 0 where
 pub each_of_lem : {A : Type 0} {P Q : A → Type 0} → ((a : A) → P a → Q a) → (l : List A) → Each P l → Each Q l
 each_of_lem h [] u = tt
 each_of_lem h (a ∷ l) u = (h a u.0, each_of_lem h l u.1)
-
-qualifier_more : {m n : ℕ} → m ≤ n → (q : Qualifier) → QualifierIn m q → QualifierIn n q
-qualifier_more h None u = tt
-qualifier_more h (Some c) u = omega arith
 
 pub atom_under_more : {m n : ℕ} → m ≤ n → (a : Atom) → AtomUnder m a → AtomUnder n a
 atom_under_more h (Class c v) u = omega arith

@@ -1,8 +1,7 @@
 -- What stands in words that are the same there. Assumes nothing.
-use Rattle.std.specs.Prelude.{◌≡◌, refl, List, [], ◌∷◌, ℕ, zero, suc, ◌+◌, ◌*◌, ◌/◌, ◌≤◌, ◌<◌, length, get_or, take, drop}
-use Rattle.std.proofs.Common.{sym, ap, ap₂, ◌∙◌, arith, length-drop, get_or-drop}
+use Rattle.std.specs.Prelude.{◌≡◌, refl, List, [], ◌∷◌, ℕ, zero, suc, ◌+◌, ◌*◌, ◌≤◌, ◌<◌, length, get_or, take, drop}
+use Rattle.std.proofs.Common.{sym, ap₂, ◌∙◌, arith, length-drop, get_or-drop}
 use Rattle.words.specs.Words.{words}
-use Rattle.words.specs.Laws.{length_words}
 use Rattle.ir.specs.declared.atom.Atom.{Atom}
 use Rattle.rules.specs.Run.{flat}
 use Rattle.rules.specs.DecodeLaws.{flat_long}
@@ -14,9 +13,6 @@ use Rattle.branches.specs.Memo.{named_words, NamedHeld, NamedThere}
 use Rattle.branches.specs.FilterLaws.{marks_kept}
 use Rattle.branches.specs.Edges.{KeepIs}
 use Rattle.branches.specs.declared.memo.Naming.{Naming}
-
-pub same_words_lem : (s s' : List ℕ) → length s' ≡ length s → length (words s') ≡ length (words s)
-same_words_lem s s' e = length_words s' ∙ ap (λ (n : ℕ). n / 4) e ∙ sym (length_words s)
 
 take_same : (n : ℕ) (u v : List ℕ) → length u ≡ length v → ((j : ℕ) → j < n → get_or u j 0 ≡ get_or v j 0) → take n u ≡ take n v
 take_same zero u v l f = refl

@@ -19,7 +19,7 @@ use Rattle.naming.specs.GoesLaws.{Goes, name_goes}
 use Rattle.branches.specs.declared.memo.Naming.{Naming}
 
 -- ---- how much is named
-named_least : (l : List Branch) → length l ≤ length (named_words l)
+pub named_least : (l : List Branch) → length l ≤ length (named_words l)
 unfolding named_words
 named_least [] = omega arith
 named_least (b ∷ l) = omega (arith, length-append (map packed b.body) (named_words l), named_least l)

@@ -5,11 +5,11 @@ use mathlib.Core.List.{List, [], ◌∷◌, ◌++◌, map}
 use Rattle.std.proofs.Math.Option.{Option, none, some}
 use Rattle.std.proofs.Common.{arith, eqb-true}
 use Rattle.std.proofs.Math.ListN.{length-append}
+use Rattle.std.proofs.lemmas.Bool.{and_parts}
 use Rattle.ir.specs.declared.atom.Atom.{Atom}
 use Rattle.ir.specs.declared.atom.Atom.TheVariants.{Class}
 use Rattle.rules.specs.Base.{Res, ok, refused, then, kept, filter}
 use Rattle.rules.specs.EachLaws.{each_unit}
-use Rattle.rules.specs.Added.{both_true}
 use Rattle.rules.specs.Branches.{Branch, Groups, W, max_body_vars, body_var_count_from, tree_of, any_disconnected, grouped, memo_of, name_or_new, name_of, renumber, is_edge, mentions, reduced_to, split_below, split_group, name_group, group_with, name_groups, name_grouped, name_tree, name_step, name_by}
 use Rattle.rules.specs.Branches as Rules
 use Rattle.branches.specs.Memo.{packed, named_words}
@@ -73,7 +73,7 @@ module _ (again : List Atom → ℕ → List ℕ → W (Option (List Atom))) (f 
       let edge = filter (is_edge root t) group in
       let inner = filter (λ a. not (is_edge root t a)) group in
       below_goes group edge inner t (eqb (length edge) 1 && not (mentions (root ∷ []) inner)) z n
-      (λ e. let one : length edge ≡ 1 = eqb-true (length edge) 1 (both_true (eqb (length edge) 1) (not (mentions (root ∷ []) inner)) e).0 in omega (arith, filter_both (is_edge root t) group)) h
+      (λ e. let one : length edge ≡ 1 = eqb-true (length edge) 1 (and_parts (eqb (length edge) 1) (not (mentions (root ∷ []) inner)) e).0 in omega (arith, filter_both (is_edge root t) group)) h
 
   group_goes : (root t : ℕ) (group : List Atom) (z : Rules.Naming) (n : ℕ) → length group ≤ f → n ≤ wide z → Goes n (name_group again root t group z)
   group_goes root t group z n l h =

@@ -10,8 +10,8 @@ use Rattle.rules.specs.Concept.{Concept}
 use Rattle.rules.specs.Concept.{Top, Bot, Atomic, Nominal, SelfRestriction, Not, And, Or, Some, All, Min, Max}
 use Rattle.rules.specs.Pool.{Pool, width, members}
 use Rattle.rules.specs.Lister.{fields_text}
+use Rattle.rules.specs.TextLaws.{by_test}
 use Rattle.pool.specs.Layout.{pool_of}
-use Rattle.pool.specs.Shapes.{by_test}
 use Rattle.pool.specs.Held.{Held}
 use Rattle.pool.specs.HeldLaws.{pool_length}
 use Rattle.ontology.specs.Layout.{axiom_start, axiom_row, axioms_of, AxiomsHeld}

@@ -27,12 +27,12 @@ use Rattle.rules.specs.Invariants.{Wf, Grown}
 use Rattle.rules.specs.PoolLaws.{grown_refl, below_more}
 use Rattle.rules.specs.DepthLaws.{deepest_of, depth}
 use Rattle.rules.proofs.NormalizeLaws.{AllDone}
+use Rattle.rules.specs.TextLaws.{by_test}
 use Rattle.pool.specs.Layout.{run, concept_at, pool_of}
 use Rattle.pool.specs.Held.{Ready}
 use Rattle.pool.specs.Answers.{after, shown}
 use Rattle.pool.specs.HeldLaws.{pool_length, pool_at, members_next, word_above}
 use Rattle.words.specs.Runs.{get_d_sets_after}
-use Rattle.pool.specs.Shapes.{by_test}
 use Rattle.rebuilding.specs.Steps.{nnf_by, visited_parts, part_negated, rebuilt}
 use Rattle.rebuilding.specs.States.{state_of, told, after_run, HeldRun, Kept, Normalizing, NormalizingRun, RebuildingAfter, RebuiltAfter}
 use Rattle.normalize.specs.StepLaws.{step_by, nnf_by_lem}

@@ -1,5 +1,5 @@
 -- Axioms in scratch and their normal forms: what one axiom's run of concepts gives, and the loop over all axioms. Assumes nothing.
-use Rattle.std.specs.Prelude.{◌≡◌, refl, true, List, ◌∷◌, ◌++◌, ℕ, zero, suc, ◌+◌, ◌*◌, ◌-◌, ◌<◌, ◌≤◌, eqb, ltb, length, get_or}
+use Rattle.std.specs.Prelude.{◌≡◌, refl, true, List, ◌++◌, ℕ, ◌+◌, ◌*◌, ◌-◌, ◌<◌, ◌≤◌, eqb, ltb, length, get_or}
 use Rattle.std.proofs.Common.{sym, ap, subst, ◌∙◌, arith, zero-add, eqb-true, leb-true, ltb-true, ltb-false}
 use Rattle.words.specs.Words.{words}
 use Rattle.std.proofs.lemmas.Bool.{eqb-false}
@@ -13,8 +13,8 @@ use Rattle.rules.specs.Concept.{Axiom}
 use Rattle.rules.specs.Deck.{section_of, fields_ok, axiom_of}
 use Rattle.rules.specs.Normalize.{St, nnf, nnf_axiom}
 use Rattle.rules.specs.Invariants.{Each, AxiomIn}
-use Rattle.pool.specs.Layout.{tab, run}
-use Rattle.pool.specs.Tabs.{tab_same, length_tab, tab_each}
+use Rattle.pool.specs.Layout.{run}
+use Rattle.pool.specs.Tabs.{tab_same, length_tab, tab_each, tab_append}
 use Rattle.deck.proofs.KindLaws.{axiom_kinds}
 use Rattle.ontology.specs.Layout.{axiom_start, axiom_count, axiom_number, axiom_row, axiom_at, AxiomsHeld}
 use Rattle.rebuilding.specs.States.{state_of, told, after_run, HeldRun, Kept, NormalizingRun}
@@ -46,14 +46,6 @@ concepts_inside = axiom_kinds Inside
     (λ n h. let e = eqb-true n 3 h in (omega arith, omega arith))
 
 -- ---- a run in three
-pub tab_append : {A : Type 0} (f : ℕ → A) (i m n : ℕ) → tab f i (m + n) ≡ tab f i m ++ tab f (i + m) n
-unfolding tab
-tab_append f i zero n = let e : 0 + n ≡ n = omega arith in let d : i + 0 ≡ i = omega arith in rw (e, d) refl
-tab_append f i (suc m) n =
-    let e : suc m + n ≡ suc (m + n) = omega arith in
-    let d : i + 1 + m ≡ i + suc m = omega arith in
-    rw e (ap (λ (l : List _). f i ∷ l) (tab_append f (i + 1) m n ∙ ap (λ (j : ℕ). tab f (i + 1) m ++ tab f j n) d))
-
 -- axiom i's row: the numbers before its concepts, the concepts, the numbers after them
 module _ (w : List ℕ) (i : ℕ) where
   abbrev kind_in : ℕ

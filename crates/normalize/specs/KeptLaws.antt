@@ -4,7 +4,7 @@ use Rattle.std.proofs.Common.{ap, ◌∙◌, arith, length-set, get_or-set_same,
 use Rattle.std.proofs.lemmas.List.Edits.{sets}
 use Rattle.std.proofs.Math.Seq.{length-sets}
 use Rattle.std.proofs.lemmas.List.{take-set-le}
-use Rattle.words.specs.Runs.{get_d_sets_after, get_d_sets_before, get_d_sets_in}
+use Rattle.words.specs.Runs.{get_d_sets_after, get_d_sets_before, get_d_sets_in, take_sets}
 use Rattle.ir.specs.Scratch.{keys_at, hands_at}
 use Rattle.pool.specs.Layout.{pool_words, run, pool_of}
 use Rattle.pool.specs.Held.{Held}
@@ -19,10 +19,6 @@ pub record Under (w w' : List ℕ) (n m : ℕ) : Type 0 where
 
 under : (w w' : List ℕ) (n m : ℕ) → Held w n m → take pool_words w' ≡ take pool_words w → length w' ≡ length w → Under w w' n m
 under w w' n m H e l = record { held = held_kept w w' n m H e l; pool = pool_kept w w' n m H e }
-
-take_sets : (vs l : List ℕ) (i n : ℕ) → n ≤ i → take n (sets l i vs) ≡ take n l
-take_sets [] l i n h = refl
-take_sets (a ∷ vs) l i n h = take_sets vs (set l i a) (suc i) n (omega arith) ∙ take-set-le n l i a h
 
 module _ (w : List ℕ) (n m : ℕ) (H : Held w n m) (i : ℕ) (h : pool_words ≤ i) where
   pub under_set : (a : ℕ) → Under w (set w i a) n m

@@ -14,11 +14,11 @@ use Rattle.rules.specs.PoolLaws.{grown_refl}
 use Rattle.rules.specs.DepthLaws.{depth}
 use Rattle.rules.proofs.NormalizeLaws.{Done as IdDone}
 use Rattle.rules.specs.Post.{Post, gives}
+use Rattle.rules.specs.TextLaws.{by_test}
 use Rattle.pool.specs.Layout.{pool_words, pool_of}
 use Rattle.pool.specs.Held.{Held}
 use Rattle.pool.specs.Answers.{drawn, after, HeldAfter}
 use Rattle.pool.specs.HeldLaws.{pool_length}
-use Rattle.pool.specs.Shapes.{by_test}
 use Rattle.rebuilding.specs.Steps.{nnf_by}
 use Rattle.rebuilding.specs.States.{state_of, told, Kept}
 use Rattle.normalize.specs.StateLaws.{stated, by_done}

@@ -1,5 +1,6 @@
 -- Key marks one by one. Assumes nothing.
-use mathlib.Core.Path.{◌≡◌, refl, sym, ap, ◌∙◌}
+use Rattle.std.proofs.Math.Bool.{or-true, or-false}
+use mathlib.Core.Path.{◌≡◌, sym, ap, ◌∙◌}
 use mathlib.Core.Bool.{Bool, true, false, not, ◌||◌}
 use mathlib.Core.List.{List}
 use Prim.Native.Nat.{ℕ, ◌+◌, ◌<◌, ◌≤◌}
@@ -19,14 +20,6 @@ use Rattle.deck.specs.Records.{tab}
 use Rattle.deck.specs.TabLaws.{get_d_tab, any_more}
 use Rattle.ontology.specs.Layout.{is_key}
 use Rattle.ontology.specs.Lines.{Kept}
-
-or_true : (t : Bool) → (t || true) ≡ true
-or_true true = refl
-or_true false = refl
-
-or_false : (t : Bool) → (t || false) ≡ t
-or_false true = refl
-or_false false = refl
 
 -- the classes of f, the first i of them marked, and nothing else written
 pub record Marking (f : ℕ → ℕ) (w₀ : List ℕ) (i : ℕ) (w : List ℕ) : Type 0 where
@@ -64,9 +57,9 @@ module _ (f : ℕ → ℕ) (w₀ : List ℕ) (long : roles_at ≤ length w₀) w
       marked = λ a l. by_test (eqb a x)
           (λ t. let q : a ≡ x = eqb-true a x t in
           ap (λ (y : ℕ). not (eqb y 0)) (ap (λ (j : ℕ). get_or (set w (keys_at + x) 1) (keys_at + j) 0) q ∙ get_or-set_same w (keys_at + x) 1 0 (omega (arith, M.size)))
-          ∙ sym (more a true t ∙ or_true (contains (tab f i) a)))
+          ∙ sym (more a true t ∙ or-true (contains (tab f i) a)))
           (λ t. ap (λ (y : ℕ). not (eqb y 0)) (get_or-set_other w (keys_at + x) (keys_at + a) 1 0 (λ q. eqb-false a x t (omega arith)))
-          ∙ M.marked a l ∙ sym (more a false t ∙ or_false (contains (tab f i) a)));
+          ∙ M.marked a l ∙ sym (more a false t ∙ or-false (contains (tab f i) a)));
     }
 
 -- the class of mark i

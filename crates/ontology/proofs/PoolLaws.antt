@@ -16,6 +16,7 @@ use Rattle.rules.specs.Concept.{Concept, concept_row}
 use Rattle.rules.specs.Pool.{Pool, most_concepts, most_members, find, width, members}
 use Rattle.rules.specs.Deck.{parts_of}
 use Rattle.rules.specs.Invariants.{Each}
+use Rattle.rules.specs.PoolLaws.{members_snoc}
 use Rattle.text.specs.Rows.{row_at}
 use Rattle.text.specs.RowLaws.{length_row}
 use Rattle.deck.specs.Records as reader
@@ -25,7 +26,7 @@ use Rattle.pool.specs.Layout.{pool_words, members_at, heads_at, run, count_of, c
 use Rattle.pool.specs.Tabs.{run_is}
 use Rattle.pool.specs.Shapes.{count_plain}
 use Rattle.pool.specs.Held.{Held, Ready, Asked}
-use Rattle.pool.specs.HeldLaws.{members_snoc, Same, pool_same, held_same, word_above}
+use Rattle.pool.specs.HeldLaws.{Same, pool_same, held_same, word_above}
 use Rattle.pool.specs.Answers.{sized, Added}
 use Rattle.deck.specs.declared.row.Line.{Line}
 use Rattle.ontology.specs.Lines.{Kept, table_of, concept_line, record_for, ConceptRead, Pooled}

@@ -14,15 +14,16 @@ use Rattle.rules.specs.Base.{any, is_some}
 use Rattle.rules.specs.Concept.{Concept, Top, concept_row, same_concept}
 use Rattle.rules.specs.Pool.{at, find, members}
 use Rattle.rules.specs.Deck.{most_classes, Known}
-use Rattle.rules.specs.DeckLaws.{DeckIn, bounds_of, parts_below, same_words_sym, members_few, read_in}
+use Rattle.rules.specs.DeckLaws.{DeckIn, bounds_of, same_words_sym, members_few, read_in}
 use Rattle.rules.specs.EachLaws.{each_map}
 use Rattle.rules.specs.Invariants.{Each, Bounded}
 use Rattle.rules.specs.TextLaws.{by_test}
+use Rattle.rules.specs.DepthLaws.{parts_below}
+use Rattle.rules.specs.PoolLaws.{members_snoc}
 use Rattle.deck.specs.Records as reader
 use Rattle.deck.specs.TabLaws.{length_tab, get_d_tab, any_more}
 use Rattle.deck.specs.declared.state.State.{State}
 use Rattle.pool.specs.AnswerLaws.{find_any}
-use Rattle.pool.specs.HeldLaws.{members_snoc}
 use Rattle.ontology.specs.Lines.{Accepted, Declared, ConceptRead, AxiomRead}
 
 -- ---- tabulated concepts
@@ -83,7 +84,7 @@ module _ (s t : List ℕ) (k : State) (A : Accepted s t k) where
         few = omega (arith, H.few);
         line = record { small = A.held.small; within = H.lines i l; numbers = H.numbers i l };
         row = H.rows i l;
-        below = parts_below (bounds_of d) i i (f i) (omega arith) (subst (Bounded (bounds_of d) i) (at_is i l) (D.wf i (inside i l)));
+        below = parts_below (bounds_of d) i (f i) (subst (Bounded (bounds_of d) i) (at_is i l) (D.wf i (inside i l)));
         fresh = find_none (f i) f i (λ j h. apart i j h l);
         space = omega (arith, members_rise f (i + 1) k.concepts (omega arith), members_few d D);
       }

@@ -11,11 +11,12 @@ use borrow.Author.Tests.{eqb-true, eqb-false}
 use Rattle.rules.specs.Concept.{Concept, same_concept}
 use Rattle.rules.specs.Pool.{Pool, found_in, find}
 use Rattle.rules.specs.PoolLaws.{same_concept_lem}
+use Rattle.rules.specs.TextLaws.{by_test}
 use Rattle.pool.specs.declared.record.Record.{Record}
 use Rattle.pool.specs.Layout.{heads_at, tab, run, field, count_of, concept_over, concept_at, pool_of, plain}
 use Rattle.pool.specs.Index.{record_hash, hash_by, hash_of, hash_at, last}
 use Rattle.pool.specs.Held.{Held}
-use Rattle.pool.specs.Shapes.{by_test, listed_over}
+use Rattle.pool.specs.Shapes.{listed_over}
 use Rattle.pool.specs.HeldLaws.{pool_length, pool_snoc}
 
 -- the code's hash is the concept's

@@ -1,4 +1,5 @@
 -- The test of words is the test of concepts. Assumes nothing.
+use Rattle.std.specs.Cmp.{both_ways}
 use mathlib.Core.Path.{◌≡◌, refl, sym, ap, subst, ◌∙◌}
 use mathlib.Core.Bool.{Bool, true, false}
 use mathlib.Core.List.{List}
@@ -11,14 +12,10 @@ use Rattle.ir.specs.Records.{same_words}
 use Rattle.ir.specs.RecordLaws.{same_words_lem, same_words_refl}
 use Rattle.rules.specs.Concept.{Concept, concept_row, same_concept}
 use Rattle.rules.specs.PoolLaws.{same_concept_lem}
+use Rattle.rules.specs.TextLaws.{by_test}
 use Rattle.pool.specs.declared.record.Record.{Record}
 use Rattle.pool.specs.Layout.{members_at, tab, run, field, record_at, is_list, count_of, concept_from, concept_over, concept_at, plain, starts_at, listed}
-use Rattle.pool.specs.Shapes.{by_test, list_from, list_listed, listed_over}
-
-both_ways : (a b : Bool) → (a ≡ true → b ≡ true) → (b ≡ true → a ≡ true) → a ≡ b
-both_ways true b f g = sym (f refl)
-both_ways false true f g = g refl
-both_ways false false f g = refl
+use Rattle.pool.specs.Shapes.{list_from, list_listed, listed_over}
 
 pub pick_true : (t u : Bool) → pick t u false ≡ true → (t ≡ true) × (u ≡ true)
 pick_true true u h = (refl, h)

@@ -19,6 +19,7 @@ use Rattle.rules.specs.Pool.{Pool, most_concepts, most_members, found_in, find, 
 use Rattle.rules.specs.Concept.{same_concept}
 use Rattle.rules.specs.Deck.{parts_of}
 use Rattle.rules.specs.Invariants.{Each}
+use Rattle.rules.specs.PoolLaws.{members_snoc}
 use Rattle.pool.specs.declared.record.Record.{Record}
 use Rattle.pool.specs.Layout.{members_at, run, count_of, concept_over, pool_of, plain, listed, starts_at, record_put, concept_put}
 use Rattle.pool.specs.Index.{record_hash, hash_by}
@@ -26,7 +27,7 @@ use Rattle.pool.specs.Held.{Held}
 use Rattle.pool.specs.Answers.{drawn, sized, after, shown, Interned, Added}
 use Rattle.pool.specs.Tabs.{run_part}
 use Rattle.pool.specs.Shapes.{count_plain, listed_over}
-use Rattle.pool.specs.HeldLaws.{pool_length, members_snoc}
+use Rattle.pool.specs.HeldLaws.{pool_length}
 use Rattle.pool.specs.PutLaws.{pool_put, held_put, frame_put}
 use Rattle.pool.proofs.Chain.{hash_over}
 

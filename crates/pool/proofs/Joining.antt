@@ -5,12 +5,12 @@ use mathlib.Core.List.{List, [], ◌∷◌}
 use Prim.{tt}
 use Prim.Native.Nat.{ℕ, zero, suc, ◌+◌, ◌-◌, ◌<◌, ◌≤◌}
 use native.Mathlib.Omega.{arith}
-use lib.ListN.{length, get_or, set, take, drop, replicate, length-replicate, get_or-replicate}
-use lib.Seq.{sets, take-set-le, drop-drop}
+use lib.ListN.{length, get_or, drop, replicate, length-replicate, get_or-replicate}
+use lib.Seq.{sets, drop-drop}
 use lib.Dec.{eqb}
 use Rattle.words.specs.Words.{words}
 use Rattle.words.specs.Laws.{length_words}
-use Rattle.words.specs.Runs.{get_d_sets_in}
+use Rattle.words.specs.Runs.{get_d_sets_in, take_sets, drop_sets}
 use Rattle.ir.specs.Pick.{pick}
 use Rattle.ir.specs.declared.counters.Counters.{Counters}
 use Rattle.ir.specs.Answer.{Answer}
@@ -23,14 +23,13 @@ use Rattle.rules.specs.Deck.{parts_of}
 use Rattle.rules.specs.Invariants.{Each}
 use Rattle.rules.specs.EachLaws.{each_append}
 use Rattle.rules.specs.JointLaws.{Joint, conj, disj, list_of, operand_of, mk_joint}
+use Rattle.rules.specs.TextLaws.{by_test}
 use Rattle.pool.specs.Layout.{pool_words, tab, run, record_words, is_list, concept_from, concept_at, pool_of, plain, listed}
 use Rattle.pool.specs.Held.{Held, Ready}
 use Rattle.pool.specs.Answers.{drawn, shown, Interned}
 use Rattle.pool.specs.Joints.{list_kind, identity_kind, annihilator_kind, identity_of, annihilator_of, operand_in}
 use Rattle.pool.specs.Marks.{is_marked, marked_ids, Outside, Beside, Flattened, Operands}
-use Rattle.pool.specs.Shapes.{by_test}
 use Rattle.pool.specs.HeldLaws.{pool_at, word_above, run_above}
-use Rattle.pool.specs.PutLaws.{drop_sets}
 use Rattle.pool.proofs.Interning.{sized_same}
 use Rattle.pool.proofs.Marking.{added_append, operand_is, outside_then, outside_below, outside_same, outside_held, marked_is}
 use Rattle.pool.proofs.Sorting.{filter_same, filter_below, sorted_ids}
@@ -84,10 +83,6 @@ collapsed_many unit list w i (suc zero) h k = absurd (k refl)
 collapsed_many unit list w i (suc (suc n)) h k = refl
 
 -- ---- clear marks
-pub take_sets : (vs l : List ℕ) (i n : ℕ) → n ≤ i → take n (sets l i vs) ≡ take n l
-take_sets [] l i n h = refl
-take_sets (a ∷ vs) l i n h = take_sets vs (set l i a) (suc i) n (omega arith) ∙ take-set-le n l i a h
-
 pub record Cleared (marks n : ℕ) (w w' : List ℕ) : Type 0 where
   pub zeros : (i : ℕ) → i < n → get_or w' (marks + i) 0 ≡ 0
   pub outside : Outside marks w w'

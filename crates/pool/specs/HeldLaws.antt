@@ -4,17 +4,17 @@ use Rattle.std.proofs.Common.{sym, ap, subst, ◌∙◌, zero-add, get_or-take, 
 use native.Mathlib.Omega.{arith}
 use Rattle.std.proofs.Math.ListN.{get_or}
 use Rattle.ir.specs.Pick.{pick}
-use Rattle.rules.specs.Concept.{Concept}
-use Rattle.rules.specs.Pool.{Pool, at, width, members}
+use Rattle.rules.specs.Pool.{at, width, members}
 use Rattle.rules.specs.Deck.{parts_of}
-use Rattle.rules.specs.PoolLaws.{grown_length, grown_at}
+use Rattle.rules.specs.PoolLaws.{grown_length, grown_at, members_snoc}
 use Rattle.rules.specs.Invariants.{Each, Grown}
+use Rattle.rules.specs.TextLaws.{by_test}
 use Rattle.pool.specs.declared.record.Record.{Record}
 use Rattle.pool.specs.Layout.{pool_words, members_at, heads_at, tab, run, field, record_words, record_at, is_list, count_of, concept_from, concept_over, concept_at, pool_of, plain, listed}
 use Rattle.pool.specs.Index.{hash_of, hash_at, last}
 use Rattle.pool.specs.Held.{Recorded, Held}
 use Rattle.pool.specs.Tabs.{length_tab, get_d_tab, tab_snoc, tab_same}
-use Rattle.pool.specs.Shapes.{by_test, count_plain, plain_kind, list_listed}
+use Rattle.pool.specs.Shapes.{count_plain, plain_kind, list_listed}
 
 -- ---- the pool of the words
 module _ (w : List ℕ) where
@@ -27,11 +27,6 @@ module _ (w : List ℕ) where
 
   pub pool_snoc : (n : ℕ) → pool_of w (suc n) ≡ pool_of w n ++ (concept_at w n ∷ [])
   pool_snoc n = tab_snoc (concept_at w) 0 n ∙ ap (λ (c : ℕ). pool_of w n ++ (concept_at w c ∷ [])) (zero-add n)
-
-pub members_snoc : (p : Pool) (e : Concept) → members (p ++ (e ∷ [])) ≡ members p + width e
-unfolding members
-members_snoc [] e = omega arith
-members_snoc (x ∷ p) e = omega (arith, members_snoc p e)
 
 pub members_next : (w : List ℕ) (c : ℕ) → members (pool_of w (suc c)) ≡ members (pool_of w c) + width (concept_at w c)
 members_next w c = ap members (pool_snoc w c) ∙ members_snoc (pool_of w c) (concept_at w c)

@@ -1,5 +1,5 @@
 -- A concept put behind the others: the pool is longer by it, and held again. Assumes nothing.
-use Rattle.std.specs.Prelude.{◌≡◌, refl, Bool, true, false, List, [], ◌∷◌, ◌++◌, ℕ, suc, ◌+◌, ◌*◌, ◌<◌, ◌≤◌, get_or, set, drop, eqb, ltb}
+use Rattle.std.specs.Prelude.{◌≡◌, refl, Bool, true, false, List, [], ◌∷◌, ◌++◌, ℕ, suc, ◌+◌, ◌*◌, ◌<◌, ◌≤◌, get_or, drop, eqb, ltb}
 use Rattle.std.proofs.Common.{sym, subst, ◌∙◌, arith, add-one, length-set, get_or-set_same, get_or-set_other, drop-set-lt, eqb-true, ltb-true, ltb-false}
 use Rattle.std.proofs.Math.Path.{ap}
 use Rattle.std.proofs.Math.Option.{none}
@@ -7,24 +7,20 @@ use Rattle.std.proofs.Math.ListN.{length}
 use Rattle.std.proofs.lemmas.List.Edits.{sets}
 use Rattle.std.proofs.Math.Seq.{length-sets}
 use Rattle.std.proofs.lemmas.Bool.{eqb-false}
-use Rattle.words.specs.Runs.{get_d_sets_after, get_d_sets_before, get_d_sets_in}
+use Rattle.words.specs.Runs.{get_d_sets_after, get_d_sets_before, get_d_sets_in, drop_sets}
 use Rattle.ir.specs.Pick.{pick}
 use Rattle.rules.specs.Concept.{Concept}
 use Rattle.rules.specs.Pool.{most_concepts, most_members, find, width, members}
 use Rattle.rules.specs.Deck.{parts_of}
 use Rattle.rules.specs.Invariants.{Each}
+use Rattle.rules.specs.TextLaws.{by_test}
 use Rattle.pool.specs.declared.record.Record.{Record}
 use Rattle.pool.specs.Layout.{pool_words, members_at, heads_at, tab, run, record_at, is_list, count_of, concept_from, concept_at, pool_of, plain, starts_at, listed, six_of, concept_put}
 use Rattle.pool.specs.Index.{hash_of, hash_at, last}
 use Rattle.pool.specs.Held.{Recorded, Held}
 use Rattle.pool.specs.Tabs.{run_is}
-use Rattle.pool.specs.Shapes.{by_test, plain_back, width_listed, count_plain, from_starts}
+use Rattle.pool.specs.Shapes.{plain_back, width_listed, count_plain, from_starts}
 use Rattle.pool.specs.HeldLaws.{pool_snoc, members_next, Same, pool_same, last_kept, recorded_same}
-
--- a run of stores below a place
-pub drop_sets : (vs l : List ℕ) (i n : ℕ) → i + length vs ≤ n → drop n (sets l i vs) ≡ drop n l
-drop_sets [] l i n h = refl
-drop_sets (a ∷ vs) l i n h = drop_sets vs (set l i a) (suc i) n (omega arith) ∙ drop-set-lt n l i a (omega arith)
 
 last_yes : (H : ℕ → ℕ) (n g : ℕ) → eqb (H n) g ≡ true → suc n ≡ last H (suc n) g
 unfolding last

@@ -6,12 +6,9 @@ use Rattle.ir.specs.Roles.{role_code_lem}
 use Rattle.rules.specs.Concept.{Concept}
 use Rattle.rules.specs.Concept.{Top, Bot, Atomic, Nominal, SelfRestriction, Not, And, Or, Some, All, Min, Max}
 use Rattle.rules.specs.Pool.{width}
+use Rattle.rules.specs.TextLaws.{by_test}
 use Rattle.pool.specs.declared.record.Record.{Record}
 use Rattle.pool.specs.Layout.{record_words, is_list, count_of, concept_from, plain, starts_at, listed, tab, run, concept_over}
-
-pub by_test : {P : Type 0} (b : Bool) → (b ≡ true → P) → (b ≡ false → P) → P
-by_test true f g = f refl
-by_test false f g = g refl
 
 -- a concept is made of its record and its list
 pub plain_back : (e : Concept) → concept_from (plain e) (listed e) ≡ e

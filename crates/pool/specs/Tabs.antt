@@ -2,7 +2,7 @@
 use Rattle.std.specs.Prelude.{◌≡◌, length, get_or, take, drop}
 use Rattle.std.proofs.Math.Path.{refl, ap}
 use Rattle.std.proofs.Common.{sym, ◌∙◌, drop-cons}
-use mathlib.Core.List.{List, [], ◌∷◌, ◌++◌}
+use mathlib.Core.List.{List, [], ◌∷◌, ◌++◌, map}
 use Prim.{tt}
 use Prim.Native.Nat.{ℕ, zero, suc, ◌+◌, ◌-◌, ◌<◌, ◌≤◌}
 use native.Mathlib.Omega.{arith}
@@ -73,6 +73,20 @@ tab_same f g i j (suc n) h =
     let d : j + suc k ≡ j + 1 + k = omega arith in
     ap f c ∙ h (suc k) (omega arith) ∙ ap g d) in
     cc
+
+-- a run in two
+pub tab_append : {A : Type 0} (f : ℕ → A) (i m n : ℕ) → tab f i (m + n) ≡ tab f i m ++ tab f (i + m) n
+unfolding tab
+tab_append f i zero n = let e : 0 + n ≡ n = omega arith in let d : i + 0 ≡ i = omega arith in rw (e, d) refl
+tab_append f i (suc m) n =
+    let e : suc m + n ≡ suc (m + n) = omega arith in
+    let d : i + 1 + m ≡ i + suc m = omega arith in
+    rw e (ap (λ (l : List _). f i ∷ l) (tab_append f (i + 1) m n ∙ ap (λ (j : ℕ). tab f (i + 1) m ++ tab f j n) d))
+
+pub map_tab : {A B : Type 0} (g : A → B) (f : ℕ → A) (i n : ℕ) → map g (tab f i n) ≡ tab (λ j. g (f j)) i n
+unfolding tab
+map_tab g f i zero = refl
+map_tab g f i (suc n) = ap (λ l. g (f i) ∷ l) (map_tab g f (i + 1) n)
 
 -- words as parts of a list
 pub run_part : (w : List ℕ) (i n : ℕ) → i + n ≤ length w → run w i n ≡ take n (drop i w)

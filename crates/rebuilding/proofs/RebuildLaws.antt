@@ -22,11 +22,12 @@ use Rattle.rules.specs.Concept.{Top, Bot, Atomic, Nominal, SelfRestriction, Not,
 use Rattle.rules.specs.Text.{most_number}
 use Rattle.rules.specs.Pool.{Pool, at, mk_top, mk_bot, mk_not, mk_some, mk_all, mk_min, mk_max, mk_and, mk_or}
 use Rattle.rules.specs.Invariants.{Each, Bounds, Bounded, Wf}
+use Rattle.rules.specs.TextLaws.{by_test}
 use Rattle.pool.specs.Layout.{pool_words, tab, run, field, is_list, concept_from, concept_at, pool_of, plain}
 use Rattle.pool.specs.Held.{Held}
 use Rattle.pool.specs.Answers.{sized, drawn, Interned}
 use Rattle.pool.specs.Marks.{Beside}
-use Rattle.pool.specs.Shapes.{by_test, list_kinds_lem}
+use Rattle.pool.specs.Shapes.{list_kinds_lem}
 use Rattle.pool.specs.HeldLaws.{pool_length, pool_at, record_kind, kind_range, concept_is}
 use Rattle.rebuilding.specs.Steps.{has_part, first, rebuilt}
 use Rattle.rebuilding.specs.States.{Rebuilding, Restricting}

@@ -1,5 +1,5 @@
 -- The axioms that the search reads. Assumes nothing.
-use Rattle.std.specs.Prelude.{◌≡◌, refl, true, List, [], ◌∷◌, map, ℕ, zero, suc, ◌+◌, ◌*◌, ◌-◌, ◌<◌, ◌≤◌, get_or}
+use Rattle.std.specs.Prelude.{◌≡◌, refl, true, List, [], ◌∷◌, map, ℕ, ◌+◌, ◌*◌, ◌-◌, ◌<◌, ◌≤◌, get_or}
 use Rattle.std.proofs.Common.{sym, ap, subst, ◌∙◌, arith, zero-add, eqb-true, leb-true}
 use Rattle.words.specs.Words.{words}
 use Rattle.ir.specs.Scratch.{axioms_at, numbers_at, lines_at}
@@ -11,7 +11,7 @@ use Rattle.rules.specs.State.{Env}
 use Rattle.rules.specs.Reflexive.{canon_id, declared_reflexive, edges_among, role_edges}
 use Rattle.deck.proofs.KindLaws.{axiom_kinds}
 use Rattle.pool.specs.Layout.{tab, run}
-use Rattle.pool.specs.Tabs.{tab_each, tab_same}
+use Rattle.pool.specs.Tabs.{tab_each, tab_same, map_tab}
 use Rattle.ontology.specs.Layout.{axiom_start, axiom_count, axiom_number, axiom_row, axiom_at}
 use Rattle.ontology.specs.Rows.{row_axiom, sub_role_is, equivalent_roles_is, reflexive_is}
 use Rattle.inverse.specs.Layout.{RolesHeld, Building}
@@ -40,11 +40,6 @@ unfolding axiom_of
 undeclared env set r =
     axiom_kinds (Undeclared env set r) (λ _. refl) (λ _. refl) (λ _. refl) (λ _. refl) (λ _. refl) (λ _. refl) (λ _. refl) (λ _. refl) (λ _. refl) (λ _. refl) (λ _. refl) (λ _. refl) (λ _. refl) (λ _. refl)
     (λ h. absurd (h refl)) (λ _. refl)
-
-map_tab : {A B : Type 0} (g : A → B) (f : ℕ → A) (i n : ℕ) → map g (tab f i n) ≡ tab (λ j. g (f j)) i n
-unfolding tab
-map_tab g f i zero = refl
-map_tab g f i (suc n) = ap (λ l. g (f i) ∷ l) (map_tab g f (i + 1) n)
 
 -- ---- the numbers of axiom i
 module _ (s : List ℕ) (n i : ℕ) (A : Building s n) (h : i < n) where

@@ -14,7 +14,7 @@ use Rattle.inverse.specs.Layout.{RolesHeld}
 use Rattle.inverse.specs.Laws.{even_named, odd_inverse, canon_inverse}
 use Rattle.reflexive.specs.Steps.{id_at}
 
-code_id : (r : Role) → role_code r / 2 ≡ role_id r
+pub code_id : (r : Role) → role_code r / 2 ≡ role_id r
 code_id (Named i) = omega arith
 code_id (Inverse i) = omega arith
 

@@ -1,14 +1,14 @@
 -- What encodeAntecedent does: it takes variables and nothing else, and its alternatives are within bounds, at most 64 of them
 -- and none too long to hold in hand. Also: the map of inverses names declared roles only.
-use Rattle.std.specs.Prelude.{◌≡◌, refl, Bool, false, ◌&&◌, length, leb, eqb}
+use Rattle.std.specs.Prelude.{◌≡◌, refl, Bool, false, length, leb, eqb}
 use Rattle.std.proofs.Common.{◌∙◌, not-suc-le-zero, le_trans}
 use Rattle.std.proofs.Math.Bool.{true}
-use Rattle.std.proofs.lemmas.Bool.{false≢true}
 use mathlib.Core.List.{List, [], ◌∷◌, ◌++◌, map}
 use Rattle.std.proofs.Math.Option.{Option, none, some}
 use Prim.Native.Nat.{ℕ, zero, suc, ◌+◌, ◌≤◌, ◌<◌}
 use native.Mathlib.Omega.{arith}
 use Rattle.std.proofs.lemmas.List.{length-map}
+use Rattle.std.specs.Cmp.{first_so, second_so}
 use borrow.Author.Tests.{leb-true}
 use Rattle.ir.specs.Pick.{pick}
 use Rattle.ir.specs.Roles.{role_id, is_inverse, flipped, flip_id}
@@ -120,23 +120,15 @@ pub encoded_trans : {B : Bounds} {s t u : Out} {o o₁ o₂ : Option Alternative
 encoded_trans X Y a = record { stepped = stepped_trans X.stepped Y.stepped; clauses = Y.clauses ∙ X.clauses; fresh = Y.fresh ∙ X.fresh; deferrals = Y.deferrals ∙ X.deferrals; alternatives = a }
 
 -- ---- lists of bodies
-and_left : (a b : Bool) → a && b ≡ true → a ≡ true
-and_left true b h = refl
-and_left false b h = h
-
-and_right : (a b : Bool) → a && b ≡ true → b ≡ true
-and_right true b h = h
-and_right false b h = absurd (false≢true h)
-
 each_before : (P : Atom → Type 0) (a : List Atom) (k : Alternatives) → Each P a → Each (Each P) k → Each (Each P) (map (λ b. a ++ b) k)
 each_before P a [] u v = tt
 each_before P a (b ∷ k) u v = (each_append P a b u v.0, each_before P a k u v.1)
 
-each_one : (P : Atom → Type 0) (a : Atom) (k : Alternatives) → P a → Each (Each P) k → Each (Each P) (map (λ b. a ∷ b) k)
+pub each_one : (P : Atom → Type 0) (a : Atom) (k : Alternatives) → P a → Each (Each P) k → Each (Each P) (map (λ b. a ∷ b) k)
 each_one P a [] u v = tt
 each_one P a (b ∷ k) u v = ((u, v.0), each_one P a k u v.1)
 
-each_cross : (P : Atom → Type 0) (l k : Alternatives) → Each (Each P) l → Each (Each P) k → Each (Each P) (cross l k)
+pub each_cross : (P : Atom → Type 0) (l k : Alternatives) → Each (Each P) l → Each (Each P) k → Each (Each P) (cross l k)
 unfolding cross
 each_cross P [] k u v = tt
 each_cross P (a ∷ l) k u v = each_append (Each P) (map (λ b. a ++ b) k) (cross l k) (each_before P a k u.0 v) (each_cross P l k u.1 v)
@@ -148,7 +140,7 @@ module _ (B : Bounds) where
   -- bodies that passed the test of their lengths
   held : (m u : ℕ) (l : Alternatives) → Each (Each (AtomIn B m u)) l → all in_hand l ≡ true → Each (AtomsIn B m u) l
   held m u [] h e = tt
-  held m u (b ∷ l) h e = (record { each = h.0; short = leb-true (length b) most_in_hand (and_left (in_hand b) (all in_hand l) e) }, held m u l h.1 (and_right (in_hand b) (all in_hand l) e))
+  held m u (b ∷ l) h e = (record { each = h.0; short = leb-true (length b) most_in_hand (first_so (in_hand b) (all in_hand l) e) }, held m u l h.1 (second_so (in_hand b) (all in_hand l) e))
 
   pub alternatives_more : {m n u v : ℕ} → m ≤ n → u ≤ v → (l : Alternatives) → AlternativesIn B m u l → AlternativesIn B n v l
   alternatives_more {m} {n} {u} {v} h k l A = record { bodies = each_map (AtomsIn B m u) (AtomsIn B n v) (λ b x. atoms_more h k x) l A.bodies; few = A.few }

@@ -10,6 +10,7 @@ use Prim.Native.Nat.{ℕ, zero, suc, ◌+◌, ◌*◌, ◌≤◌, ◌<◌}
 use native.Mathlib.Omega.{arith}
 use Rattle.std.proofs.Math.ListN.{length, length-append, length-map}
 use Rattle.std.proofs.Math.Dec.{leb}
+use Rattle.std.proofs.lemmas.Bool.{and_parts}
 use borrow.Author.Tests.{eqb-true, leb-true}
 use Rattle.ir.specs.Pick.{pick}
 use Rattle.ir.specs.declared.role.Role.{Role}
@@ -25,10 +26,9 @@ use Rattle.rules.specs.Ends.{NotZero, Ends, ends, stops, end, stop, ends_then, e
 use Rattle.rules.specs.EachLaws.{each_append, each_snoc, each_map, each_mapped, each_unit}
 use Rattle.rules.proofs.EmitLaws.{atom_more}
 use Rattle.rules.proofs.BoundLaws.{clauses_grow}
-use Rattle.rules.specs.Added.{both_true}
 
 -- ---- renumbering: a new number is at most the number of variables met before
-place_within : (met : List ℕ) (v : ℕ) → place_of met v ≤ length met
+pub place_within : (met : List ℕ) (v : ℕ) → place_of met v ≤ length met
 unfolding place_of
 place_within [] v = omega arith
 place_within (u ∷ met) v = go (eqb u v) (place_within met v)
@@ -37,7 +37,7 @@ place_within (u ∷ met) v = go (eqb u v) (place_within met v)
     go true h = omega arith
     go false h = omega arith
 
-met_within : (met : List ℕ) (v : ℕ) → length (met_with met v) ≤ length met + 1
+pub met_within : (met : List ℕ) (v : ℕ) → length (met_with met v) ≤ length met + 1
 met_within met v = go (contains met v)
   where
     go : (b : Bool) → length (pick b met (met ++ (v ∷ []))) ≤ length met + 1
@@ -65,7 +65,7 @@ filter_both p (x ∷ l) = go (p x) (filter_both p l)
     go true h = omega arith
     go false h = omega arith
 
-filter_each : {A : Type 0} (P : A → Type 0) (p : A → Bool) (l : List A) → Each P l → Each P (filter p l)
+pub filter_each : {A : Type 0} (P : A → Type 0) (p : A → Bool) (l : List A) → Each P l → Each P (filter p l)
 unfolding filter
 filter_each P p [] h = tt
 filter_each P p (x ∷ l) h = go (p x) (filter_each P p l h.1)
@@ -439,7 +439,7 @@ module _ (P : ℕ → Atom → Type 0) (R : ℕ → Type 0) (most : ℕ) where
           go : (b : Bool) → (eqb (length edge) 1 && not (mentions (root ∷ []) inner)) ≡ b → Ends (Split w (length group)) (split_below again group edge inner t b w)
           go false e = end (whole w group p q)
           go true e =
-              let one : length edge ≡ 1 = eqb-true (length edge) 1 (both_true (eqb (length edge) 1) (not (mentions (root ∷ []) inner)) e).0 in
+              let one : length edge ≡ 1 = eqb-true (length edge) 1 (and_parts (eqb (length edge) 1) (not (mentions (root ∷ []) inner)) e).0 in
               split_below_lem group edge inner t w (omega (arith, both)) (omega (arith, both)) m k p
               (filter_each (P w.next_fresh) (is_edge root t) group p) (filter_each (P w.next_fresh) (λ a. not (is_edge root t a)) group p) q
 
@@ -553,7 +553,7 @@ module _ (P : ℕ → Atom → Type 0) (R : ℕ → Type 0) (most : ℕ) where
         room r z a false e = stop 11
         room r z a true e =
             let l : List Clause = r.clauses ++ map branch_clause z.named in
-            let t = both_true (leb (length l) env.rooms.clauses) (leb (total l) env.rooms.atoms) e in
+            let t = and_parts (leb (length l) env.rooms.clauses) (leb (total l) env.rooms.atoms) e in
             let n = length-append r.clauses (map branch_clause z.named) in
             let m = length-map z.named branch_clause in
             let k = shorter_length a.to s.clauses a.shorter in

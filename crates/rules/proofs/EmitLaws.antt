@@ -23,7 +23,7 @@ for_each_lem J Q f h [] u s j = give j
 for_each_lem J Q f h (a ∷ l) u s j = post_then (h a s u.0 j) (λ _ t k. for_each_lem J Q f h l u.1 t k)
 
 -- ---- more classes and variables
-qualifier_more : {m n : ℕ} → m ≤ n → (q : Qualifier) → QualifierIn m q → QualifierIn n q
+pub qualifier_more : {m n : ℕ} → m ≤ n → (q : Qualifier) → QualifierIn m q → QualifierIn n q
 qualifier_more h None u = tt
 qualifier_more h (Some k) u = omega arith
 

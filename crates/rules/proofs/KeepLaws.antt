@@ -10,6 +10,7 @@ use Prim.Native.Nat.{ℕ, zero, suc, ◌+◌, ◌≤◌, ◌<◌}
 use Rattle.std.proofs.Common.{arith, ltb-true, leb-true}
 use Rattle.std.proofs.Math.ListN.{length}
 use Rattle.std.proofs.Math.Dec.{ltb, leb}
+use Rattle.std.proofs.lemmas.Bool.{and_parts}
 use Rattle.ir.specs.Pick.{pick}
 use Rattle.ir.specs.declared.role.Role.{Role}
 use Rattle.ir.specs.declared.atom.Atom.{Atom}
@@ -29,7 +30,6 @@ use Rattle.rules.specs.Post.{Post, post_every}
 use Rattle.rules.specs.Ends.{EndsBy, stops_by, end_by, by_then, by_post}
 use Rattle.rules.specs.EachLaws.{each_snoc, each_unit}
 use Rattle.rules.proofs.EmitLaws.{pushed, deferred, awaiting}
-use Rattle.rules.specs.Added.{both_true}
 
 -- kept by the small steps
 pub record Invariant (env : Env) (J : Out → Type 0) : Type 0 where
@@ -132,7 +132,7 @@ module _ (R : ℕ → Type 0) (others : (k : ℕ) → R (suc k)) (env : Env) (J 
           → EndsBy R (λ _ t. J t) (push_in (clause b h) s k)
       go s j false e = stops_by (others 11)
       go s j true e =
-          let q = both_true (ltb (length s.clauses) env.rooms.clauses) (leb (total s.clauses + length (b ++ h)) env.rooms.atoms) e in
+          let q = and_parts (ltb (length s.clauses) env.rooms.clauses) (leb (total s.clauses + length (b ++ h)) env.rooms.atoms) e in
           end_by (I.pushes s b h (ltb-true (length s.clauses) env.rooms.clauses q.0) (leb-true (total s.clauses + length (b ++ h)) env.rooms.atoms q.1) j)
 
   pub keeps_defer : (k : Deferral) → Keeps R J (defer env k)
@@ -264,7 +264,7 @@ module _ (R : ℕ → Type 0) (others : (k : ℕ) → R (suc k)) (env : Env) (J 
       keeps_await c h b = record { run = λ s j. go s j (env.equal_names && b) refl }
         where
           go : (s : Out) → J s → (k : Bool) → (env.equal_names && b) ≡ k → EndsBy R (λ (_ : Unit {0}) t. J t) (ok tt (with_limits (pick k (s.limits ++ (record { filler = c; name = s.next_fresh } ∷ [])) s.limits) s))
-          go s j true e = end_by (awaits c h (both_true env.equal_names b e).0 s j)
+          go s j true e = end_by (awaits c h (and_parts env.equal_names b e).0 s j)
           go s j false e = end_by j
 
       keeps_limit : (c : ℕ) → P c → Keeps R J (limit_qualifier env pool emit c)

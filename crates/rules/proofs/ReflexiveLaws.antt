@@ -2,10 +2,10 @@
 -- Each is first stated over any property of clauses that one step keeps. The set of reflexive roles is the least that holds
 -- the declared ones and is closed under the edges. Assumes nothing.
 use Rattle.std.specs.Prelude.{◌≡◌, Bool, ◌||◌, not, length}
-use Rattle.std.proofs.Math.Path.{refl, sym}
+use Rattle.std.proofs.Math.Path.{refl, sym, ap₂}
 use Rattle.std.proofs.Common.{ap, ◌∙◌, subst, length-append, eqb-true, eq-eqb, ltb-true}
-use Rattle.std.proofs.Math.Bool.{true, false, or-true}
-use Rattle.std.proofs.lemmas.Bool.{false≢true, eqb-false}
+use Rattle.std.proofs.Math.Bool.{true, false}
+use Rattle.std.proofs.lemmas.Bool.{false≢true, eqb-false, or_left, or_right, or_parts, and_parts}
 use mathlib.Core.List.{List, [], ◌∷◌, ◌++◌, append_assoc, Memᴰ}
 use Prim.Native.Nat.{ℕ, zero, suc, ◌+◌, ◌≤◌, ◌<◌}
 use native.Mathlib.Omega.{arith}
@@ -19,9 +19,11 @@ use Rattle.ir.specs.declared.atom.Atom.{Atom}
 use Rattle.ir.specs.declared.atom.Atom.TheVariants.{Class, Exists, AtMost, AtLeast, Equal, Role as RoleAtom}
 use Rattle.ir.specs.Qualifiers.{Qualifier}
 use Rattle.ir.specs.declared.deferral.Deferral.TheVariants.{ReflexiveDerivedCap}
+use Rattle.ir.specs.RecordLaws.{same_atom_lem}
+use Rattle.ir.specs.Records.{same_atom}
 use Rattle.rules.specs.Base.{ok, then, any, contains}
 use Rattle.rules.specs.State.{Env, Out, E, Clause, clause, with, longer, most_in_hand}
-use Rattle.rules.specs.Reflexive.{inserted, canon_id, declared_reflexive, reflexive_from, all_edges, round, settled, closed, reflexive_role_ids, Derived, Unfolded, more, capped, reflexive_derived_cap, is_reflexive, kept_var, dropped_var, contracted, is_trivial, contains_clause, queued, derive, derive_new, contract, go_on, unfold_role, unfold_at, unfold_body, finish, popped, unfold_by, stacked, apply_reflexive_roles, max_var, atoms_vars, next_var_of, loop_kept, loop_over, loop_of, loops_of_head, self_loops, add_counted_self_loops}
+use Rattle.rules.specs.Reflexive.{inserted, canon_id, declared_reflexive, reflexive_from, all_edges, round, settled, closed, reflexive_role_ids, Derived, Unfolded, more, capped, reflexive_derived_cap, is_reflexive, kept_var, dropped_var, contracted, is_trivial, contains_clause, queued, derive, derive_new, contract, go_on, unfold_role, unfold_at, unfold_body, finish, popped, unfold_by, stacked, apply_reflexive_roles, max_var, atoms_vars, next_var_of, loop_kept, loop_over, loop_of, loops_of_head, self_loops, add_counted_self_loops, same_atoms}
 use Rattle.rules.specs.Concept.{Axiom}
 use Rattle.rules.specs.Concept.{SubClassOf, EquivalentClasses, DisjointClasses, DisjointUnion, ObjectPropertyDomain, ObjectPropertyRange, SubChain, TransitiveRole, IrreflexiveRole, AsymmetricRole, DisjointObjectProperties, InverseObjectProperties, SubObjectPropertyOf, EquivalentObjectProperties, ReflexiveRole, ClassAssertion}
 use Rattle.rules.specs.Stats.{one}
@@ -300,6 +302,14 @@ pub loops_post : (env : Env) (set : List ℕ) (B : Bounds) (vars : ℕ) (s : Out
     → Post (λ _ t. Added env (ClauseIn B s.next_fresh (vars + 1)) s t) (add_counted_self_loops env set s)
 loops_post env set B vars s h = ends_post (loops_in env set B s.next_fresh vars s h)
 
+-- ---- lists of atoms that are compared
+pub same_atoms_lem : (l m : List Atom) → same_atoms l m ≡ true → l ≡ m
+unfolding same_atoms
+same_atoms_lem [] [] h = refl
+same_atoms_lem [] (b ∷ m) h = absurd (false≢true h)
+same_atoms_lem (a ∷ l) [] h = absurd (false≢true h)
+same_atoms_lem (a ∷ l) (b ∷ m) h = let g = and_parts (same_atom a b) (same_atoms l m) h in ap₂ (λ x k. x ∷ k) (same_atom_lem a b g.0) (same_atoms_lem l m g.1)
+
 -- ---- the set of reflexive roles
 abbrev Has : List ℕ → ℕ → Type 0
 Has set n = contains set n ≡ true
@@ -307,16 +317,6 @@ Has set n = contains set n ≡ true
 -- every element of the one is in the other
 abbrev Within : List ℕ → List ℕ → Type 0
 Within k l = (n : ℕ) → Has k n → Has l n
-
-or_left : (a b : Bool) → a ≡ true → a || b ≡ true
-or_left a b h = rw h
-
-or_right : (a b : Bool) → b ≡ true → a || b ≡ true
-or_right a b h = rw h (or-true a)
-
-or_false_right : (a b : Bool) → a || b ≡ false → b ≡ false
-or_false_right true b h = absurd (false≢true (sym h))
-or_false_right false b h = h
 
 or_cases : (a b : Bool) (C : Type 0) → a || b ≡ true → (a ≡ true → C) → (b ≡ true → C) → C
 or_cases true b C h f g = f refl
@@ -423,7 +423,7 @@ rounded (e ∷ l) set = from (contains set e.0) (contains set e.1) refl (rounded
       added = r.added ++ (e.1 ∷ []);
       grown = r.grown ∙ sym (append_assoc r.added (e.1 ∷ []) set);
       new = each_snoc (λ n. (contains set n ≡ false) × (ends_at (e ∷ l) n ≡ true)) r.added e.1
-          (each_map (λ n. (contains (e.1 ∷ set) n ≡ false) × (ends_at l n ≡ true)) (λ n. (contains set n ≡ false) × (ends_at (e ∷ l) n ≡ true)) (λ n k. (or_false_right (eqb n e.1) (contains set n) k.0, or_right (eqb n e.1) (ends_at l n) k.1)) r.added r.new)
+          (each_map (λ n. (contains (e.1 ∷ set) n ≡ false) × (ends_at l n ≡ true)) (λ n. (contains set n ≡ false) × (ends_at (e ∷ l) n ≡ true)) (λ n k. ((or_parts (eqb n e.1) (contains set n) k.0).1, or_right (eqb n e.1) (ends_at l n) k.1)) r.added r.new)
           (h, or_left (eqb e.1 e.1) (ends_at l e.1) (eq-eqb e.1 e.1 refl));
     }
 

@@ -7,6 +7,7 @@ use Rattle.std.proofs.Common.{ap, subst, leb-true}
 use Rattle.std.proofs.Math.Option.{some}
 use native.Mathlib.Omega.{arith}
 use Rattle.std.proofs.lemmas.List.{length-replicate}
+use Rattle.std.proofs.lemmas.Bool.{and_parts}
 use Rattle.words.specs.Words.{words}
 use Rattle.words.specs.Laws.{Bytes}
 use Rattle.words.specs.Bytes.{Words}
@@ -28,7 +29,6 @@ use Rattle.rules.specs.LinedEnds.{LinedEnds, closes, halts, lined_ends, lined_en
 use Rattle.rules.specs.Invariants.{Each, ClauseIn}
 use Rattle.rules.specs.EachLaws.{each_map, each_append}
 use Rattle.rules.proofs.BoundLaws.{clauses_grow}
-use Rattle.rules.specs.Added.{both_true}
 use Rattle.rules.proofs.NormalizeLaws.{AxiomsMade}
 use Rattle.rules.proofs.AntecedentLaws.{canon_in}
 use Rattle.rules.proofs.LateLaws.{late_in}
@@ -155,13 +155,13 @@ sizes_ok_lem t e =
     let x = table_ok clause_words most_clauses t.clauses in
     let y = table_ok atom_words most_atoms t.atoms in
     let z = table_ok deferral_words most_deferrals t.deferrals in
-    let f = both_true (x && y && z) (leb scratch_bytes t.scratch) e in
-    let g = both_true (x && y) z f.0 in
-    let h = both_true x y g.0 in
+    let f = and_parts (x && y && z) (leb scratch_bytes t.scratch) e in
+    let g = and_parts (x && y) z f.0 in
+    let h = and_parts x y g.0 in
     record {
-      clauses = leb-true (t.clauses / 12) most_clauses (both_true (eqb (t.clauses % 12) 0) (leb (t.clauses / 12) most_clauses) h.0).1;
-      atoms = leb-true (t.atoms / 24) most_atoms (both_true (eqb (t.atoms % 24) 0) (leb (t.atoms / 24) most_atoms) h.1).1;
-      deferrals = leb-true (t.deferrals / 8) most_deferrals (both_true (eqb (t.deferrals % 8) 0) (leb (t.deferrals / 8) most_deferrals) g.1).1;
+      clauses = leb-true (t.clauses / 12) most_clauses (and_parts (eqb (t.clauses % 12) 0) (leb (t.clauses / 12) most_clauses) h.0).1;
+      atoms = leb-true (t.atoms / 24) most_atoms (and_parts (eqb (t.atoms % 24) 0) (leb (t.atoms / 24) most_atoms) h.1).1;
+      deferrals = leb-true (t.deferrals / 8) most_deferrals (and_parts (eqb (t.deferrals % 8) 0) (leb (t.deferrals / 8) most_deferrals) g.1).1;
       scratch = leb-true scratch_bytes t.scratch f.1;
     }
 

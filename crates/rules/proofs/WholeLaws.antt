@@ -6,6 +6,7 @@ use Rattle.std.proofs.Common.{sym, ◌∙◌}
 use Rattle.std.proofs.lemmas.Bool.{false≢true}
 use mathlib.Core.List.{List, [], ◌∷◌, ◌++◌}
 use Rattle.std.proofs.Math.Option.{Option, none, some}
+use Rattle.std.proofs.Math.Bool.{and-false}
 use Rattle.ir.specs.Options.{equal_names}
 use Rattle.ir.specs.Roles.{role_code}
 use Rattle.ir.specs.declared.atom.Atom.{Atom}
@@ -241,11 +242,7 @@ whole_alone env a z off e = go ((axiom_leaves env a off).run z)
 
 -- ---- without option 4
 names_none : (a : Axiom) (b : Bool) → b ≡ false → (names_limits a && b) ≡ false
-names_none a b e = rw e (go (names_limits a))
-  where
-    go : (c : Bool) → (c && false) ≡ false
-    go true = refl
-    go false = refl
+names_none a b e = rw e (and-false (names_limits a))
 
 -- an at-most's filler is named as every other
 pub limit_alone : (env : Env) (pool : Pool) (emit : Emits) (c : ℕ) (s : Out) → env.equal_names ≡ false → limit_qualifier env pool emit c s ≡ cardinality_qualifier env pool emit c s

@@ -4,7 +4,7 @@ use Rattle.std.specs.Prelude.{◌≡◌, Bool, ◌&&◌, ℕ, ◌+◌, ◌≤◌
 use Rattle.std.proofs.Math.Path.{refl, sym}
 use Rattle.std.proofs.Common.{ap, ◌∙◌}
 use Rattle.std.proofs.Math.Bool.{true, false}
-use Rattle.std.proofs.lemmas.Bool.{false≢true}
+use Rattle.std.proofs.lemmas.Bool.{and_parts}
 use mathlib.Core.List.{List, [], ◌∷◌, ◌++◌, append-nil, append_assoc}
 use native.Mathlib.Omega.{arith}
 use Rattle.std.proofs.Math.ListN.{length, length-append}
@@ -22,11 +22,6 @@ pub total_append : (k l : List Clause) → total (k ++ l) ≡ total k + total l
 unfolding total
 total_append [] l = omega arith
 total_append (c ∷ k) l = let h = total_append k l in omega arith
-
--- both of two tests
-pub both_true : (a b : Bool) → a && b ≡ true → (a ≡ true) × (b ≡ true)
-both_true true b h = (refl, h)
-both_true false b h = absurd (false≢true h)
 
 -- the tables hold what stands in the state
 pub record Roomy (env : Env) (s : Out) : Type 0 where
@@ -92,7 +87,7 @@ module _ (env : Env) (P : Clause → Type 0) where
           → Ends (λ _ t. Added env P s t) (push_in (clause b h) s k)
       go false e = stop 11
       go true e =
-          let q = both_true (ltb (length s.clauses) env.rooms.clauses) (leb (total s.clauses + length (b ++ h)) env.rooms.atoms) e in
+          let q = and_parts (ltb (length s.clauses) env.rooms.clauses) (leb (total s.clauses + length (b ++ h)) env.rooms.atoms) e in
           let x = ltb-true (length s.clauses) env.rooms.clauses q.0 in
           let y = leb-true (total s.clauses + length (b ++ h)) env.rooms.atoms q.1 in
           let z = total_append s.clauses (clause b h ∷ []) in

@@ -1,9 +1,9 @@
 -- What holds of a deck that was read: its concepts and axioms name what is declared and what comes before them, within the
 -- limits; and of a refusal: its number is one of 2 to 9, and its line is a line of the deck. Assumes nothing.
-use Rattle.std.specs.Prelude.{◌≡◌, refl, Bool, true, false, ◌&&◌, ◌||◌, eqb, ltb, leb}
-use Rattle.std.proofs.Common.{sym, ap₂, subst, ◌∙◌, true≢false, length-drop}
+use Rattle.std.specs.Prelude.{◌≡◌, refl, Bool, true, false, ◌&&◌, eqb, ltb, leb}
+use Rattle.std.proofs.Common.{sym, ap₂, subst, ◌∙◌, length-drop}
 use Rattle.std.proofs.Math.Path.{ap}
-use Rattle.std.proofs.lemmas.Bool.{false≢true}
+use Rattle.std.proofs.lemmas.Bool.{false≢true, and_parts, or_parts}
 use mathlib.Core.List.{List, [], ◌∷◌, ◌++◌, map}
 use Prim.Native.Nat.{ℕ, zero, suc, ◌+◌, ◌*◌, ◌/◌, ◌<◌, ◌≤◌}
 use native.Mathlib.Omega.{arith}
@@ -22,25 +22,23 @@ use Rattle.rules.specs.Concept.{SubClassOf, EquivalentClasses, DisjointClasses, 
 use Rattle.rules.specs.Pool.{Pool, at, width, members}
 use Rattle.rules.specs.Deck.{most_bytes, most_classes, most_individuals, most_roles, most_options, most_listed, most_concept_lines, most_axioms, most_depth, sections, section_of, list_of, role_at, concept_of, axiom_of, Header, header_of, Known, known, in_order, fields_ok, shape_ok, header_ok, room_ok, limits_ok, role_ok, concept_names_ok, axiom_names_ok, names_ok, parts_of, deepest, depth_of, nest_ok, rising, Member, member_of, under_and, under_or, list_ok, members_ok, bound_ok, concept_verdict, verdict, entered, Told, fine, refused, on_verdict, on_row, read_by, nothing, read_lines, read_deck}
 use Rattle.rules.specs.Invariants.{Each, Bounds, RoleIn, Bounded, Wf, InAnd, InOr, RisingFrom, TwoRising, AxiomIn}
-use Rattle.rules.specs.TextLaws.{and_true, by_test, pick_by, each_get_d, lines_of, RowRead, Reads, row_reads}
+use Rattle.rules.specs.TextLaws.{by_test, pick_by, each_get_d, lines_of, RowRead, Reads, row_reads}
 use Rattle.rules.specs.EachLaws.{each_map, each_both, each_append}
+use Rattle.rules.specs.PoolLaws.{members_snoc}
+use Rattle.rules.specs.DepthLaws.{parts_below}
 
 -- ---- tests and lists
 pub all_each : {A : Type 0} (p : A → Bool) (P : A → Type 0) → ((a : A) → p a ≡ true → P a) → (l : List A) → all p l ≡ true → Each P l
 all_each p P f [] h = tt
-all_each p P f (x ∷ l) h = let g = and_true (p x) (all p l) h in (f x g.0, all_each p P f l g.1)
-
-pub or_false : (a b : Bool) → (a || b) ≡ false → (a ≡ false) × (b ≡ false)
-or_false true b h = absurd (true≢false h)
-or_false false b h = (refl, h)
+all_each p P f (x ∷ l) h = let g = and_parts (p x) (all p l) h in (f x g.0, all_each p P f l g.1)
 
 pub any_false : {A : Type 0} (p : A → Bool) (d : A) (l : List A) → any p l ≡ false → (i : ℕ) → i < length l → p (get_or l i d) ≡ false
 any_false p d [] h i g = absurd (omega arith)
-any_false p d (x ∷ l) h zero g = (or_false (p x) (any p l) h).0
-any_false p d (x ∷ l) h (suc i) g = any_false p d l (or_false (p x) (any p l) h).1 i (omega arith)
+any_false p d (x ∷ l) h zero g = (or_parts (p x) (any p l) h).0
+any_false p d (x ∷ l) h (suc i) g = any_false p d l (or_parts (p x) (any p l) h).1 i (omega arith)
 
 -- ---- sameness goes both ways
-same_eqb : (x y : ℕ) → eqb x y ≡ eqb y x
+pub same_eqb : (x y : ℕ) → eqb x y ≡ eqb y x
 same_eqb x y = by_test (eqb x y) (λ e. e ∙ sym (eq-eqb y x (sym (eqb-true x y e)))) (λ e. e ∙ sym (ne_eqb y x (λ q. eqb-false x y e (sym q))))
 
 pub same_words_sym : (l m : List ℕ) → same_words l m ≡ same_words m l
@@ -92,7 +90,7 @@ concept_zero s e h =
     let b = pick_zero (members_ok s.concepts e) y 7 (omega arith) a.1 in
     let c = pick_not (any (same_concept e) s.concepts) x 8 (omega arith) b.1 in
     let d = pick_zero (bound_ok e) 0 9 (omega arith) c.1 in
-    let n = and_true (all (λ c. ltb c (length s.concepts)) (parts_of e)) (leb (depth_of s.depths e) most_depth) a.0 in
+    let n = and_parts (all (λ c. ltb c (length s.concepts)) (parts_of e)) (leb (depth_of s.depths e) most_depth) a.0 in
     record {
       below = all_each (λ c. ltb c (length s.concepts)) (λ c. c < length s.concepts) (λ c q. ltb-true c (length s.concepts) q) (parts_of e) n.0;
       depth = leb-true (depth_of s.depths e) most_depth n.1;
@@ -264,25 +262,11 @@ bounded h n (All r c) v p s b = (ltb-true (role_id r) h.roles v, p.0)
 bounded h n (Min k r c) v p s b = (s, ltb-true (role_id r) h.roles v, p.0)
 bounded h n (Max k r c) v p s b = (ltb-true k most_number b, ltb-true (role_id r) h.roles v, p.0)
 
-pub parts_below : (B : Bounds) (n m : ℕ) (e : Concept) → n ≤ m → Bounded B n e → Each (λ c. c < m) (parts_of e)
-parts_below B n m Top l h = tt
-parts_below B n m Bot l h = tt
-parts_below B n m (Atomic a) l h = tt
-parts_below B n m (Nominal i) l h = tt
-parts_below B n m (SelfRestriction r) l h = tt
-parts_below B n m (Not c) l h = (omega arith, tt)
-parts_below B n m (And k) l h = each_map (λ c. c < n) (λ c. c < m) (λ c q. omega arith) k h
-parts_below B n m (Or k) l h = each_map (λ c. c < n) (λ c. c < m) (λ c q. omega arith) k h
-parts_below B n m (Some r c) l h = (omega arith, tt)
-parts_below B n m (All r c) l h = (omega arith, tt)
-parts_below B n m (Min k r c) l h = (omega arith, tt)
-parts_below B n m (Max k r c) l h = (omega arith, tt)
-
 -- lists
 rising_from : (x : ℕ) (l : List ℕ) → rising (x ∷ l) ≡ true → RisingFrom x l
 unfolding rising
 rising_from x [] h = tt
-rising_from x (y ∷ l) h = let g = and_true (ltb x y) (rising (y ∷ l)) h in (ltb-true x y g.0, rising_from y l g.1)
+rising_from x (y ∷ l) h = let g = and_parts (ltb x y) (rising (y ∷ l)) h in (ltb-true x y g.0, rising_from y l g.1)
 
 two_rising : (l : List ℕ) → 2 ≤ length l → rising l ≡ true → TwoRising l
 two_rising [] n h = absurd (omega arith)
@@ -325,8 +309,8 @@ in_or (Max _ _ _) h = tt
 list_ok_lem : (p : Pool) (f : Member → Bool) (P : Concept → Type 0) → ((e : Concept) → f (member_of e) ≡ true → P e) → (l : List ℕ) → length l ≤ most_listed → list_ok p f l ≡ true
     → TwoRising l × (length l ≤ most_listed) × Each (λ c. P (at p c)) l
 list_ok_lem p f P g l n h =
-    let a = and_true (leb 2 (length l) && rising l) (all (λ c. f (member_of (at p c))) l) h in
-    let b = and_true (leb 2 (length l)) (rising l) a.0 in
+    let a = and_parts (leb 2 (length l) && rising l) (all (λ c. f (member_of (at p c))) l) h in
+    let b = and_parts (leb 2 (length l)) (rising l) a.0 in
     (two_rising l (leb-true 2 (length l) b.0) b.1, n, all_each (λ c. f (member_of (at p c))) (λ c. P (at p c)) (λ c q. g (at p c) q) l a.1)
 
 list_in : (p : Pool) (e : Concept) → width e ≤ most_listed → members_ok p e ≡ true → ListIn p e
@@ -344,11 +328,6 @@ list_in p (Min _ _ _) w h = tt
 list_in p (Max _ _ _) w h = tt
 
 -- ---- one concept more
-members_more : (p : Pool) (e : Concept) → members (p ++ (e ∷ [])) ≡ members p + width e
-unfolding members
-members_more [] e = omega arith
-members_more (x ∷ p) e = omega (arith, members_more p e)
-
 module _ (p : Pool) (e : Concept) where
   at_old : (c : ℕ) → c < length p → at (p ++ (e ∷ [])) c ≡ at p c
   at_old c h = get_or-append p (e ∷ []) Top c h
@@ -430,26 +409,26 @@ module _ (ds : List ℕ) where
 
 -- ---- an axiom line
 axiom_in : (h : Header) (n : ℕ) (a : Axiom) → axiom_names_ok h n a ≡ true → AxiomIn (bounds_in h) n a
-axiom_in h n (SubClassOf sub sup) v = let g = and_true (ltb sub n) (ltb sup n) v in (ltb-true sub n g.0, ltb-true sup n g.1)
+axiom_in h n (SubClassOf sub sup) v = let g = and_parts (ltb sub n) (ltb sup n) v in (ltb-true sub n g.0, ltb-true sup n g.1)
 axiom_in h n (EquivalentClasses l) v = all_each (λ c. ltb c n) (λ c. c < n) (λ c. ltb-true c n) l v
 axiom_in h n (DisjointClasses l) v = all_each (λ c. ltb c n) (λ c. c < n) (λ c. ltb-true c n) l v
 axiom_in h n (DisjointUnion a l) v =
-    let g = and_true (ltb a h.classes) (all (λ c. ltb c n) l) v in
+    let g = and_parts (ltb a h.classes) (all (λ c. ltb c n) l) v in
     (ltb-true a h.classes g.0, all_each (λ c. ltb c n) (λ c. c < n) (λ c. ltb-true c n) l g.1)
-axiom_in h n (ObjectPropertyDomain r c) v = let g = and_true (role_ok h r) (ltb c n) v in (ltb-true (role_id r) h.roles g.0, ltb-true c n g.1)
-axiom_in h n (ObjectPropertyRange r c) v = let g = and_true (role_ok h r) (ltb c n) v in (ltb-true (role_id r) h.roles g.0, ltb-true c n g.1)
+axiom_in h n (ObjectPropertyDomain r c) v = let g = and_parts (role_ok h r) (ltb c n) v in (ltb-true (role_id r) h.roles g.0, ltb-true c n g.1)
+axiom_in h n (ObjectPropertyRange r c) v = let g = and_parts (role_ok h r) (ltb c n) v in (ltb-true (role_id r) h.roles g.0, ltb-true c n g.1)
 axiom_in h n (SubChain sup parts) v =
-    let g = and_true (role_ok h sup) (all (role_ok h) parts) v in
+    let g = and_parts (role_ok h sup) (all (role_ok h) parts) v in
     (ltb-true (role_id sup) h.roles g.0, all_each (role_ok h) (RoleIn (bounds_in h)) (λ r. ltb-true (role_id r) h.roles) parts g.1)
 axiom_in h n (TransitiveRole r) v = ltb-true (role_id r) h.roles v
 axiom_in h n (IrreflexiveRole r) v = ltb-true (role_id r) h.roles v
 axiom_in h n (AsymmetricRole r) v = ltb-true (role_id r) h.roles v
 axiom_in h n (DisjointObjectProperties l) v = all_each (role_ok h) (RoleIn (bounds_in h)) (λ r. ltb-true (role_id r) h.roles) l v
-axiom_in h n (InverseObjectProperties r s) v = let g = and_true (role_ok h r) (role_ok h s) v in (ltb-true (role_id r) h.roles g.0, ltb-true (role_id s) h.roles g.1)
-axiom_in h n (SubObjectPropertyOf r s) v = let g = and_true (role_ok h r) (role_ok h s) v in (ltb-true (role_id r) h.roles g.0, ltb-true (role_id s) h.roles g.1)
+axiom_in h n (InverseObjectProperties r s) v = let g = and_parts (role_ok h r) (role_ok h s) v in (ltb-true (role_id r) h.roles g.0, ltb-true (role_id s) h.roles g.1)
+axiom_in h n (SubObjectPropertyOf r s) v = let g = and_parts (role_ok h r) (role_ok h s) v in (ltb-true (role_id r) h.roles g.0, ltb-true (role_id s) h.roles g.1)
 axiom_in h n (EquivalentObjectProperties l) v = all_each (role_ok h) (RoleIn (bounds_in h)) (λ r. ltb-true (role_id r) h.roles) l v
 axiom_in h n (ReflexiveRole r) v = ltb-true (role_id r) h.roles v
-axiom_in h n (ClassAssertion c i) v = let g = and_true (ltb c n) (ltb i h.individuals) v in (ltb-true c n g.0, ltb-true i h.individuals g.1)
+axiom_in h n (ClassAssertion c i) v = let g = and_parts (ltb c n) (ltb i h.individuals) v in (ltb-true c n g.0, ltb-true i h.individuals g.1)
 
 record AxiomFrom (r : List ℕ) (a : Axiom) : Type 0 where
   narrow : axiom_width a < length r
@@ -552,21 +531,21 @@ header_ok_lem h e =
     let a : Bool = leb h.classes most_classes in
     let b : Bool = leb h.individuals most_individuals in
     let c : Bool = leb h.roles most_roles in
-    let x = and_true (a && b && c) (leb h.options most_options) e in
-    let y = and_true (a && b) c x.0 in
-    let z = and_true a b y.0 in
+    let x = and_parts (a && b && c) (leb h.options most_options) e in
+    let y = and_parts (a && b) c x.0 in
+    let z = and_parts a b y.0 in
     (leb-true h.classes most_classes z.0, leb-true h.individuals most_individuals z.1, leb-true h.roles most_roles y.1, leb-true h.options most_options x.1)
 
 -- ---- a good line keeps all that is known
 module _ (n : ℕ) (s : Known) (k : ℕ) (r : List ℕ) (K : KnownAt n s) (N : Each (λ i. i ≤ most_number) r) (some : 0 < length r) (T : Passed s k r) (most : n + 11 * length r + 1 ≤ most_bytes) where
   order_is : (i : ℕ) → section_of k ≡ i → in_order s.section i ≡ true
-  order_is i e = subst (λ (j : ℕ). in_order s.section j ≡ true) e (and_true (in_order s.section (section_of k)) (fields_ok k (length r)) T.shape).0
+  order_is i e = subst (λ (j : ℕ). in_order s.section j ≡ true) e (and_parts (in_order s.section (section_of k)) (fields_ok k (length r)) T.shape).0
 
   room_is : (i : ℕ) → section_of k ≡ i → room_in s r i ≡ true
-  room_is i e = subst (λ (j : ℕ). room_in s r j ≡ true) e (and_true (leb (length (list_of k r)) most_listed) (room_ok s k r) T.limits).1
+  room_is i e = subst (λ (j : ℕ). room_in s r j ≡ true) e (and_parts (leb (length (list_of k r)) most_listed) (room_ok s k r) T.limits).1
 
   listed : length (list_of k r) ≤ most_listed
-  listed = leb-true (length (list_of k r)) most_listed (and_true (leb (length (list_of k r)) most_listed) (room_ok s k r) T.limits).0
+  listed = leb-true (length (list_of k r)) most_listed (and_parts (leb (length (list_of k r)) most_listed) (room_ok s k r) T.limits).0
 
   names_is : (i : ℕ) → section_of k ≡ i → names_in s k r i ≡ true
   names_is i e = subst (λ (j : ℕ). names_in s k r j ≡ true) e T.names
@@ -608,7 +587,7 @@ module _ (n : ℕ) (s : Known) (k : ℕ) (r : List ℕ) (K : KnownAt n s) (N : E
   enter_key : section_of k ≡ 2 → KnownAt (n + 11 * length r + 1) (entered s k r)
   unfolding entered
   enter_key e =
-      let o = and_true (leb 1 s.section) (leb s.section 2) (order_is 2 e) in
+      let o = and_parts (leb 1 s.section) (leb s.section 2) (order_is 2 e) in
       let m = leb-true s.section 2 o.1 in
       let D = K.in_deck in
       let x : ℕ = get_or r 1 0 in
@@ -677,15 +656,15 @@ module _ (n : ℕ) (s : Known) (k : ℕ) (r : List ℕ) (K : KnownAt n s) (N : E
       let D = K.in_deck in
       let p : Pool = s.concepts in
       let x : Concept = concept_of k r in
-      let o = and_true (leb 1 s.section) (leb s.section 3) (order_is 3 e) in
+      let o = and_parts (leb 1 s.section) (leb s.section 3) (order_is 3 e) in
       let m = leb-true s.section 3 o.1 in
       let c : s.axioms ≡ [] = K.no_axioms (omega arith) in
       let C = concept_zero s x (T.concept e) in
       let F = from_row k r N some listed in
       let B = bounded s.header (length p) x (names_is 3 e) C.below F.small C.bound in
-      let below : (i : ℕ) → i < length p → Each (λ a. a < length p) (parts_of (at p i)) = λ i h. parts_below (bounds_of s) i (length p) (at p i) (omega arith) (D.wf i h) in
+      let below : (i : ℕ) → i < length p → Each (λ a. a < length p) (parts_of (at p i)) = λ i h. each_map (λ c. c < i) (λ c. c < length p) (λ c q. omega arith) (parts_of (at p i)) (parts_below (bounds_of s) i (at p i) (D.wf i h)) in
       let g : length (p ++ (x ∷ [])) ≡ length p + 1 = length_more p x in
-      let u : bytes_used (known 3 s.header s.keys (p ++ (x ∷ [])) s.depths s.axioms) ≤ n + 11 * length r + 1 = omega (arith, K.used, members_more p x, F.narrow) in
+      let u : bytes_used (known 3 s.header s.keys (p ++ (x ∷ [])) s.depths s.axioms) ≤ n + 11 * length r + 1 = omega (arith, K.used, members_snoc p x, F.narrow) in
       rw e record {
         in_deck = record {
           classes = D.classes;

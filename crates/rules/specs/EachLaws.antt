@@ -55,3 +55,7 @@ module _ {A : Type 0} where
 pub each_mapped : {A B : Type 0} (P : A → Type 0) (Q : B → Type 0) (f : A → B) → ((x : A) → P x → Q (f x)) → (l : List A) → Each P l → Each Q (map f l)
 each_mapped P Q f g [] p = tt
 each_mapped P Q f g (x ∷ l) p = (g x p.0, each_mapped P Q f g l p.1)
+
+pub each_unmapped : {A B : Type 0} (P : B → Type 0) (f : A → B) (l : List A) → Each P (map f l) → Each (λ x. P (f x)) l
+each_unmapped P f [] h = tt
+each_unmapped P f (x ∷ l) h = (h.0, each_unmapped P f l h.1)

@@ -7,6 +7,7 @@ use Prim.Native.Nat.{ℕ, zero, suc, ◌+◌, ◌<◌, ◌≤◌}
 use Rattle.std.proofs.Math.Decide.{dec_lt}
 use Rattle.std.proofs.Math.ListN.{get_or-append}
 use Rattle.std.proofs.Math.Seq.{get_or-append_seam}
+use Rattle.std.proofs.lemmas.Bool.{and_parts}
 use Rattle.ir.specs.Roles.{role_code_lem}
 use Rattle.ir.specs.RecordLaws.{same_words_lem}
 use Rattle.ir.specs.declared.role.Role.{Role}
@@ -154,10 +155,6 @@ find_found e (x ∷ p) = go (same_concept e x) refl (find e p) (find_found e p)
     go false q none f = tt
     go false q (some i) f = (omega (arith, f.0), f.1)
 
-both_true : (a b : Bool) → a && b ≡ true → (a ≡ true) × (b ≡ true)
-both_true true b e = (refl, e)
-both_true false b e = absurd (let n : ◌≡◌ {A = ℕ} 0 1 = cc in omega arith)
-
 -- a record that is there, or one more at the end
 pub intern_post : (Q : ℕ → Pool → Type 0) (e : Concept) (p : Pool) → ((i : ℕ) → i < length p → at p i ≡ e → Q i p)
     → (length p < most_concepts → members p + width e ≤ most_members → Q (length p) (p ++ (e ∷ []))) → Post Q (intern_raw e p)
@@ -167,7 +164,7 @@ intern_post Q e p old new = had (find e p) (find_found e p)
     has : (b : Bool) → ltb (length p) most_concepts && leb (members p + width e) most_members ≡ b → Post Q (room e p b)
     has false q = refuses
     has true q =
-        let t = both_true (ltb (length p) most_concepts) (leb (members p + width e) most_members) q in
+        let t = and_parts (ltb (length p) most_concepts) (leb (members p + width e) most_members) q in
         give (new (ltb-true (length p) most_concepts t.0) (leb-true (members p + width e) most_members t.1))
 
     had : (o : Option ℕ) → Found e p o → Post Q (interned e p o)
@@ -188,7 +185,7 @@ intern_at e p = intern_post (λ i q. at q i ≡ e) e p (λ i h q. q) (λ h k. ge
 abbrev pub Small : Pool → Type 0
 Small p = (length p ≤ most_concepts) × (members p ≤ most_members)
 
-members_snoc : (p : Pool) (e : Concept) → members (p ++ (e ∷ [])) ≡ members p + width e
+pub members_snoc : (p : Pool) (e : Concept) → members (p ++ (e ∷ [])) ≡ members p + width e
 unfolding members
 members_snoc [] e = omega arith
 members_snoc (x ∷ p) e = omega (arith, members_snoc p e)

@@ -1,17 +1,13 @@
 -- Laws of the text: what a row that was read is, and that a field without a space in front is no number. Assumes nothing.
 use Rattle.std.specs.Prelude.{◌≡◌, refl, Bool, true, false, ◌&&◌, List, [], ◌∷◌, ◌++◌, ℕ, zero, suc, ◌+◌, ◌*◌, ◌-◌, ◌<◌, ◌≤◌, eqb, leb, length, get_or, take, drop}
 use Rattle.std.proofs.Common.{sym, subst, arith, leb-true, ne_eqb, length-append, length-drop, length-take-le}
-use Rattle.std.proofs.lemmas.Bool.{eqb-false}
+use Rattle.std.proofs.lemmas.Bool.{eqb-false, and_parts}
 use Rattle.ir.specs.Pick.{pick}
 use Rattle.rules.specs.Text.{most_number, columns_of_field, is_digit, Columns, spaces, digits, broken, capped, column, columns, number_in, number, Row, row, broken_row, row_ended, row_field, row_byte, row_by, row_of}
 use Rattle.rules.specs.Invariants.{Each}
 use Rattle.rules.specs.EachLaws.{each_append}
 
 -- ---- tests and lists
-pub and_true : (a b : Bool) → (a && b) ≡ true → (a ≡ true) × (b ≡ true)
-and_true true b h = (refl, h)
-and_true false b h = absurd (let z : ◌≡◌ {A = ℕ} 0 1 = cc in omega arith)
-
 pub by_test : {P : Type 0} (b : Bool) → (b ≡ true → P) → (b ≡ false → P) → P
 by_test true y n = y refl
 by_test false y n = n refl
@@ -67,7 +63,7 @@ reads_ended (n ∷ ns) s l N L = record { numbers = N; some = omega arith; bytes
 module _ (rest : ℕ → Row) (n l b : ℕ) (ns s : List ℕ) (go : (k : ℕ) → k ≤ most_number → 10 ≤ length s → Reads n l (rest k)) where
   reads_field : (t : Bool) → (leb 10 (length s) && leb (number (b ∷ s)) most_number) ≡ t → Reads n l (row_field rest (number (b ∷ s)) t)
   reads_field true h =
-      let g = and_true (leb 10 (length s)) (leb (number (b ∷ s)) most_number) h in
+      let g = and_parts (leb 10 (length s)) (leb (number (b ∷ s)) most_number) h in
       go (number (b ∷ s)) (leb-true (number (b ∷ s)) most_number g.1) (leb-true 10 (length s) g.0)
   reads_field false h = tt
 
@@ -165,7 +161,7 @@ number_in_lem : (x : Columns) (b : ℕ) → number_in (column x b) ≤ 429496729
 unfolding column
 number_in_lem spaces b =
     pick_by (λ x. number_in x ≤ 4294967296) (eqb b 32) spaces (pick (is_digit b) (digits (b - 48)) broken) (λ _. omega arith)
-    (λ _. pick_by (λ x. number_in x ≤ 4294967296) (is_digit b) (digits (b - 48)) broken (λ h. omega (arith, leb-true b 57 (and_true (leb 48 b) (leb b 57) h).1)) (λ _. omega arith))
+    (λ _. pick_by (λ x. number_in x ≤ 4294967296) (is_digit b) (digits (b - 48)) broken (λ h. omega (arith, leb-true b 57 (and_parts (leb 48 b) (leb b 57) h).1)) (λ _. omega arith))
 number_in_lem (digits v) b =
     let w : ℕ = 10 * v + (b - 48) in
     pick_by (λ x. number_in x ≤ 4294967296) (eqb v 0) broken (pick (is_digit b) (capped w) broken) (λ _. omega arith)

@@ -3,7 +3,7 @@ use Rattle.std.specs.Prelude.{◌≡◌, Bool, false, ◌&&◌, ◌||◌, ◌⊎
 use Rattle.std.proofs.Math.Path.{refl}
 use Rattle.std.proofs.Common.{sym, ap, ◌∙◌, inl, inr, not-suc-le-zero, arith, ltb-true, leb-true, eqb-true, eq-eqb, ne_eqb}
 use Rattle.std.proofs.Math.Bool.{true}
-use Rattle.std.proofs.lemmas.Bool.{false≢true, eqb-false}
+use Rattle.std.proofs.lemmas.Bool.{false≢true, eqb-false, or_cases}
 use mathlib.Core.List.{List, [], ◌∷◌}
 use Prim.Native.Nat.{ℕ, zero, suc, ◌+◌, ◌<◌, ◌≤◌}
 use Rattle.std.proofs.Math.ListN.{length}
@@ -56,10 +56,6 @@ module _ (d : Known) (fresh : ℕ) where
       count (row r rest) = line_read (λ w. state_by (suc (length rest)) d fresh 2 w rest) 1 (seen 50 0 (state (get_or r 1 0) [] [] [])) (count_ok r) (by_read (suc (length rest)) 2 (seen 50 0 (state (get_or r 1 0) [] [] [])) rest (omega arith))
 
 -- ---- good lines rise, so they are few
-pub or_true : (a b : Bool) → a || b ≡ true → (a ≡ true) ⊎ (b ≡ true)
-or_true true b h = inl refl
-or_true false b h = inr h
-
 module _ (d : Known) (fresh : ℕ) where
   abbrev pub ends : ℕ
   ends = first_fresh d + fresh
@@ -135,7 +131,7 @@ module _ (d : Known) (fresh : ℕ) where
   rank_up k i m j (single e1 r1 h1) (single e2 r2 h2) (inr q) z = omega (arith, e1, r1, h1, e2, r2, h2, q.0, q.1, z)
 
   pub class_below_lem : (i : ℕ) → takes_class d fresh i ≡ true → i < ends
-  class_below_lem i h = go (or_true (ltb i d.header.classes) (is_fresh d fresh i) h)
+  class_below_lem i h = go (or_cases (ltb i d.header.classes) (is_fresh d fresh i) h)
     where
       go : (ltb i d.header.classes ≡ true) ⊎ (is_fresh d fresh i ≡ true) → i < ends
       go (inl q) = let b = ltb-true i d.header.classes q in omega arith
@@ -170,7 +166,7 @@ module _ (d : Known) (fresh : ℕ) where
           single = λ e. ltb-true i d.header.individuals (and_left (ltb i d.header.individuals) (eqb (length l) 1) (rw (ne_eqb k 51 (λ q. omega arith), ne_eqb k 52 (λ q. omega arith)) at rest));
         };
         begun = low;
-        later = go (or_true (ltb w.kind k) (eqb w.kind k && ltb w.id i) (and_right (leb 51 k && leb k 53) late follows));
+        later = go (or_cases (ltb w.kind k) (eqb w.kind k && ltb w.id i) (and_right (leb 51 k && leb k 53) late follows));
       }
     where
       go : (ltb w.kind (get_or r 0 0) ≡ true) ⊎ ((eqb w.kind (get_or r 0 0) && ltb w.id (get_or r 1 0)) ≡ true) → (w.kind < get_or r 0 0) ⊎ ((w.kind ≡ get_or r 0 0) × (w.id < get_or r 1 0))

@@ -16,7 +16,7 @@ use Rattle.rules.specs.State.{Clause}
 use Rattle.rules.specs.Invariants.{Each}
 use Rattle.rules.specs.Semantics.{Interpretation, implies, chosen, atom_holds, clause_vars, clause_holds_at}
 use Rattle.rules.specs.EachLaws.{each_map, each_any}
-use Rattle.meaning.specs.Truth.{by_truth, all_each, each_all, and_unit}
+use Rattle.meaning.specs.Truth.{by_truth, all_each, each_all, and_unit, and_crossed}
 use Rattle.meaning.specs.Choices.{AgreeOn, atom_agree}
 use Rattle.states.specs.Conditions.{rises, least_of, chosen_from, clause_true_at, clause_broken}
 use Rattle.states.specs.LeastLaws.{Assignment}
@@ -84,13 +84,7 @@ decided_more vs k l h = each_all (contains (take (suc k) vs)) l (each_map (λ v.
 
 pub all_and : {A : Type 0} (f g : A → Bool) (l : List A) → all (λ a. f a && g a) l ≡ all f l && all g l
 all_and f g [] = refl
-all_and f g (a ∷ l) = ap (λ b. (f a && g a) && b) (all_and f g l) ∙ turn (f a) (g a) (all f l) (all g l)
-  where
-    turn : (a b c d : Bool) → (a && b) && (c && d) ≡ (a && c) && (b && d)
-    turn false b c d = refl
-    turn true true c d = refl
-    turn true false true d = refl
-    turn true false false d = refl
+all_and f g (a ∷ l) = ap (λ b. (f a && g a) && b) (all_and f g l) ∙ and_crossed (f a) (g a) (all f l) (all g l)
 
 pub all_on : {A : Type 0} (f g : A → Bool) (l : List A) → Each (λ a. f a ≡ g a) l → all f l ≡ all g l
 all_on f g [] h = refl
@@ -175,13 +169,7 @@ module _ (I : Interpretation) (c : Clause) where
     two_steps E p [] = refl
     two_steps E p (x ∷ q) =
         ap (λ b. next_breaks p x && b) (two_steps E (p ++ (x ∷ [])) q)
-        ∙ turn (next_all vs held held_known c.body p x) (next_all vs failed failed_known c.head p x) (stepwise vs held held_known c.body (p ++ (x ∷ [])) q) (stepwise vs failed failed_known c.head (p ++ (x ∷ [])) q)
-      where
-        turn : (a b c d : Bool) → (a && b) && (c && d) ≡ (a && c) && (b && d)
-        turn false b c d = refl
-        turn true true c d = refl
-        turn true false true d = refl
-        turn true false false d = refl
+        ∙ and_crossed (next_all vs held held_known c.body p x) (next_all vs failed failed_known c.head p x) (stepwise vs held held_known c.body (p ++ (x ∷ [])) q) (stepwise vs failed failed_known c.head (p ++ (x ∷ [])) q)
 
     -- the search, variable by variable, finds the least assignment that breaks the clause
     pub clause_search : Each (λ a. decided vs (length vs) a ≡ true) c.body → Each (λ a. decided vs (length vs) a ≡ true) c.head

@@ -12,7 +12,7 @@ use Rattle.rules.specs.Base.{all}
 use Rattle.rules.specs.Semantics.{one, same_truth}
 use Rattle.meaning.specs.Truth.{by_truth}
 use Rattle.states.specs.Conditions.{rises, behind, first_of, least_of}
-use Rattle.states.specs.Masks.{mask_of, mask_or, mask_none}
+use Rattle.states.specs.Masks.{mask_of, mask_or, mask_none, half, low}
 use Rattle.states.specs.ChainLaws.{first_where, first_where_lem, first_same}
 
 -- ---- the same elements
@@ -22,16 +22,6 @@ mask_same zero f g h = refl
 mask_same (suc n) f g h = rw (h 0 (omega arith), mask_same n (λ x. f (suc x)) (λ x. g (suc x)) (λ x k. h (suc x) (omega arith))) refl
 
 -- ---- digit by digit
-one_small : (b : Bool) → one b < 2
-one_small true = omega arith
-one_small false = omega arith
-
-half : (b : Bool) (m : ℕ) → (one b + 2 * m) / 2 ≡ m
-half b m = omega (arith, one_small b)
-
-low : (b : Bool) (m : ℕ) → (one b + 2 * m) % 2 ≡ one b
-low b m = omega (arith, one_small b)
-
 differ_low : (a b : Bool) → differ (one a) (one b) ≡ one (not (same_truth a b))
 differ_low true true = refl
 differ_low true false = refl

@@ -1,8 +1,8 @@
 -- A state with other lines for the fresh classes: the sets that are given, as a text that can be entered. Assumes nothing.
-use Rattle.std.specs.Prelude.{◌≡◌, Bool, ◌&&◌, get_or, eqb, leb}
+use Rattle.std.specs.Prelude.{◌≡◌, Bool, get_or, eqb, leb}
 use Rattle.std.proofs.Math.Path.{refl}
 use Rattle.std.proofs.Common.{sym, ap, ◌∙◌}
-use Rattle.std.proofs.Math.Bool.{true, false, false≢true}
+use Rattle.std.proofs.Math.Bool.{true, false, false≢true, and-false}
 use mathlib.Core.List.{List, [], ◌∷◌, ◌++◌}
 use Prim.Native.Nat.{ℕ, zero, suc, ◌+◌, ◌-◌, ◌<◌, ◌≤◌}
 use native.Mathlib.Omega.{arith}
@@ -16,6 +16,7 @@ use Rattle.rules.specs.Run.{first_fresh}
 use Rattle.rules.specs.Invariants.{Each}
 use Rattle.rules.specs.EachLaws.{each_map, each_append}
 use Rattle.rules.specs.Statements.{is_fresh}
+use Rattle.rules.proofs.BranchLaws.{filter_each}
 use Rattle.meaning.specs.Truth.{and_left, and_right, and_both, or_unit, by_truth, each_all}
 use Rattle.states.specs.State.{State, state, numbers_at, interpretation_of, is_individual_class, takes_class}
 use Rattle.states.specs.Conditions.{rises}
@@ -26,18 +27,13 @@ use Rattle.states.specs.StatingLaws.{ids_append}
 unfoldable pub elements_of : ℕ → (ℕ → Bool) → List ℕ
 elements_of n f = filter f (rises 0 n)
 
-each_filter : {A : Type 0} (P : A → Type 0) (f : A → Bool) (l : List A) → Each P l → Each P (filter f l)
-unfolding filter
-each_filter P f [] u = tt
-each_filter P f (x ∷ l) u = by_truth (f x) (λ e. rw e (u.0, each_filter P f l u.1)) (λ e. rw e (each_filter P f l u.1))
-
 rises_from : (a n : ℕ) → Each (λ x. (a ≤ x) × (x < a + n)) (rises a n)
 unfolding rises
 rises_from a zero = tt
 rises_from a (suc n) = ((omega arith, omega arith), each_map (λ x. (suc a ≤ x) × (x < suc a + n)) (λ x. (a ≤ x) × (x < a + suc n)) (λ x h. (omega (arith, h.0), omega (arith, h.1))) (rises (suc a) n) (rises_from (suc a) n))
 
 kept_from : (f : ℕ → Bool) (a n : ℕ) → Each (λ x. (a ≤ x) × (x < a + n)) (filter f (rises a n))
-kept_from f a n = each_filter (λ x. (a ≤ x) × (x < a + n)) f (rises a n) (rises_from a n)
+kept_from f a n = filter_each (λ x. (a ≤ x) × (x < a + n)) f (rises a n) (rises_from a n)
 
 rising_cons : (x : ℕ) (l : List ℕ) → Each (λ y. x < y) l → rising l ≡ true → rising (x ∷ l) ≡ true
 unfolding rising
@@ -134,7 +130,7 @@ module _ (keep : ℕ → Bool) (m : List (ℕ × List ℕ)) (c : ℕ) where
 ids_filter : (f : (ℕ × List ℕ) → Bool) (l : List (ℕ × List ℕ)) → IdsRise l → IdsRise (filter f l)
 unfolding filter
 ids_filter f [] u = tt
-ids_filter f (p ∷ l) u = by_truth (f p) (λ e. rw e (each_filter (λ (q : ℕ × List ℕ). p.0 < q.0) f l u.0, ids_filter f l u.1)) (λ e. rw e (ids_filter f l u.1))
+ids_filter f (p ∷ l) u = by_truth (f p) (λ e. rw e (filter_each (λ (q : ℕ × List ℕ). p.0 < q.0) f l u.0, ids_filter f l u.1)) (λ e. rw e (ids_filter f l u.1))
 
 passed : {A : Type 0} (f : A → Bool) (l : List A) → Each (λ x. f x ≡ true) (filter f l)
 unfolding filter
@@ -177,7 +173,7 @@ module _ (d : Known) (fresh : ℕ) (sets : ℕ → ℕ → Bool) (s : State) (S 
         lines = record {
           some = O.some;
           few = O.few;
-          classes = each_append (ClassLine d fresh s.size) declared_lines own_lines (each_filter (ClassLine d fresh s.size) (is_declared d) s.classes O.classes) (own_line (first_fresh d) fresh (omega arith) (omega arith));
+          classes = each_append (ClassLine d fresh s.size) declared_lines own_lines (filter_each (ClassLine d fresh s.size) (is_declared d) s.classes O.classes) (own_line (first_fresh d) fresh (omega arith) (omega arith));
           class_ids = ids_append declared_lines own_lines (ids_filter (is_declared d) s.classes O.class_ids) (fresh_rise sets s.size (first_fresh d) fresh)
               (each_map (λ (p : ℕ × List ℕ). is_declared d p ≡ true) (λ p. Each (λ (q : ℕ × List ℕ). p.0 < q.0) own_lines)
               (λ p e. each_map (λ (q : ℕ × List ℕ). (first_fresh d ≤ q.0) × (q.0 < first_fresh d + fresh)) (λ q. p.0 < q.0) (λ q h. omega (arith, h.0, ltb-true p.0 d.header.classes e)) own_lines (fresh_ids_lem sets s.size (first_fresh d) fresh))
@@ -211,11 +207,7 @@ module _ (d : Known) (fresh : ℕ) (sets : ℕ → ℕ → Bool) (s : State) (S 
   unfolding elements_of
   fresh_given c x e h =
       let r = fresh_range c e in
-      let beyond : is_individual_class d c ≡ false = rw (le-ltb c (d.header.classes + d.header.individuals) r.0) (and_false (leb d.header.classes c)) in
+      let beyond : is_individual_class d c ≡ false = rw (le-ltb c (d.header.classes + d.header.individuals) r.0) (and-false (leb d.header.classes c)) in
       let line : numbers_at (refilled d fresh sets s).classes c ≡ elements_of s.size (sets c) =
       dropped_at (λ i. ltb i d.header.classes) own_lines c s.classes (le-ltb c d.header.classes (omega (arith, r.0))) ∙ fresh_at sets s.size (first_fresh d) fresh c r.0 r.1 in
       rw beyond (ap (λ (l : List ℕ). contains l x) line ∙ in_kept (sets c) 0 s.size x (omega arith) (omega arith))
-    where
-      and_false : (b : Bool) → (b && false) ≡ false
-      and_false true = refl
-      and_false false = refl

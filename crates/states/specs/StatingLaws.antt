@@ -5,6 +5,7 @@ use Rattle.std.proofs.Math.Path.{ap, subst}
 use mathlib.Core.List.{List, [], ◌∷◌, ◌++◌}
 use Prim.Native.Nat.{ℕ, zero, suc, ◌+◌, ◌<◌, ◌≤◌}
 use Rattle.std.proofs.Math.ListN.{length}
+use Rattle.std.proofs.lemmas.Bool.{or_cases}
 use Rattle.rules.specs.Base.{all}
 use Rattle.rules.specs.Text.{Row, row, broken_row, row_of}
 use Rattle.rules.specs.Deck.{Known, rising}
@@ -12,7 +13,6 @@ use Rattle.rules.specs.Invariants.{Each}
 use Rattle.rules.specs.EachLaws.{each_map, each_append, each_snoc}
 use Rattle.meaning.specs.Truth.{and_left, and_right, by_truth, all_each}
 use Rattle.states.specs.State.{State, state, Seen, seen, StateTold, stated, most_elements, count_ok, follows_ok, rising_pairs, takes_class, rest_ok, line_ok, entered, on_line, on_state_row, state_by, on_count, read_state}
-use Rattle.states.specs.LineLaws.{or_true}
 use Rattle.states.specs.ProperLaws.{not_stated, not_read, ended_is}
 use Rattle.states.specs.Print.{IdsRise, ClassLine, RoleLine, Lines, Stating}
 use Rattle.states.specs.PrintedLaws.{Later}
@@ -62,7 +62,7 @@ module _ (d : Known) (fresh : ℕ) where
       record {
         high = leb-true k 53 (and_right (leb 51 k) (leb k 53) range);
         low = leb-true 51 k (and_left (leb 51 k) (leb k 53) range);
-        later = go (or_true (ltb w.kind k) (eqb w.kind k && ltb w.id i) (and_right (leb 51 k && leb k 53) late follows));
+        later = go (or_cases (ltb w.kind k) (eqb w.kind k && ltb w.id i) (and_right (leb 51 k && leb k 53) late follows));
         elements = and_right (a && b) c checked;
         rest = and_right (a && b && c) (rest_ok d fresh k i l) h;
       }

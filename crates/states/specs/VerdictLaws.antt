@@ -77,7 +77,7 @@ first_broken_lem f n (a ∷ l) m x h = go (λ q. first_broken_lem f (n + 1) l m 
         record { before = []; this = a; after = l; parts = refl; number = omega (arith, w.0); whole = tt; breaks = e ∙ ap some w.1 }
 
 -- ---- of axioms and clauses
-all_eq : {A : Type 0} (f g : A → Bool) (l : List A) → ((a : A) → f a ≡ g a) → all f l ≡ all g l
+pub all_eq : {A : Type 0} (f g : A → Bool) (l : List A) → ((a : A) → f a ≡ g a) → all f l ≡ all g l
 all_eq f g [] h = refl
 all_eq f g (a ∷ l) h = rw (h a, all_eq f g l h) refl
 

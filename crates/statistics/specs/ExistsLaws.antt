@@ -1,6 +1,7 @@
 -- A search for Exists in a run of atoms, at atom i. Assumes nothing.
-use Rattle.std.specs.Prelude.{Bool, true, false, ◌||◌, ◌≡◌, refl, List, [], ◌∷◌, ℕ, zero, suc, ◌+◌, ◌*◌, ◌/◌, ◌≤◌, ◌<◌, length, get_or, drop}
+use Rattle.std.specs.Prelude.{true, false, ◌≡◌, refl, List, [], ◌∷◌, ℕ, zero, suc, ◌+◌, ◌*◌, ◌/◌, ◌≤◌, ◌<◌, length, get_or, drop}
 use Rattle.std.proofs.Common.{sym, ◌∙◌, arith, drop_of_length-le}
+use Rattle.std.proofs.Math.Bool.{or-true}
 use Rattle.words.specs.Words.{words}
 use Rattle.ir.specs.Records.{words_of}
 use Rattle.ir.specs.declared.atom.Atom.{Atom}
@@ -44,8 +45,4 @@ pub exists_back : (l : List Atom) (k : ℕ) → any is_exists (drop k l) ≡ tru
 exists_back [] zero e = e
 exists_back [] (suc k) e = e
 exists_back (a ∷ l) zero e = e
-exists_back (a ∷ l) (suc k) e = rw (exists_back l k e) (or_true (is_exists a))
-  where
-    or_true : (b : Bool) → (b || true) ≡ true
-    or_true true = refl
-    or_true false = refl
+exists_back (a ∷ l) (suc k) e = rw (exists_back l k e) (or-true (is_exists a))

@@ -17,11 +17,22 @@ use Rattle.ir.specs.declared.counters.Counters.{Counters}
 use Rattle.ir.specs.declared.atom.Atom.{Atom}
 use Rattle.ir.specs.declared.deferral.Deferral.{Deferral}
 use Rattle.rules.specs.Base.{ok, refused}
-use Rattle.rules.specs.State.{Clause, clause, Deferred, Env, Out, total, push, defer}
+use Rattle.rules.specs.State.{Clause, clause, Deferred, Env, Out, total, push, defer, Rooms}
 use Rattle.rules.specs.Run.{clause_words, atom_words, deferral_words, flat, atom_records, clause_records, deferral_records}
 use Rattle.rules.specs.DecodeLaws.{flat_long, flat_append, atom_records_long, clause_records_long, deferral_records_long}
 use Rattle.tables.specs.Drawn.{padded, tables, counters_in, clauses_in, atoms_in, deferrals_in, counters_of, show, shown}
 use Rattle.tables.specs.Tabled.{clause_put, deferral_put, Run}
+
+-- ---- the same by its own counters
+pub show_same : (k k' : Counters) (rooms : Rooms) (s : Out) (c a d : List ℕ) → tables k' c a d ≡ show k rooms s → tables k' c a d ≡ show k' rooms s
+unfolding show
+show_same k k' rooms s c a d e =
+    let q = ap counters_in e in
+    let x : k'.concepts ≡ k.concepts = ap (λ (z : Counters). z.concepts) q in
+    let m : k'.members ≡ k.members = ap (λ (z : Counters). z.members) q in
+    let b : k'.nominal_base ≡ k.nominal_base = ap (λ (z : Counters). z.nominal_base) q in
+    let n : k'.options ≡ k.options = ap (λ (z : Counters). z.options) q in
+    e ∙ rw (x, m, b, n) refl
 
 -- ---- the records of one more
 total_snoc : (l : List Clause) (c : Clause) → total (l ++ (c ∷ [])) ≡ total l + length (c.body ++ c.head)

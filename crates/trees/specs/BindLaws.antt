@@ -7,10 +7,11 @@ use Rattle.std.proofs.lemmas.List.{get_or_at, take-set-le, drop-set-add}
 use Rattle.ir.specs.Pick.{pick}
 use Rattle.rules.specs.Base.{contains}
 use Rattle.rules.specs.Branches.{below, top_of}
+use Rattle.rules.specs.DeckLaws.{same_eqb}
 use Rattle.branches.specs.Layout.{bound_at, tops_at, met_at, work_words}
 use Rattle.trees.specs.Growth.{bound_of, top_for, bind_of, Kept, Growing}
 use Rattle.trees.specs.TopLaws.{parent_other, top_kept, top_child, top_under_lem}
-use Rattle.trees.specs.PlaceLaws.{eqb_sym, not_first, not_more}
+use Rattle.trees.specs.PlaceLaws.{not_first, not_more}
 
 module _ (w : List ℕ) (n i v : ℕ) (few : n ≤ 256) (long : work_words ≤ length w) where
   -- ---- the words
@@ -67,5 +68,5 @@ module _ (w : List ℕ) (n i v : ℕ) (few : n ≤ 256) (long : work_words ≤ l
       vars = bound_more ∙ ap (λ (l : List ℕ). l ++ (v ∷ [])) G.vars;
       first = get_or-append vs (v ∷ []) 0 0 (omega (arith, G.long, G.filled)) ∙ G.first;
       tops = λ j g k. tops_more j g k (ltb j n) refl;
-      alone = λ x q. let k = not_more vs v x q in parent_other parents u v x (eqb_sym v x ∙ k.1) (G.alone x k.0);
+      alone = λ x q. let k = not_more vs v x q in parent_other parents u v x (same_eqb v x ∙ k.1) (G.alone x k.0);
     }

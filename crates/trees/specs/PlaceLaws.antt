@@ -1,28 +1,22 @@
 -- The place of a variable among those bound, and the search for it. Assumes nothing.
 use Rattle.std.specs.Prelude.{Bool, true, false, ◌||◌, ◌≡◌, List, [], ◌∷◌, ◌++◌, get_or, drop, eqb}
 use Rattle.std.proofs.Math.Path.{refl}
-use Rattle.std.proofs.Common.{sym, length-drop, length-take-le}
+use Rattle.std.proofs.Common.{length-drop, length-take-le}
 use Prim.Native.Nat.{ℕ, suc, ◌≤◌, ◌<◌}
 use native.Mathlib.Omega.{arith}
-use borrow.Author.Tests.{eq-eqb, ne_eqb, eqb-true, eqb-false}
+use borrow.Author.Tests.{eqb-true}
 use Rattle.std.proofs.Math.ListN.{length}
 use Rattle.rules.specs.Base.{contains}
 use Rattle.rules.specs.Branches.{place_in, place_of}
+use Rattle.rules.specs.DeckLaws.{same_eqb}
 use Rattle.branches.specs.Layout.{bound_at, work_words}
 use Rattle.trees.specs.Growth.{bound_of}
 
 -- ---- found or not
-pub eqb_sym : (a b : ℕ) → eqb a b ≡ eqb b a
-eqb_sym a b = go (eqb a b) refl
-  where
-    go : (t : Bool) → eqb a b ≡ t → t ≡ eqb b a
-    go true e = sym (eq-eqb b a (sym (eqb-true a b e)))
-    go false e = sym (ne_eqb b a (λ q. eqb-false a b e (sym q)))
-
 pub place_in_lem : (l : List ℕ) (v : ℕ) → place_of l v < length l → (contains l v ≡ true) × (get_or l (place_of l v) 0 ≡ v)
 unfolding place_of
 place_in_lem [] v h = absurd (omega arith)
-place_in_lem (u ∷ l) v h = rw (eqb_sym v u) (go (eqb u v) (place_in_lem l v) refl h)
+place_in_lem (u ∷ l) v h = rw (same_eqb v u) (go (eqb u v) (place_in_lem l v) refl h)
   where
     go : (b : Bool) → (place_of l v < length l → (contains l v ≡ true) × (get_or l (place_of l v) 0 ≡ v)) → eqb u v ≡ b → place_in b (place_of l v) < suc (length l) → ((b || contains l v) ≡ true) × (get_or (u ∷ l) (place_in b (place_of l v)) 0 ≡ v)
     go true f e k = (refl, eqb-true u v e)

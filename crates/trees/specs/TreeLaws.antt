@@ -5,6 +5,7 @@ use Rattle.std.proofs.Common.{ap, ◌∙◌, arith, length-drop, get_or-take, ge
 use mathlib.Core.List.{List, [], ◌∷◌}
 use Rattle.std.proofs.Math.ListN.{drop, drop_of_length-le}
 use Rattle.std.proofs.lemmas.List.{take-set-le, drop-set-add}
+use Rattle.std.proofs.Math.Bool.{or-true}
 use Rattle.ir.specs.Records.{words_of}
 use Rattle.ir.specs.declared.atom.Atom.{Atom}
 use Rattle.ir.specs.declared.atom.Atom.TheVariants.{Class, Exists, AtMost, AtLeast, Equal, Role as RoleAtom}
@@ -29,10 +30,6 @@ role_test (AtMost r q n v) = refl
 role_test (AtLeast r q n v) = refl
 role_test (Equal u v) = refl
 
-or_true : (b : Bool) → (b || true) ≡ true
-or_true true = refl
-or_true false = refl
-
 disconnected_back : (l : List Atom) (flags : List Bool) (k : ℕ) → any_disconnected (drop k l) (drop k flags) ≡ true → any_disconnected l flags ≡ true
 unfolding any_disconnected
 disconnected_back l flags zero e = e
@@ -42,7 +39,7 @@ disconnected_back (a ∷ l) [] (suc k) e = absurd (no_flags (drop k l) e)
     no_flags : (m : List Atom) → any_disconnected m [] ≡ true → ⊥
     no_flags [] z = absurd (let n : ◌≡◌ {A = ℕ} 0 1 = cc in omega arith)
     no_flags (b ∷ m) z = absurd (let n : ◌≡◌ {A = ℕ} 0 1 = cc in omega arith)
-disconnected_back (a ∷ l) (p ∷ flags) (suc k) e = rw (disconnected_back l flags k e) (or_true (is_role_atom a && not p))
+disconnected_back (a ∷ l) (p ∷ flags) (suc k) e = rw (disconnected_back l flags k e) (or-true (is_role_atom a && not p))
 
 module _ (w : List ℕ) (flags : List Bool) (base count : ℕ) (long : count ≤ length flags) (l : List Atom) (A : AtomsAre w base count l) where
   -- the atoms from j on

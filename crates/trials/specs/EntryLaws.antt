@@ -134,19 +134,13 @@ module _ (k : Test) (deck state : List ℕ) (t : Lent) where
         promised_ran x R.0 (judged_of k R.0 x.clauses (read_state R.0 x.fresh_ids state)) r c a d c' a' d' store q e S A.clauses A.atoms A.deferrals kc ka kd
     promised_as (Run.refused n line) f q A T =
         let S = subst (λ (y : Reply). TellsAs k deck state c a t.store y store r) A.reply T in
-        promised_refused n line r c a d c' a' d' store (tested_refused n line f q) S.0 (ap length A.clauses ∙ zeros t.run.clauses) (ap length A.atoms ∙ zeros t.run.atoms) (ap length A.deferrals ∙ zeros t.run.deferrals) kc ka kd S.1
-      where
-        zeros : (n : ℕ) → length (replicate {A = ℕ} n 0) ≡ n
-        zeros n = length-replicate n 0
+        promised_refused n line r c a d c' a' d' store (tested_refused n line f q) S.0 (ap length A.clauses ∙ length-replicate t.run.clauses 0) (ap length A.atoms ∙ length-replicate t.run.atoms 0) (ap length A.deferrals ∙ length-replicate t.run.deferrals 0) kc ka kd S.1
 
     pub promised : (b : Bool) → b ≡ leb store_bytes t.store → Answered (run_if b (Run deck t.run)) t.run reply c a d → TellsAs k deck state c a t.store reply store r → Promised k deck state t r c' a' d' store
     promised true f A T = promised_as (Run deck t.run) (sym f) refl A T
     promised false f A T =
         let S = subst (λ (y : Reply). TellsAs k deck state c a t.store y store r) A.reply T in
-        promised_refused 1 0 r c a d c' a' d' store (store_unfit (sym f)) S.0 (ap length A.clauses ∙ zeros t.run.clauses) (ap length A.atoms ∙ zeros t.run.atoms) (ap length A.deferrals ∙ zeros t.run.deferrals) kc ka kd S.1
-      where
-        zeros : (n : ℕ) → length (replicate {A = ℕ} n 0) ≡ n
-        zeros n = length-replicate n 0
+        promised_refused 1 0 r c a d c' a' d' store (store_unfit (sym f)) S.0 (ap length A.clauses ∙ length-replicate t.run.clauses 0) (ap length A.atoms ∙ length-replicate t.run.atoms 0) (ap length A.deferrals ∙ length-replicate t.run.deferrals 0) kc ka kd S.1
 
 -- ---- what is told asks no more than the run's answer
 module _ (deck : List ℕ) (t : Lent) (reply : Reply) (c a d store scratch : List ℕ) (ls : length store ≡ t.store) (lt : length scratch ≡ t.run.scratch) where

@@ -4,7 +4,9 @@ use Rattle.std.proofs.Math.Path.{refl, ap}
 use Rattle.std.proofs.Common.{sym, subst, ◌∙◌, arith}
 use mathlib.Core.List.{List, [], ◌∷◌, ◌++◌, append_assoc}
 use Rattle.std.proofs.Math.ListN.{length, length-append, get_or-append}
+use Rattle.std.proofs.lemmas.List.{nil_from_length}
 use Rattle.words.specs.Words.{words}
+use Rattle.words.specs.Laws.{words_long}
 use Rattle.ir.specs.declared.counters.Counters.{Counters}
 use Rattle.ir.specs.declared.atom.Atom.{Atom}
 use Rattle.rules.specs.Base.{Res, ok, refused, then}
@@ -16,7 +18,7 @@ use Rattle.tables.specs.Drawn.{tables, show, Lent}
 use Rattle.tables.specs.DrawnLaws.{clauses_count}
 use Rattle.tables.specs.Good.{Good}
 use Rattle.hands.specs.Hands.{Four, four}
-use Rattle.leaves.specs.StepLaws.{alike_same, alike_then, words_long, lent_kept}
+use Rattle.leaves.specs.StepLaws.{alike_same, alike_then, lent_kept}
 use Rattle.unfolding.specs.Unfolding.{Unfolded}
 use Rattle.unfolding.specs.Unfolding.{More, Capped, Refused as Refusal}
 use Rattle.reflexive.specs.Flags.{FlagsHeld}
@@ -118,11 +120,7 @@ module _ (originals left number : ℕ) (k : Counters) (m : ℕ) (x : Four) (l : 
     unfolding unfold_body
     body_done h =
         let z : length partway.rest ≡ 0 = omega (arith, long, length-append partway.before partway.rest, partway.at, h) in
-        partway.same ∙ ap (λ (t : List Atom). unfold_body env roles partway.before t itself.head partway.derived partway.state) (none partway.rest z)
-      where
-        none : (t : List Atom) → length t ≡ 0 → t ≡ []
-        none [] e = refl
-        none (a ∷ t) e = absurd (omega arith)
+        partway.same ∙ ap (λ (t : List Atom). unfold_body env roles partway.before t itself.head partway.derived partway.state) (nil_from_length partway.rest z)
 
     -- at an atom
     module _ (lt : i < nb) where

@@ -1,8 +1,8 @@
 -- Runs of stores, `sets l i vs`: one store more at either end, what stands outside the run, and runs of bytes as runs of words. Assumes nothing.
 use Rattle.std.specs.Prelude.{◌≡◌, refl, List, [], ◌∷◌, ◌++◌, ℕ, zero, suc, ◌+◌, ◌*◌, ◌%◌, ◌<◌, ◌≤◌, length, get_or, set, take, drop}
-use Rattle.std.proofs.Common.{sym, ap, ◌∙◌, arith, length-append, length-set, get_or-set_same, get_or-set_other, length-take-le}
+use Rattle.std.proofs.Common.{sym, ap, ◌∙◌, arith, length-append, length-set, get_or-set_same, get_or-set_other, length-take-le, drop-set-lt}
 use Rattle.std.proofs.lemmas.List.Edits.{sets, sets-eq}
-use Rattle.std.proofs.lemmas.List.{set_comm}
+use Rattle.std.proofs.lemmas.List.{set_comm, take-set-le}
 use Rattle.words.specs.Words.{words}
 use Rattle.words.specs.Laws.{words_take, words_drop, words_append, length_words}
 
@@ -35,6 +35,15 @@ module _ {ℓ} {A : Type ℓ} where
   sets_cons (b ∷ vs) l i j a h =
       sets_cons vs (set l j b) i (suc j) a (omega arith)
       ∙ ap (λ (x : List A). sets x (suc j) vs) (set_comm l j i b a (λ (e : j ≡ i). absurd (omega arith)))
+
+  -- in front of a run, and behind it
+  pub take_sets : (vs l : List A) (i n : ℕ) → n ≤ i → take n (sets l i vs) ≡ take n l
+  take_sets [] l i n h = refl
+  take_sets (a ∷ vs) l i n h = take_sets vs (set l i a) (suc i) n (omega arith) ∙ take-set-le n l i a h
+
+  pub drop_sets : (vs l : List A) (i n : ℕ) → i + length vs ≤ n → drop n (sets l i vs) ≡ drop n l
+  drop_sets [] l i n h = refl
+  drop_sets (a ∷ vs) l i n h = drop_sets vs (set l i a) (suc i) n (omega arith) ∙ drop-set-lt n l i a (omega arith)
 
   pub get_d_sets_after : (vs l : List A) (i j : ℕ) (d : A) → i + length vs ≤ j → get_or (sets l i vs) j d ≡ get_or l j d
   get_d_sets_after [] l i j d h = refl

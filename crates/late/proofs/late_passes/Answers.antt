@@ -2,10 +2,10 @@ use mathlib.Core.Path.{refl}
 use native.Mathlib.Omega.{arith}
 use Rattle.std.proofs.lemmas.Result.{err_from_is_err_and}
 use Rattle.words.specs.Words.{words}
+use Rattle.words.specs.Laws.{words_long}
 use Rattle.ir.specs.Answer.{Done, Refused, answer}
 use Rattle.ir.specs.Refusals.{refusal_number}
 use Rattle.hands.specs.HandLaws.{sized_two}
-use Rattle.leaves.specs.StepLaws.{words_long}
 use Rattle.late.specs.LaterLaws.{later_flagged, late_decomposing, late_done, late_refused}
 use Rattle.late.proofs.late_passes.Goals as goal
 

@@ -2,9 +2,9 @@ use mathlib.Core.Path.{refl}
 use native.Mathlib.Omega.{arith}
 use Rattle.std.proofs.lemmas.Result.{err_from_is_err_and}
 use Rattle.words.specs.Words.{words}
+use Rattle.words.specs.Laws.{words_long}
 use Rattle.ir.specs.Answer.{Done, done}
 use Rattle.hands.specs.HandLaws.{sized_two}
-use Rattle.leaves.specs.StepLaws.{words_long}
 use Rattle.late.specs.FlaggedLaws.{flagged_standing, flagged_drawn, flagged_none, unfolded_refused, unfolded_good, unfolded_standing, unfolded_drawn, looped}
 use Rattle.late.proofs.reflexive_passes.Goals as goal
 

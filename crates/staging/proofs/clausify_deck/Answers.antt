@@ -1,8 +1,8 @@
 use Rattle.std.proofs.lemmas.Result.{err_from_is_err_and}
 use Rattle.words.specs.Words.{words}
+use Rattle.words.specs.Laws.{words_long}
 use Rattle.ir.specs.Refusals.{refusal_number}
 use Rattle.ir.specs.Lined.{lined}
-use Rattle.antecedents.specs.TableLaws.{same_words_lem}
 use Rattle.clausifier.specs.PrepareLaws.{preparing_line}
 use Rattle.staging.specs.StageLaws.{prepared_for, staged_as, staged_stops}
 use Rattle.staging.proofs.clausify_deck.Goals as goal
@@ -34,4 +34,4 @@ returns-clause-did c = λ P rooms B.
     let R = q.ensures.references in
     staged_as c.args.scratch.now t.counters c.args.n P rooms p.new.scratch p.new.k (c.in_ok-prepare.ensures P) (words t.clauses.now) (words t.atoms.now) (words t.deferrals.now) q.new.scratch (words u.clauses.now) (words u.atoms.now) (words u.deferrals.now) (lined u.counters q.result)
     q.ensures.fact q.ensures.clausifying_lined B
-    (record { clauses = same_words_lem t.clauses.now u.clauses.now R.3; atoms = same_words_lem t.atoms.now u.atoms.now R.4; deferrals = same_words_lem t.deferrals.now u.deferrals.now R.5 })
+    (record { clauses = words_long t.clauses.now u.clauses.now R.3; atoms = words_long t.atoms.now u.atoms.now R.4; deferrals = words_long t.deferrals.now u.deferrals.now R.5 })

@@ -2,7 +2,7 @@ use mathlib.Core.Path.{refl, ◌∙◌}
 use mathlib.Core.List.{[]}
 use native.Mathlib.Omega.{arith}
 use Rattle.std.proofs.lemmas.Result.{err_from_is_err_and}
-use Rattle.leaves.specs.StepLaws.{words_long}
+use Rattle.words.specs.Laws.{words_long}
 use Rattle.axioms.specs.BodyLaws.{write_ready, hand_fits, bodies_start, short_body, bodies_next, bodies_stop, bodies_end}
 use Rattle.axioms.proofs.bodies.push_bodies.Goals as goal
 

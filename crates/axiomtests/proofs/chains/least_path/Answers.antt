@@ -1,5 +1,6 @@
-use mathlib.Core.Path.{◌≡◌, refl, sym, ap, ◌∙◌}
-use mathlib.Core.Bool.{Bool, true, false, not}
+use Rattle.std.proofs.lemmas.Bool.{not-true, not-false}
+use mathlib.Core.Path.{◌≡◌, sym, ap, ◌∙◌}
+use mathlib.Core.Bool.{true, false, not}
 use mathlib.Core.List.{List, ◌∷◌}
 use Prim.Native.Nat.{ℕ, suc, ◌<◌}
 use native.Mathlib.Omega.{arith}
@@ -15,14 +16,6 @@ use Rattle.axiomtests.specs.Chains.{parts_of, Chained, AllLeft, ChainIn}
 use Rattle.axiomtests.proofs.AsideLaws.{aside_refl, aside_trans}
 use Rattle.axiomtests.proofs.PathLaws.{chained_kept, chain_kept, parts_kept, length_parts, walk_start, path_here, path_nowhere, onward_is, tried_next}
 use Rattle.axiomtests.proofs.chains.least_path.Goals as goal
-
-not_true : (b : Bool) → not b ≡ true → b ≡ false
-not_true true e = sym e
-not_true false e = refl
-
-not_false : (b : Bool) → not b ≡ false → b ≡ true
-not_false true e = refl
-not_false false e = sym e
 
 pub loop-x-init : goal.loop-x-init
 loop-x-init c = (aside_refl _, λ I C y h. absurd (omega arith))
@@ -59,7 +52,7 @@ walk-requires c =
     let told : (I : Interpretation) → Chained I u c.args.c.size a → c.has.result ≡ not (onward I (role_of a.sup) X.x (parts_of u a) X.x) =
     λ I K. onward_is u v c.args.c.size a X.x still c.requires.among c.loop-x-test.true c.has.result (λ n g l e. c.has.ensures.by_index n g l (c.get_set-left.ensures ∙ e)) I (chained I K) (left I K) in
     let P = c.requires in
-    walk_start c.args.scratch.now _ c.args.c.size a X.x P still (c.fill_left.auto.scratch ∙ X.auto.scratch) (left P.meant P.chained) c.loop-x-test.true (not_true _ (sym (told P.meant P.chained) ∙ c.if-has.true))
+    walk_start c.args.scratch.now _ c.args.c.size a X.x P still (c.fill_left.auto.scratch ∙ X.auto.scratch) (left P.meant P.chained) c.loop-x-test.true (not-true _ (sym (told P.meant P.chained) ∙ c.if-has.true))
 
 pub returns-then-has : goal.returns-then-has
 returns-then-has c =
@@ -77,7 +70,7 @@ returns-then-has c =
       aside = aside_trans u v _ still c.walk.ensures.aside;
       result_after = λ I C.
           let l : X.x < I.size = omega (arith, c.loop-x-test.true, C.sized) in
-          path_here I sup parts X.x _ l (λ y k. X.invariant.1 I C y k) (not_true _ (sym (told I C) ∙ c.if-has.true))
+          path_here I sup parts X.x _ l (λ y k. X.invariant.1 I C y k) (not-true _ (sym (told I C) ∙ c.if-has.true))
           (c.walk.ensures.parts_after I (chained I C) (left I C) ∙ ap (λ (p : List Role). X.x ∷ walk_of I sup X.x p X.x) (parts_kept u v a still c.requires.among))
           ∙ ap (λ (k : ℕ). least_of (rises 0 I.size) (suc k) (λ l. chain_at I sup (place l 0) parts l)) (length_parts u a);
     }
@@ -94,7 +87,7 @@ loop-x-preserved c =
     let told : (I : Interpretation) → Chained I u c.args.c.size a → c.has.result ≡ not (onward I (role_of a.sup) X.x (parts_of u a) X.x) =
     λ I K. onward_is u v c.args.c.size a X.x still c.requires.among c.loop-x-test.true c.has.result (λ n g l e. c.has.ensures.by_index n g l (c.get_set-left.ensures ∙ e)) I (chained I K) (left I K) in (
       still,
-      tried_next u v c.args.c.size a X.x still c.requires.among c.loop-x-test.true X.invariant.1 (λ I C. not_false _ (sym (told I C) ∙ c.if-has.false)),
+      tried_next u v c.args.c.size a X.x still c.requires.among c.loop-x-test.true X.invariant.1 (λ I C. not-false _ (sym (told I C) ∙ c.if-has.false)),
     )
 
 pub returns : goal.returns

@@ -3,7 +3,7 @@ use Prim.{tt}
 use native.Mathlib.Omega.{arith}
 use Rattle.std.proofs.lemmas.Result.{err_from_is_err_and}
 use Rattle.words.specs.Words.{words}
-use Rattle.leaves.specs.StepLaws.{words_long}
+use Rattle.words.specs.Laws.{words_long}
 use Rattle.counted.specs.LoopTurns.{clauses_start, clauses_next, clauses_stop, clauses_end, clauses_stand}
 use Rattle.counted.proofs.loops.add_counted_self_loops.Goals as goal
 

@@ -2,15 +2,14 @@ use mathlib.Core.Path.{sym, ap, ◌∙◌}
 use mathlib.Core.List.{◌++◌}
 use native.Mathlib.Omega.{arith}
 use Rattle.words.specs.Words.{words}
-use Rattle.words.specs.Laws.{length_words}
+use Rattle.words.specs.Laws.{length_words, words_long}
 use Rattle.ir.specs.Roles.{role_code, role_code_lem}
 use Rattle.rules.specs.Base.{contains}
-use Rattle.leaves.specs.StepLaws.{words_long}
-use Rattle.contraction.specs.FlagWords.{code_id}
 use Rattle.counted.specs.LoopingLaws.{looping_tabled, looping_within, looped_same}
 use Rattle.counted.specs.OneLoop.{Made, looping_there, vars_there, atom_room, read_no, read_other, read_at_most, role_small, loop_there}
 use Rattle.counted.specs.LoopSteps.{loop_other, loop_role, loop_long, loop_old, loop_new, looped_new}
 use Rattle.counted.proofs.loops.loop_of.Goals as goal
+use Rattle.reflexive.specs.IdLaws.{code_id}
 
 pub head_of-requires : goal.head_of-requires
 head_of-requires c =

@@ -3,8 +3,7 @@ use Prim.{tt}
 use native.Mathlib.Omega.{arith}
 use Rattle.std.proofs.lemmas.Result.{err_from_is_err_and}
 use Rattle.words.specs.Words.{words}
-use Rattle.words.specs.Laws.{length_words}
-use Rattle.leaves.specs.StepLaws.{words_long}
+use Rattle.words.specs.Laws.{length_words, words_long}
 use Rattle.counted.specs.OneLoop.{looping_there}
 use Rattle.counted.specs.LoopTurns.{heads_start, heads_there, heads_next, heads_stop, heads_end}
 use Rattle.counted.proofs.loops.loops_of_head.Goals as goal

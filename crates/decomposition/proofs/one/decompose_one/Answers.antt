@@ -4,10 +4,9 @@ use mathlib.Core.Path.{sym, ◌∙◌}
 use native.Mathlib.Omega.{arith}
 use lib.ListN.{length}
 use Rattle.words.specs.Words.{words}
-use Rattle.words.specs.Laws.{length_words}
+use Rattle.words.specs.Laws.{length_words, words_long}
 use Rattle.rules.specs.Branches.{head_vars}
 use Rattle.branches.specs.Layout.{work_words}
-use Rattle.naming.specs.AgreeLaws.{same_words_lem}
 use Rattle.decomposition.specs.PlainLaws.{other}
 use Rattle.decomposition.specs.OneLaws.{one_narrow, one_named}
 use Rattle.decomposition.specs.CopiedLaws.{body_there, held_still, there_still, keep_still, tame_there}
@@ -26,7 +25,7 @@ name_branches-requires c =
     let nb = c.atom_room-count.result in
     let few : nb ≤ 256 = omega (arith, c.atom_room-count.ensures, P.body_is.long, P.inside.body_short) in
     let work : work_words ≤ length w = omega (arith, c.requires.3, length_words c.args.scratch.now) in
-    let long = same_words_lem c.args.scratch.now c.head_vars-keep.new.scratch c.head_vars-keep.auto.scratch in
+    let long = words_long c.args.scratch.now c.head_vars-keep.new.scratch c.head_vars-keep.auto.scratch in
     let x = P.clause in
     let plain = not-true (other x.body) (sym (c.is_plain.ensures x.body P.body_is) ∙ not-false _ c.if-not-is_plain.false-raw) in (
       tame_there c.args.body.now nb w w1 w2 c.atom_room-count.ensures few long work c.head_vars-keep.ensures.upper_bound.1 c.copy_words.ensures c.args.head.now P plain,
@@ -48,7 +47,7 @@ returns c =
     let nb = c.atom_room-count.result in
     let few : nb ≤ 256 = omega (arith, c.atom_room-count.ensures, P.body_is.long, P.inside.body_short) in
     let work : work_words ≤ length w = omega (arith, c.requires.3, length_words c.args.scratch.now) in
-    let long = same_words_lem c.args.scratch.now c.head_vars-keep.new.scratch c.head_vars-keep.auto.scratch in
+    let long = words_long c.args.scratch.now c.head_vars-keep.new.scratch c.head_vars-keep.auto.scratch in
     λ x z B H N.
     let wide = sym (not-false _ c.if-not-is_wide.false-raw) ∙ c.is_wide.ensures x.body B in
     let plain = not-true (other x.body) (sym (c.is_plain.ensures x.body B) ∙ not-false _ c.if-not-is_plain.false-raw) in

@@ -4,8 +4,7 @@ use native.Mathlib.Omega.{arith}
 use lib.ListN.{length}
 use Rattle.std.proofs.lemmas.Result.{err_from_is_err_and}
 use Rattle.words.specs.Words.{words}
-use Rattle.words.specs.Laws.{length_words}
-use Rattle.leaves.specs.StepLaws.{words_long}
+use Rattle.words.specs.Laws.{length_words, words_long}
 use Rattle.axioms.specs.BodyLaws.{encoding_kept, encoding_named}
 use Rattle.disjointness.specs.Turns.{Has}
 use Rattle.disjointness.specs.TurnLaws.{sourced_kept, turns_start, turn_short, written_frame, turns_end}

@@ -8,7 +8,7 @@ use lib.ListN.{length}
 use Rattle.std.specs.Prelude.{Option, Ok}
 use Rattle.std.proofs.lemmas.Result.{err_from_is_err_and}
 use Rattle.words.specs.Words.{words}
-use Rattle.words.specs.Laws.{length_words}
+use Rattle.words.specs.Laws.{length_words, words_long}
 use Rattle.ir.specs.Headed.{headed}
 use Rattle.ir.specs.Headed as Head
 use Rattle.ir.specs.Roles.{role_of}
@@ -30,7 +30,7 @@ use Rattle.leaves.specs.Classes.{Restricts, is_max, anew}
 use Rattle.leaves.specs.Leaves.{emit_named, filler_atom}
 use Rattle.leaves.specs.Reading.{form_of}
 use Rattle.leaves.specs.ReadLaws.{concept_7, concept_8, concept_10, child_10}
-use Rattle.leaves.specs.StepLaws.{alike_same, alike_var, alike_class, good_var, good_class, words_long, env_alike}
+use Rattle.leaves.specs.StepLaws.{alike_same, alike_var, alike_class, good_var, good_class, env_alike}
 use Rattle.leaves.specs.NamedLaws.{did_after, did_after_no, made_after, made_after_no}
 use Rattle.heads.specs.FrameLaws.{waited_below, reading_alike, reading_kept, pool_on, concept_on, pool_alike, fall, run_of_lem, member, emitting_on, filler_is, filler_below, same_then, class_fits}
 use Rattle.heads.specs.StepLaws.{visiting, head_step, head_full, named_restricts, leaf_step, named_step, filler_step, under_full, under_go, name_step_lem, name_is_new, name_is_class, name_full, name_go, atom_step, atom_full, atom_ready, atom_absent, atom_negated, atom_whole, atom_filler}

@@ -5,9 +5,8 @@ use Prim.Native.Nat.{◌+◌, ◌*◌, ◌-◌, ◌≤◌, ◌<◌}
 use native.Mathlib.Omega.{arith}
 use lib.ListN.{length, take}
 use Rattle.words.specs.Words.{words}
-use Rattle.words.specs.Laws.{length_words}
+use Rattle.words.specs.Laws.{length_words, words_long}
 use Rattle.naming.specs.Splits.{split_rule, group_rule}
-use Rattle.naming.specs.AgreeLaws.{same_words_lem}
 use Rattle.naming.specs.SplitLaws.{keep_none, tame_of, part_of, split_narrow, split_none, inner_at, named_front, there_front, inner_are, inner_there, fronted_again, split_to, split_full, split_back, reduced_short}
 use Rattle.naming.specs.CallLaws.{call_name, call_full, split_there}
 use Rattle.branches.specs.Edges.{fronted}
@@ -33,7 +32,7 @@ name_branches-returns-in_default-clause-reduced_by t c =
     let count = c.args.atoms.count in
     let root = c.args.root in
     let s = c.args.s in
-    let long1 = same_words_lem c.args.scratch.now the-tree.new.scratch the-tree.auto.scratch in
+    let long1 = words_long c.args.scratch.now the-tree.new.scratch the-tree.auto.scratch in
     λ l z kept f A H K k. tree_none w0 w1 base count root s long1 c.requires.2 c.requires.3 the-tree.ensures.only_tree l z kept f A H k (rw c.in_default.is at (the-tree.ensures.tree_is l A))
 
 pub name_branches-arrange-requires : goal.name_branches-arrange-requires
@@ -46,7 +45,7 @@ name_branches-arrange-requires t c =
     let count = c.args.atoms.count in
     let root = c.args.root in
     let s = c.args.s in
-    let long1 = same_words_lem c.args.scratch.now the-tree.new.scratch the-tree.auto.scratch in
+    let long1 = words_long c.args.scratch.now the-tree.new.scratch the-tree.auto.scratch in
     let joined = connected w1 root list c.in-Some.n (rw c.in-Some.is at (the-tree.ensures.tree_is list c.requires.0.are)) in
     (record { list = list; are = tree_atoms w0 w1 base count root s long1 c.requires.2 c.requires.3 the-tree.ensures.only_tree list c.requires.0.are }, record { root = root; tree = tree_of list root; treed = joined.1 }, c.requires.1, c.requires.3, omega (arith, the-tree.auto.scratch, c.requires.7))
 
@@ -61,8 +60,8 @@ name_branches-returns-clause-reduced_by t c =
     let w0 = words c.args.scratch.now in
     let w1 = words the-tree.new.scratch in
     let w2 = words the-arrange.new.scratch in
-    let long1 = same_words_lem c.args.scratch.now the-tree.new.scratch the-tree.auto.scratch in
-    let long2 = same_words_lem the-tree.new.scratch the-arrange.new.scratch the-arrange.auto.scratch in
+    let long1 = words_long c.args.scratch.now the-tree.new.scratch the-tree.auto.scratch in
+    let long2 = words_long the-tree.new.scratch the-arrange.new.scratch the-arrange.auto.scratch in
     λ l z kept f A H K k. let joined = connected w1 root l c.in-Some.n (rw c.in-Some.is at (the-tree.ensures.tree_is l A)) in homeless_none w2 [] [] base count root s l kept f z joined.0 k (rw c.if-arrange.false at (the-arrange.ensures.arranged_by l root (tree_of l root) (tree_atoms w0 w1 base count root s long1 c.requires.2 c.requires.3 the-tree.ensures.only_tree l A) joined.1)) (laid_held w0 w1 w2 base count s long1 long2 c.requires.2 c.requires.3 the-tree.ensures.only_tree the-arrange.ensures.only_records z H)
 
 pub name_branches-name_groups-requires : goal.name_branches-name_groups-requires
@@ -81,11 +80,11 @@ name_branches-name_groups-requires t c =
     let w0 = words c.args.scratch.now in
     let w1 = words the-tree.new.scratch in
     let s = c.args.s in
-    let long1 = same_words_lem c.args.scratch.now the-tree.new.scratch the-tree.auto.scratch in
+    let long1 = words_long c.args.scratch.now the-tree.new.scratch the-tree.auto.scratch in
     let joined = connected w1 root list c.in-Some.n (rw c.in-Some.is at (the-tree.ensures.tree_is list c.requires.0.are)) in
     let laid = laid_by w2 tops counts base count groups list c.requires.0.tame root (tree_of list root).parents (rw c.if-arrange.true at (the-arrange.ensures.arranged_by list root (tree_of list root) (tree_atoms w0 w1 base count root s long1 c.requires.2 c.requires.3 the-tree.ensures.only_tree list c.requires.0.are) joined.1)) in
     let few = laid_few w2 tops counts base count groups made laid in
-    let long2 = same_words_lem the-tree.new.scratch the-arrange.new.scratch the-arrange.auto.scratch in
+    let long2 = words_long the-tree.new.scratch the-arrange.new.scratch the-arrange.auto.scratch in
     let mt : 5 * count + 4 ≡ t = c.decreases in
     (omega (arith, mt), (record { groups = made; laid = laid }, c.requires.1, c.requires.2, c.requires.3, laid_named w0 w1 w2 base count s long1 long2 c.requires.2 c.requires.3 the-tree.ensures.only_tree the-arrange.ensures.only_records c.requires.4, c.requires.5, c.requires.6, omega (arith, the-arrange.auto.scratch, the-tree.auto.scratch, c.requires.7)))
 
@@ -105,8 +104,8 @@ name_branches-returns-then-arrange-clause-reduced_by t c =
     let counts = sizes the-arrange.new.children.each in
     let groups = the-arrange.new.children.len in
     let w0 = words c.args.scratch.now in
-    let long1 = same_words_lem c.args.scratch.now the-tree.new.scratch the-tree.auto.scratch in
-    let long2 = same_words_lem the-tree.new.scratch the-arrange.new.scratch the-arrange.auto.scratch in
+    let long1 = words_long c.args.scratch.now the-tree.new.scratch the-tree.auto.scratch in
+    let long2 = words_long the-tree.new.scratch the-arrange.new.scratch the-arrange.auto.scratch in
     let keep = c.args.keep in
     λ l z kept f A H K k. step_answer w3 base count root s l kept f z the-name-groups.result (connected w1 root l c.in-Some.n (rw c.in-Some.is at (the-tree.ensures.tree_is l A))).0 k (λ g h. the-name-groups.ensures.reduced_by (groups_for l (grouped (tree_of l root).parents root nothing l)) z kept g (laid_by w2 tops counts base count groups l (tame_of w0 base count l c.requires.0 A) root (tree_of l root).parents (rw c.if-arrange.true at (the-arrange.ensures.arranged_by l root (tree_of l root) (tree_atoms w0 w1 base count root s long1 c.requires.2 c.requires.3 the-tree.ensures.only_tree l A) (connected w1 root l c.in-Some.n (rw c.in-Some.is at (the-tree.ensures.tree_is l A))).1))) (laid_held w0 w1 w2 base count s long1 long2 c.requires.2 c.requires.3 the-tree.ensures.only_tree the-arrange.ensures.only_records z H) (laid_keep w0 w1 w2 base count s long1 long2 c.requires.2 c.requires.3 the-tree.ensures.only_tree the-arrange.ensures.only_records keep kept K) h)
 
@@ -229,7 +228,7 @@ name_groups-returns-in_err-reached-clause-reduced_by t c =
     let w1 = words the-loop.scratch in
     let w2 = words the-turn.new.scratch in
     let back = err_from_is_err_and c.from_residual.result c.from_residual.ensures.1 in
-    rw (back.1, back.2) (walk_stop w0 tops counts base count groups root keep s c.requires.2 c.requires.3 c.requires.1 c.requires.5 c.requires.0 c.requires.4 c.requires.6 room w1 the-loop.reached.naming the-loop.reached.any the-loop.p the-loop.reached.end the-loop.child-index the-loop.invariant.1 h _ _ (count_read c.args.children.now.each c.args.children.now.len the-loop.child-index h) (top_read c.args.children.now.each c.args.children.now.len the-loop.child-index h) w2 (same_words_lem c.args.scratch.now the-loop.scratch the-loop.invariant.0) the-turn.result the-turn.ensures.fact the-turn.ensures.fact_2 _ c.in_err-reached.was)
+    rw (back.1, back.2) (walk_stop w0 tops counts base count groups root keep s c.requires.2 c.requires.3 c.requires.1 c.requires.5 c.requires.0 c.requires.4 c.requires.6 room w1 the-loop.reached.naming the-loop.reached.any the-loop.p the-loop.reached.end the-loop.child-index the-loop.invariant.1 h _ _ (count_read c.args.children.now.each c.args.children.now.len the-loop.child-index h) (top_read c.args.children.now.each c.args.children.now.len the-loop.child-index h) w2 (words_long c.args.scratch.now the-loop.scratch the-loop.invariant.0) the-turn.result the-turn.ensures.fact the-turn.ensures.fact_2 _ c.in_err-reached.was)
 
 pub name_groups-returns-in_err-reached-clause-only_names : goal.name_groups-returns-in_err-reached-clause-only_names
 name_groups-returns-in_err-reached-clause-only_names t c =
@@ -248,7 +247,7 @@ name_groups-returns-in_err-reached-clause-only_names t c =
     let room : work_words ≤ length w0 = omega (arith, c.requires.7, length_words c.args.scratch.now) in
     let w1 = words the-loop.scratch in
     let w2 = words the-turn.new.scratch in
-    walk_only w0 tops counts base count groups root keep s c.requires.2 c.requires.3 c.requires.1 c.requires.5 c.requires.0 c.requires.4 c.requires.6 room w1 the-loop.reached.naming the-loop.reached.any the-loop.p the-loop.reached.end the-loop.child-index the-loop.invariant.1 h _ _ (count_read c.args.children.now.each c.args.children.now.len the-loop.child-index h) (top_read c.args.children.now.each c.args.children.now.len the-loop.child-index h) w2 (same_words_lem c.args.scratch.now the-loop.scratch the-loop.invariant.0) the-turn.result the-turn.ensures.fact the-turn.ensures.fact_2
+    walk_only w0 tops counts base count groups root keep s c.requires.2 c.requires.3 c.requires.1 c.requires.5 c.requires.0 c.requires.4 c.requires.6 room w1 the-loop.reached.naming the-loop.reached.any the-loop.p the-loop.reached.end the-loop.child-index the-loop.invariant.1 h _ _ (count_read c.args.children.now.each c.args.children.now.len the-loop.child-index h) (top_read c.args.children.now.each c.args.children.now.len the-loop.child-index h) w2 (words_long c.args.scratch.now the-loop.scratch the-loop.invariant.0) the-turn.result the-turn.ensures.fact the-turn.ensures.fact_2
 
 pub name_groups-overflow_add-p-in-loop-child : goal.name_groups-overflow_add-p-in-loop-child
 name_groups-overflow_add-p-in-loop-child t c =
@@ -284,7 +283,7 @@ name_groups-loop-child-preserved t c =
     let room : work_words ≤ length w0 = omega (arith, c.requires.7, length_words c.args.scratch.now) in
     let w1 = words the-loop.scratch in
     let w2 = words the-turn.new.scratch in
-    (the-turn.auto.scratch ∙ the-loop.invariant.0, walk_next w0 tops counts base count groups root keep s c.requires.2 c.requires.3 c.requires.1 c.requires.5 c.requires.0 c.requires.4 c.requires.6 room w1 the-loop.reached.naming the-loop.reached.any the-loop.p the-loop.reached.end the-loop.child-index the-loop.invariant.1 h _ _ (count_read c.args.children.now.each c.args.children.now.len the-loop.child-index h) (top_read c.args.children.now.each c.args.children.now.len the-loop.child-index h) w2 (same_words_lem c.args.scratch.now the-loop.scratch the-loop.invariant.0) the-turn.result the-turn.ensures.fact the-turn.ensures.fact_2 _ c.in_ok-reached.was)
+    (the-turn.auto.scratch ∙ the-loop.invariant.0, walk_next w0 tops counts base count groups root keep s c.requires.2 c.requires.3 c.requires.1 c.requires.5 c.requires.0 c.requires.4 c.requires.6 room w1 the-loop.reached.naming the-loop.reached.any the-loop.p the-loop.reached.end the-loop.child-index the-loop.invariant.1 h _ _ (count_read c.args.children.now.each c.args.children.now.len the-loop.child-index h) (top_read c.args.children.now.each c.args.children.now.len the-loop.child-index h) w2 (words_long c.args.scratch.now the-loop.scratch the-loop.invariant.0) the-turn.result the-turn.ensures.fact the-turn.ensures.fact_2 _ c.in_ok-reached.was)
 
 pub name_groups-overflow_sub-result : goal.name_groups-overflow_sub-result
 name_groups-overflow_sub-result t c =
@@ -390,7 +389,7 @@ split_group-name_branches-requires t c =
     let root = c.args.root in
     let top = c.args.t in
     let s = c.args.s in
-    let long1 = same_words_lem c.args.scratch.now the-to-front.new.scratch the-to-front.auto.scratch in
+    let long1 = words_long c.args.scratch.now the-to-front.new.scratch the-to-front.auto.scratch in
     let list = c.requires.0.list in
     let mt : 5 * count ≡ t = c.decreases in
     (omega (arith, mt, h), (inner_there w0 w1 w1 base count e root top s long1 refl c.requires.2 h the-to-front.ensures.only_records list c.requires.0.are c.requires.0.tame (the-to-front.ensures.atoms_are list c.requires.0.are), omega (arith, c.requires.1), omega (arith, c.requires.2), omega (arith, h, c.requires.3), there_front w0 w1 w1 base count e root top s long1 refl c.requires.2 h the-to-front.ensures.only_records c.requires.4, c.requires.5, omega arith, omega (arith, the-to-front.auto.scratch, c.requires.6)))
@@ -410,8 +409,8 @@ split_group-overflow_add-result t c =
     let w0 = words c.args.scratch.now in
     let w1 = words the-to-front.new.scratch in
     let root = c.args.root in
-    let long1 = same_words_lem c.args.scratch.now the-to-front.new.scratch the-to-front.auto.scratch in
-    let long2 = same_words_lem the-to-front.new.scratch the-name-branches.new.scratch the-name-branches.auto.scratch in
+    let long1 = words_long c.args.scratch.now the-to-front.new.scratch the-to-front.auto.scratch in
+    let long2 = words_long the-to-front.new.scratch the-name-branches.new.scratch the-name-branches.auto.scratch in
     let h : e < count = omega (arith, (c.in-Some.ensures c.requires.0.list c.requires.0.are).within, c.requires.0.are.long) in
     omega (arith, reduced_short w2 (base + 1) (count - 1) (inner_at list e) [] s (name_by count (inner_at list e) top [] c.requires.4.state) _ _ (rw c.in-Some-2.is at (c.in_ok-m.ensures.reduced_by (inner_at list e) c.requires.4.state [] count (inner_are w0 w1 w2 base count e root top s long1 long2 c.requires.2 h the-to-front.ensures.only_records list c.requires.0.are c.requires.0.tame (the-to-front.ensures.atoms_are list c.requires.0.are)) (named_front w0 w1 w2 base count e root top s long1 long2 c.requires.2 h the-to-front.ensures.only_records c.requires.4.state c.requires.4.held) (keep_none w1) (omega (arith, h)))), c.requires.1)
 
@@ -430,8 +429,8 @@ split_group-from_front-requires t c =
     let root = c.args.root in
     let top = c.args.t in
     let s = c.args.s in
-    let long1 = same_words_lem c.args.scratch.now the-to-front.new.scratch the-to-front.auto.scratch in
-    let long2 = same_words_lem the-to-front.new.scratch the-name-branches.new.scratch the-name-branches.auto.scratch in
+    let long1 = words_long c.args.scratch.now the-to-front.new.scratch the-to-front.auto.scratch in
+    let long2 = words_long the-to-front.new.scratch the-name-branches.new.scratch the-name-branches.auto.scratch in
     let h : e < count = omega (arith, (c.in-Some.ensures c.requires.0.list c.requires.0.are).within, c.requires.0.are.long) in
     (record { list = fronted list e; are = fronted_again w0 w1 w2 base count e root top s long1 long2 c.requires.2 h the-to-front.ensures.only_records list c.requires.0.are c.requires.0.tame (the-to-front.ensures.atoms_are list c.requires.0.are) the-name-branches.ensures.only_names count c.requires.4.state (rw c.in-None.is at (c.in_ok-m.ensures.reduced_by (inner_at list e) c.requires.4.state [] count (inner_are w0 w1 w2 base count e root top s long1 long2 c.requires.2 h the-to-front.ensures.only_records list c.requires.0.are c.requires.0.tame (the-to-front.ensures.atoms_are list c.requires.0.are)) (named_front w0 w1 w2 base count e root top s long1 long2 c.requires.2 h the-to-front.ensures.only_records c.requires.4.state c.requires.4.held) (keep_none w1) (omega (arith, h)))) }, h, c.requires.3, omega (arith, the-name-branches.auto.scratch, the-to-front.auto.scratch, c.requires.6))
 
@@ -450,8 +449,8 @@ split_group-returns-in-Some-2-clause-split_by t c =
     let root = c.args.root in
     let top = c.args.t in
     let s = c.args.s in
-    let long1 = same_words_lem c.args.scratch.now the-to-front.new.scratch the-to-front.auto.scratch in
-    let long2 = same_words_lem the-to-front.new.scratch the-name-branches.new.scratch the-name-branches.auto.scratch in
+    let long1 = words_long c.args.scratch.now the-to-front.new.scratch the-to-front.auto.scratch in
+    let long2 = words_long the-to-front.new.scratch the-name-branches.new.scratch the-name-branches.auto.scratch in
     let h : e < count = omega (arith, (c.in-Some.ensures c.requires.0.list c.requires.0.are).within, c.requires.0.are.long) in
     λ l z f A H k. split_to w0 w1 w2 base count e root top s long1 long2 c.requires.2 h the-to-front.ensures.only_records l A (tame_of w0 base count l c.requires.0 A) (the-to-front.ensures.atoms_are l A) the-name-branches.ensures.only_names f z (sym (the-is-wide.ensures l (part_of c.args.scratch.now base count l c.requires.3 c.requires.6 A)) ∙ the-if1.false) (c.in-Some.ensures l A) _ _ (rw c.in-Some-2.is at (c.in_ok-m.ensures.reduced_by (inner_at l e) z [] f (inner_are w0 w1 w2 base count e root top s long1 long2 c.requires.2 h the-to-front.ensures.only_records l A (tame_of w0 base count l c.requires.0 A) (the-to-front.ensures.atoms_are l A)) (named_front w0 w1 w2 base count e root top s long1 long2 c.requires.2 h the-to-front.ensures.only_records z H) (keep_none w1) (omega (arith, h, k))))
 
@@ -471,11 +470,11 @@ split_group-returns-in-None-clause-split_by t c =
     let root = c.args.root in
     let top = c.args.t in
     let s = c.args.s in
-    let long1 = same_words_lem c.args.scratch.now the-to-front.new.scratch the-to-front.auto.scratch in
-    let long2 = same_words_lem the-to-front.new.scratch the-name-branches.new.scratch the-name-branches.auto.scratch in
+    let long1 = words_long c.args.scratch.now the-to-front.new.scratch the-to-front.auto.scratch in
+    let long2 = words_long the-to-front.new.scratch the-name-branches.new.scratch the-name-branches.auto.scratch in
     let h : e < count = omega (arith, (c.in-Some.ensures c.requires.0.list c.requires.0.are).within, c.requires.0.are.long) in
     let w3 = words the-from-front.new.scratch in
-    let long3 = same_words_lem the-name-branches.new.scratch the-from-front.new.scratch the-from-front.auto.scratch in
+    let long3 = words_long the-name-branches.new.scratch the-from-front.new.scratch the-from-front.auto.scratch in
     λ l z f A H k. let N = rw c.in-None.is at (c.in_ok-m.ensures.reduced_by (inner_at l e) z [] f (inner_are w0 w1 w2 base count e root top s long1 long2 c.requires.2 h the-to-front.ensures.only_records l A (tame_of w0 base count l c.requires.0 A) (the-to-front.ensures.atoms_are l A)) (named_front w0 w1 w2 base count e root top s long1 long2 c.requires.2 h the-to-front.ensures.only_records z H) (keep_none w1) (omega (arith, h, k))) in split_back w0 w1 w2 base count e root top s long1 long2 c.requires.2 h the-to-front.ensures.only_records l A (tame_of w0 base count l c.requires.0 A) (the-to-front.ensures.atoms_are l A) the-name-branches.ensures.only_names f z (sym (the-is-wide.ensures l (part_of c.args.scratch.now base count l c.requires.3 c.requires.6 A)) ∙ the-if1.false) (c.in-Some.ensures l A) w3 long3 the-from-front.ensures.only_records (the-from-front.ensures.atoms_are l (sym A.long) (fronted_again w0 w1 w2 base count e root top s long1 long2 c.requires.2 h the-to-front.ensures.only_records l A (tame_of w0 base count l c.requires.0 A) (the-to-front.ensures.atoms_are l A) the-name-branches.ensures.only_names f z N)) N
 
 pub split_group-returns-in_err-m-clause-split_by : goal.split_group-returns-in_err-m-clause-split_by
@@ -493,8 +492,8 @@ split_group-returns-in_err-m-clause-split_by t c =
     let root = c.args.root in
     let top = c.args.t in
     let s = c.args.s in
-    let long1 = same_words_lem c.args.scratch.now the-to-front.new.scratch the-to-front.auto.scratch in
-    let long2 = same_words_lem the-to-front.new.scratch the-name-branches.new.scratch the-name-branches.auto.scratch in
+    let long1 = words_long c.args.scratch.now the-to-front.new.scratch the-to-front.auto.scratch in
+    let long2 = words_long the-to-front.new.scratch the-name-branches.new.scratch the-name-branches.auto.scratch in
     let h : e < count = omega (arith, (c.in-Some.ensures c.requires.0.list c.requires.0.are).within, c.requires.0.are.long) in
     let back = err_from_is_err_and c.from_residual.result c.from_residual.ensures.1 in
     rw (back.1, back.2) (λ l z f A H k. split_full w0 w1 w2 base count e root top s long1 long2 c.requires.2 h the-to-front.ensures.only_records l A (tame_of w0 base count l c.requires.0 A) (the-to-front.ensures.atoms_are l A) the-name-branches.ensures.only_names f z (sym (the-is-wide.ensures l (part_of c.args.scratch.now base count l c.requires.3 c.requires.6 A)) ∙ the-if1.false) (c.in-Some.ensures l A) _ (c.in_err-m.ensures.reduced_by (inner_at l e) z [] f (inner_are w0 w1 w2 base count e root top s long1 long2 c.requires.2 h the-to-front.ensures.only_records l A (tame_of w0 base count l c.requires.0 A) (the-to-front.ensures.atoms_are l A)) (named_front w0 w1 w2 base count e root top s long1 long2 c.requires.2 h the-to-front.ensures.only_records z H) (keep_none w1) (omega (arith, h, k))))
@@ -555,7 +554,7 @@ turn-returns-clause-fact t c =
     let p = c.args.child.base in
     let size = c.args.child.count in
     let s = c.args.reached.naming in
-    let long1 = same_words_lem c.args.scratch.now the-name-group.new.scratch the-name-group.auto.scratch in
+    let long1 = words_long c.args.scratch.now the-name-group.new.scratch the-name-group.auto.scratch in
     let w2 = words the-put-atom.new.t in
     let room : work_words ≤ length w0 = omega (arith, c.requires.2, length_words c.args.scratch.now) in
     let root = c.args.root in
