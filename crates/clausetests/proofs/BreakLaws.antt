@@ -1,6 +1,7 @@
 -- The tables hold what breaks a clause: an element fits behind others exactly where it breaks every atom that it makes known; so
 -- the search by the tables finds the least elements that break it. Assumes nothing.
 use Rattle.std.proofs.Math.Bool.{and_assoc}
+use Rattle.std.proofs.lemmas.Bool.{false_from_ne_true}
 use mathlib.Core.Path.{◌≡◌, refl, sym, ap, ap₂, ◌∙◌}
 use mathlib.Core.Bool.{Bool, true, false, not, ◌&&◌, ◌||◌, false≢true}
 use mathlib.Core.List.{List, [], ◌∷◌, ◌++◌}
@@ -30,7 +31,7 @@ use Rattle.states.specs.SearchLaws.{search}
 use Rattle.states.specs.LiteralLaws.{Distinct, unchosen, decided, all_and, all_on, next_breaks, clause_search}
 use Rattle.clausetests.specs.Fitting.{turned, only_in, both_in, atom_one, atom_two, clause_one, clause_two}
 use Rattle.clausetests.specs.Search.{narrowed, search_by}
-use Rattle.clausetests.proofs.PlaceLaws.{nth_in, places_same, not_true, both_means, both_there, both_turned}
+use Rattle.clausetests.proofs.PlaceLaws.{nth_in, places_same, both_means, both_there, both_turned}
 
 -- ---- a clause's variables: each once, and every atom has only these
 rising_out : (x y : ℕ) (l : List ℕ) → RisingFrom x l → y ≤ x → contains l y ≡ false
@@ -201,7 +202,7 @@ module _ (vs : List ℕ) (D : Distinct vs) (p : List ℕ) (x : ℕ) (lt : length
       ap (contains (take j vs)) (e ∙ sym (get_or-take j vs i 0 h)) ∙ nth_in (take j vs) i (omega arith)
 
   new_out : contains (take j vs) new ≡ false
-  new_out = not_true (contains (take j vs) new) (λ e.
+  new_out = false_from_ne_true (contains (take j vs) new) (λ e.
       let f = find_place (take j vs) new e in
       let l : length (take j vs) ≡ j = length-take-le j vs (omega arith) in
       let h : f.0 < j = omega (arith, f.1) in
@@ -266,7 +267,7 @@ module _ (vs : List ℕ) (D : Distinct vs) (p : List ℕ) (x : ℕ) (lt : length
 
   -- no pair with an earlier place
   no_pair_at : (i : ℕ) → i < length p → (u ≡ get_or vs i 0 → w ≡ t → ⊥) → (u ≡ t → w ≡ get_or vs i 0 → ⊥) → both_in (get_or vs i 0) t M ≡ false
-  no_pair_at i h f g = not_true (both_in (get_or vs i 0) t M) (λ e. go (both_means (get_or vs i 0) t u w e))
+  no_pair_at i h f g = false_from_ne_true (both_in (get_or vs i 0) t M) (λ e. go (both_means (get_or vs i 0) t u w e))
     where
       go : ((u ≡ get_or vs i 0) × (w ≡ t)) ⊎ ((u ≡ t) × (w ≡ get_or vs i 0)) → ⊥
       go (inl q) = f q.0 q.1

@@ -106,7 +106,7 @@ clause_is I roles size count i l text clauses atoms w s G T N W h = record {
   given = G;
   at = clause_at clauses atoms count l T i h;
   names = each_nth (ClauseNames roles) l i no_clause N (omega (arith, T.count));
-  narrow = any_false wide_clause no_clause l i W (omega (arith, T.count));
+  narrow = any_false wide_clause no_clause l W i (omega (arith, T.count));
 }
 
 goes_on : (i : ℕ) (o : Option (List ℕ)) (r : Verdict) → holds ≡ or_broken i o holds → or_broken i o r ≡ r
