@@ -16,7 +16,7 @@ use Rattle.pool.specs.Layout.{pool_of}
 use Rattle.pool.specs.Held.{Held}
 use Rattle.pool.specs.Answers.{sized}
 use Rattle.pool.specs.Answers.{after as after_pool}
-use Rattle.pool.proofs.Interning.{sized_same}
+use Rattle.pool.specs.AnswerLaws.{sized_same}
 use Rattle.rebuilding.specs.States.{counted, told}
 use Rattle.tables.specs.Drawn.{tables, show, shown, after, counters_in, clauses_in, atoms_in, deferrals_in}
 use Rattle.tables.specs.Good.{GoodAnswer, KeptAnswer}

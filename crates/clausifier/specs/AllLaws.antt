@@ -25,7 +25,7 @@ use Rattle.pool.specs.Held.{Held}
 use Rattle.pool.specs.Answers.{sized}
 use Rattle.pool.specs.HeldLaws.{pool_length}
 use Rattle.pool.specs.Tabs.{tab_next, tab_end, tab_each}
-use Rattle.pool.proofs.Interning.{sized_same}
+use Rattle.pool.specs.AnswerLaws.{sized_same}
 use Rattle.ontology.specs.Layout.{axiom_at, axioms_of}
 use Rattle.tables.specs.Drawn.{Tables, tables, show, counters_in, clauses_in, atoms_in, deferrals_in}
 use Rattle.tables.specs.Good.{Alike, alike_step, good_same}

@@ -14,7 +14,7 @@ use Rattle.rules.specs.Axioms.{Clausifier, C, in_out}
 use Rattle.pool.specs.Layout.{pool_of}
 use Rattle.pool.specs.Held.{Held}
 use Rattle.pool.specs.Answers.{sized}
-use Rattle.pool.proofs.Interning.{sized_same}
+use Rattle.pool.specs.AnswerLaws.{sized_same}
 use Rattle.tables.specs.Drawn.{tables, show, Sized}
 use Rattle.tables.specs.DrawnLaws.{show_same}
 use Rattle.hands.specs.Hands.{Four, four, EnvHeld, Did}

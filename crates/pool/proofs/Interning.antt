@@ -30,6 +30,7 @@ use Rattle.pool.specs.Shapes.{count_plain, listed_over}
 use Rattle.pool.specs.HeldLaws.{pool_length}
 use Rattle.pool.specs.PutLaws.{pool_put, held_put, frame_put}
 use Rattle.pool.proofs.Chain.{hash_over}
+use Rattle.pool.specs.AnswerLaws.{sized_same}
 
 -- ---- one concept more
 module _ (w : List ℕ) (k : Counters) (i : ℕ) (x : Record) (p : plain (concept_over w i x) ≡ x) where
@@ -72,9 +73,6 @@ found_below e (y ∷ p) c h = go (same_concept e y) (find e p) (λ i. found_belo
     go true o r f = let z : zero ≡ c = cc in omega arith
     go false none r f = absurd (let z : ◌≡◌ {A = ℕ} 0 1 = cc in omega arith)
     go false (some i) r f = let z : suc i ≡ c = cc in let l = r i refl in omega arith
-
-pub sized_same : (w : List ℕ) (k : Counters) → Held w k.concepts k.members → sized k (pool_of w k.concepts) ≡ k
-sized_same w k H = rw (pool_length w k.concepts, ← H.count) refl
 
 module _ (w : List ℕ) (k : Counters) (e : Concept) (H : Held w k.concepts k.members) where
   pub found : (c : ℕ) → some c ≡ find e (pool_of w k.concepts) → Interned k (intern_raw e) w w (Done k c)

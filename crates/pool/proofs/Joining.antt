@@ -30,9 +30,9 @@ use Rattle.pool.specs.Answers.{drawn, shown, Interned}
 use Rattle.pool.specs.Joints.{list_kind, identity_kind, annihilator_kind, identity_of, annihilator_of, operand_in}
 use Rattle.pool.specs.Marks.{is_marked, marked_ids, Outside, Beside, Flattened, Operands}
 use Rattle.pool.specs.HeldLaws.{pool_at, word_above, run_above}
-use Rattle.pool.proofs.Interning.{sized_same}
 use Rattle.pool.proofs.Marking.{added_append, operand_is, outside_then, outside_below, outside_same, outside_held, marked_is}
 use Rattle.pool.proofs.Sorting.{filter_same, filter_below, sorted_ids}
+use Rattle.pool.specs.AnswerLaws.{sized_same}
 
 -- ---- Top and Bot
 pub record Bare (k : ℕ) (e : Concept) : Type 0 where

@@ -10,6 +10,12 @@ use Rattle.rules.specs.Pool.{Pool, found_in, find}
 use Rattle.rules.specs.Post.{Post, gives, refuses}
 use Rattle.pool.specs.Layout.{pool_of}
 use Rattle.pool.specs.Answers.{sized, after, shown}
+use Rattle.pool.specs.HeldLaws.{pool_length}
+use Rattle.pool.specs.Held.{Held}
+
+-- counters with the sizes of their own pool
+pub sized_same : (w : List ℕ) (k : Counters) → Held w k.concepts k.members → sized k (pool_of w k.concepts) ≡ k
+sized_same w k H = rw (pool_length w k.concepts, ← H.count) refl
 
 -- what holds of the rule's answer holds of the code's
 pub after_post : (Q : ℕ → Pool → Type 0) (k k' : Counters) (i : ℕ) (w : List ℕ) (r : Res Pool ℕ) → Post Q r → after (Done k' i) w ≡ shown k r → Q i (pool_of w k'.concepts)
