@@ -1,5 +1,5 @@
 // Where the pass keeps its work in the words of scratch. Everything else there is done with.
-// (With no heap, scratch is one buffer that the caller lends: each contract asks for the least length of what its function reads there.)
+// (With no heap, scratch is one buffer that the caller lends: each contract asks that it reaches as far as the function goes.)
 
 // The named branches: for each the count of its body's atoms, then a word for each atom.
 pub const NAMED: usize = 0;

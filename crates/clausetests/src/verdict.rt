@@ -20,7 +20,7 @@ use sets::places::SHOWN;
 use sets::verdict::Broken;
 use tables::read;
 
-// The elements stand in scratch.
+// The elements stand in scratch. (A range, since each one's word is told by its place too.)
 fn put_shown(scratch: &mut [u8], found: [u32; 4])
     requires { scratch_bytes ≤ length scratch.old }
     ensures by_index { (k : ℕ) → k ≤ 4 → shown (words scratch.new) k ≡ take k found }
