@@ -3,7 +3,6 @@
 use Rattle.std.specs.Prelude.{◌≡◌, refl, Bool, true, false, List, ℕ, ◌+◌, ◌/◌, ◌≤◌, length, ltb, leb, Result, Ok, Err, is_ok}
 use Rattle.std.proofs.Common.{sym, ap, subst, ◌∙◌, arith, ltb-true, le_refl}
 use Rattle.std.proofs.lemmas.Bool.{false≢true}
-use Rattle.std.specs.Result.{MatchResult}
 use Rattle.ir.specs.Refusals.{refusal_number}
 use Rattle.ir.specs.declared.counters.Counters.{Counters}
 use Rattle.words.specs.Words.{words}

@@ -21,6 +21,17 @@ overflow_cast-result-3 c =
     let O = opened c.args.deck.now q.new.t q.result c.unwrap-st.result c.requires.2.0 q.ensures.result_after c.unwrap-st.ensures c.requires.2.1 in
     record { fits = omega (arith, O.roles, O.inside.roles) }
 
+pub invariant_of-result : goal.invariant_of-result
+invariant_of-result c =
+    let q = c.read in
+    let O = opened c.args.deck.now q.new.t q.result c.unwrap-st.result c.requires.2.0 q.ensures.result_after c.unwrap-st.ensures c.requires.2.1 in
+    record {
+      few_classes = omega (arith, O.classes, O.inside.classes);
+      few_individuals = omega (arith, O.individuals, O.inside.individuals);
+      few_roles = omega (arith, O.roles, O.inside.roles);
+      few_fresh = c.requires.1;
+    }
+
 pub returns : goal.returns
 returns c =
     let q = c.read in (
