@@ -28,7 +28,6 @@ use Rattle.axioms.specs.BodyLaws.{encoding_kept}
 use Rattle.axioms.specs.Wholes.{Whole, drawn, shown_whole, after_whole, standing, Clausifying, ClausifyingAfter, Untouched, OnwardAnswer, Clausified}
 use Rattle.leaves.specs.StepLaws.{hand_zero}
 
--- counters with the sizes of their own pool
 -- an answer of a rule over the state alone
 pub out_whole : {A : Type 0} (value : A → ℕ) (k : Counters) (rooms : Rooms) (x y : Four) (r : Answer) (m : Res Out A) (z : Clausifier)
     → Held x.scratch k.concepts k.members → z.pool ≡ pool_of x.scratch k.concepts
@@ -119,7 +118,6 @@ unfolding show
 drawn_same k k' rooms b o z = rw (b, o) refl
 
 -- ---- an axiom's function that only reads the pool
--- nothing is in hand
 pub untouched_below : (w w' : List ℕ) → take hands_at w' ≡ take hands_at w → Untouched w w'
 untouched_below w w' e = record { maps = λ j a b. hands_word w w' e j (omega arith); axioms = λ j a b. hands_word w w' e j (omega arith) }
 

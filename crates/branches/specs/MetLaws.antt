@@ -22,7 +22,6 @@ module _ (w : List ℕ) (m n i : ℕ) (long : m + n ≤ length w) where
   run_out h = drop_of_length-le (run w m n) {i = i} (omega (arith, run_long))
 
 -- ---- places
--- whether u is v, the test of either
 pub place_in_lem : (met : List ℕ) (v : ℕ) → contains met v ≡ true → place_of met v < length met
 unfolding place_of
 place_in_lem [] v e = absurd (let z : ◌≡◌ {A = ℕ} 0 1 = ap (λ (t : Bool). pick t 1 0) e in omega arith)

@@ -1,4 +1,4 @@
--- Clause i of a list, and the drawing by the tables' own counters. Assumes nothing.
+-- Clause i of a list. Assumes nothing.
 use Rattle.std.specs.Prelude.{List, ℕ, get_or}
 use Rattle.rules.specs.State.{Clause}
 use Rattle.tables.specs.Tabled.{no_clause}

@@ -9,7 +9,6 @@ use Rattle.decomposition.specs.Turning.{EndThere}
 use Rattle.decomposition.specs.StartLaws.{clauses_many, atoms_many, clauses_fit, atoms_fit}
 use Rattle.naming.specs.CallLaws.{named_least}
 
--- each branch has a word of its own
 module _ (k : Counters) (w c' a' : List ℕ) (s : Naming) (to n : ℕ) (E : EndThere k w c' a' s to n) where
   pub end_named : s.named ≤ 262144
   end_named = omega (arith, named_least E.passed.state.named, E.passed.held.many, E.passed.held.used, E.passed.held.few)

@@ -42,7 +42,6 @@ pub waited_below : (w w' : List ℕ) (filler name p : ℕ) (b : Bool) → w' ≡
 waited_below w w' filler name p true e h = ap (take p) e ∙ appended_below w filler name p h
 waited_below w w' filler name p false e h = ap (take p) e
 
--- the frame below a place above
 module _ (s s' : List ℕ) (k : Counters) (top : ℕ) (R : Reading s k) (ab : hands_at ≤ 6 * top) (e : take (6 * top) (words s') ≡ take (6 * top) (words s)) where
   front : take pool_words (words s') ≡ take pool_words (words s)
   front = frame_less pool_words (6 * top) (words s) (words s') (omega arith) e
