@@ -4,7 +4,7 @@ use mathlib.Core.Path.{refl, sym, ◌∙◌}
 use lib.Dec.{ltb}
 use Rattle.words.specs.Words.{words}
 use Rattle.ir.specs.Options.{equal_names}
-use Rattle.pool.specs.Shapes.{by_test}
+use Rattle.rules.specs.TextLaws.{by_test}
 use Rattle.ontology.specs.Layout.{axiom_at}
 use Rattle.ontology.specs.KeptAxioms.{kind_inside}
 use Rattle.clausifier.specs.RowLaws.{axiom_few}

@@ -4,7 +4,7 @@ use lib.Dec.{ltb}
 use borrow.Author.Tests.{ltb-true, ltb-false}
 use Rattle.words.specs.Words.{words}
 use Rattle.pool.specs.Layout.{field, concept_at}
-use Rattle.pool.specs.Shapes.{by_test}
+use Rattle.rules.specs.TextLaws.{by_test}
 use Rattle.leaves.specs.ReadLaws.{kind_of, concept_1, concept_3, concept_4, anew_kind}
 use Rattle.heads.proofs.limit.named_anew.Goals as goal
 
