@@ -1,5 +1,5 @@
 // reflexive_role_ids: by mapped ids, a flag for each role behind the role map. Each step takes the set's size and answers the new one: a
-// struct of it and of scratch would borrow scratch, which the edges are read from meanwhile.
+// struct of it and scratch would be opened at each read, since ontology's and inverse's functions take scratch alone.
 ghost use Rattle.std.specs.Prelude.{◌≡◌, [], ℕ, ◌*◌, ◌≤◌, ◌<◌, length};
 ghost use Rattle.words.specs.Words.{words};
 ghost use Rattle.ir.specs.Scratch.{alternatives_at};
