@@ -8,22 +8,14 @@ use crate::kinds;
 use crate::row::Row;
 use crate::state::{Section, State};
 
-// Each kind has an arm of its own: an arm of several numbers leaves the proof no equation of the kind.
 fn concept_names(row: &Row, kind: usize, st: State) -> bool
     ensures { result ≡ concept_names_ok (header_in st) (concept_of kind (numbers row.now)) }
 {
     match kind {
-        1 => true,
-        2 => true,
+        1 | 2 | 6 | 7 | 8 => true,
         3 => row.below(1, st.classes),
         4 => row.below(1, st.individuals),
-        5 => row.role_below(1, st.roles),
-        6 => true,
-        7 => true,
-        8 => true,
-        9 => row.role_below(1, st.roles),
-        10 => row.role_below(1, st.roles),
-        11 => row.role_below(2, st.roles),
+        5 | 9 | 10 => row.role_below(1, st.roles),
         _ => row.role_below(2, st.roles),
     }
 }
@@ -35,20 +27,13 @@ fn axiom_names(row: &Row, kind: usize, st: State) -> bool
     let roles = st.roles;
     match kind {
         21 => row.below(1, concepts) && row.below(2, concepts),
-        22 => row.all_below(1, concepts),
-        23 => row.all_below(1, concepts),
+        22 | 23 => row.all_below(1, concepts),
         24 => row.below(1, st.classes) && row.all_below(2, concepts),
-        25 => row.role_below(1, roles) && row.below(2, concepts),
-        26 => row.role_below(1, roles) && row.below(2, concepts),
+        25 | 26 => row.role_below(1, roles) && row.below(2, concepts),
         27 => row.role_below(1, roles) && row.all_roles_below(2, roles),
-        28 => row.role_below(1, roles),
-        29 => row.role_below(1, roles),
-        30 => row.role_below(1, roles),
-        31 => row.all_roles_below(1, roles),
-        32 => row.role_below(1, roles) && row.role_below(2, roles),
-        33 => row.role_below(1, roles) && row.role_below(2, roles),
-        34 => row.all_roles_below(1, roles),
-        35 => row.role_below(1, roles),
+        28 | 29 | 30 | 35 => row.role_below(1, roles),
+        31 | 34 => row.all_roles_below(1, roles),
+        32 | 33 => row.role_below(1, roles) && row.role_below(2, roles),
         _ => row.below(1, concepts) && row.below(2, st.individuals),
     }
 }
