@@ -142,7 +142,7 @@ axiom_range k e =
     (λ c. by_test (ltb k 37) (λ d. let a = ltb-false k 21 c in let b = ltb-true k 37 d in (a, omega arith)) (λ d. absurd (late 37 k 4 refl (λ z. absurd (omega arith)) (ltb-false k 37 d) e)))
 
 module _ (P : ℕ → Type 0) where
-  from : (k m : ℕ) → m ≤ k → P m → (m + 1 ≤ k → P k) → P k
+  pub from : (k m : ℕ) → m ≤ k → P m → (m + 1 ≤ k → P k) → P k
   from k m l a go = by_test (eqb k m) (λ e. subst P (sym (eqb-true k m e)) a) (λ e. go (omega (arith, eqb-false k m e)))
 
   concept_kinds : P 1 → P 2 → P 3 → P 4 → P 5 → P 6 → P 7 → P 8 → P 9 → P 10 → P 11 → P 12 → (k : ℕ) → section_of k ≡ 3 → P k
