@@ -1,4 +1,4 @@
--- The axioms over roles, as the code parts them, and the place of the atoms in hand.
+-- The axioms over roles, as the code parts them.
 use Rattle.std.specs.Prelude.{◌≡◌, refl, Bool, true, false, [], ◌∷◌, ℕ}
 use Prim.{Unit}
 use Rattle.ir.specs.declared.role.Role.{Role}
@@ -8,13 +8,7 @@ use Rattle.rules.specs.Base.{◌>>=◌, ◌>>◌}
 use Rattle.rules.specs.Pool.{Pool}
 use Rattle.rules.specs.State.{Env, E, canon, restart_vars, fresh_var, push}
 use Rattle.rules.specs.Axioms.{domain, range, asymmetric, disjoint_roles}
-
--- the first atom in hand, and the bytes of scratch up to the last one that an axiom needs
-abbrev pub hand_at : ℕ
-hand_at = 13500
-
-abbrev pub in_hand_bytes : ℕ
-in_hand_bytes = 338400
+pub use Rattle.hands.specs.Place.{hand_at, in_hand_bytes}
 
 abbrev pub irreflexive : Env → Role → E (Unit {0})
 irreflexive env r = push env (RoleAtom (canon env r) 0 0 ∷ []) []

@@ -7,13 +7,7 @@ use Rattle.rules.specs.Invariants.{Each}
 use Rattle.rules.specs.State.{Clause}
 use Rattle.hands.specs.Hands.{InHand}
 use Rattle.tables.specs.Tabled.{At, Run}
-
--- the first atom in hand, and the bytes of scratch up to the last one that a clause needs
-abbrev pub hand_at : ℕ
-hand_at = 13500
-
-abbrev pub in_hand_bytes : ℕ
-in_hand_bytes = 338400
+pub use Rattle.hands.specs.Place.{hand_at, in_hand_bytes}
 
 -- the clause x is in hand, its nb body atoms before its nh head atoms
 pub record ClauseInHand (w : List ℕ) (nb nh : ℕ) (x : Clause) : Type 0 where

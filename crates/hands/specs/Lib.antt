@@ -1,3 +1,4 @@
 pub mod Hands
 pub mod HandLaws
 pub mod QueueLaws
+pub mod Place
