@@ -1,4 +1,5 @@
 // How many alternatives there are, and the longest one's length; visits and variables as the Rust takes them.
+// Clauses that repeat stay clauses: `Good`, `HasList` and `Stands` are about one moment of what is lent.
 ghost use Rattle.words.specs.Words.{words};
 ghost use Rattle.ir.specs.Encoded.{Found};
 ghost use Rattle.tables.specs.Good.{Good};

@@ -1,4 +1,6 @@
 // clause.rs: encode_antecedent, without lists of lists.
+// Clauses that repeat stay clauses: each function asks for the length that it reads; `Good` and `Ready` are about one moment of what is
+// lent; a type with a number's bound would be made at each read and opened at each use.
 #![tactic(auto)]
 
 pub mod count;

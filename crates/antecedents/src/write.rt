@@ -1,5 +1,6 @@
 // One alternative of an antecedent, written as records of atoms.
 // The bound of a number that is read from a word stays a clause: a type with it would be made at each read, to be taken apart again.
+// Clauses that repeat stay clauses: each function asks for the length that it reads; `HasList` is about one moment of what is lent.
 ghost use Rattle.std.specs.Prelude.{◌≡◌, ◌+◌, ◌*◌, ◌≤◌, ◌<◌, length, get_or};
 ghost use Rattle.words.specs.Words.{words};
 ghost use Rattle.ir.specs.Records.{Fits};

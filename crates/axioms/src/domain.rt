@@ -1,5 +1,6 @@
 // ObjectPropertyDomain and ObjectPropertyRange.
 // The bound of a number that is read from a word stays a clause: a type with it would be made at each read, to be taken apart again.
+// Clauses that repeat stay clauses: each function asks for the length that it reads; `Good` is about one moment of what is lent.
 ghost use Rattle.std.specs.Prelude.{List, ℕ, ◌+◌, ◌*◌, ◌<◌, ◌≤◌, length};
 ghost use Rattle.words.specs.Words.{words};
 ghost use Rattle.ir.specs.Roles.{role_of};

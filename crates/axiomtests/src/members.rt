@@ -1,4 +1,6 @@
 // Sets of a list, by the list's numbers.
+// Clauses that repeat stay clauses: `SetsIn` is about one moment of what is lent; a type with a number's bound would be made at each read
+// and opened at each use. A run stays its first word and its count, as in the definitions.
 ghost use Rattle.std.specs.Prelude.{◌≡◌, Bool, ℕ, ◌+◌, ◌<◌, ◌≤◌};
 ghost use Rattle.words.specs.Words.{words};
 ghost use Rattle.rules.specs.Base.{all, any};

@@ -1,4 +1,5 @@
 // Atoms in records of scratch, and what the pass reads of a record without its atom: the kind, the variable, a role atom's other.
+// Clauses that repeat stay clauses: each function asks for the length that it reads.
 ghost use Rattle.std.specs.Prelude.{◌≡◌, ◌+◌, ◌*◌, ◌≤◌, length, get_or};
 ghost use Rattle.words.specs.Words.{words};
 

@@ -1,4 +1,5 @@
 // The cases' decks. Concept i is class i, as far as there are classes; the last class is the consequent.
+// Clauses that repeat stay clauses: a type with a number's bound would be made at each read and opened at each use.
 ghost use Rattle.std.specs.Prelude.{◌≤◌, length};
 
 fn end(out: &mut [u8], at: usize) -> usize {

@@ -1,4 +1,6 @@
 // The text of the clauses, the deferrals and the sums.
+// Clauses that repeat stay clauses: each function asks for the length that it reads. A run stays its first word and its count, as in the
+// definitions.
 ghost use Rattle.std.specs.Prelude.{List, [], ◌∷◌, ◌+◌, ◌*◌, ◌≤◌, length};
 ghost use Rattle.words.specs.Words.{words};
 ghost use Rattle.ir.specs.Refusals.{refusal_number};

@@ -1,4 +1,5 @@
 // A class's set: in the store, or beyond its room in the state's text.
+// Clauses that repeat stay clauses: a type with a number's bound would be made at each read and opened at each use.
 ghost use Rattle.std.specs.Prelude.{◌≡◌, ◌&&◌, List, [], ◌∷◌, ◌++◌, ℕ, suc, ◌+◌, ◌*◌, ◌≤◌, length, get_or, drop, eqb};
 ghost use Rattle.words.specs.Words.{words};
 ghost use Rattle.rules.specs.Semantics.{Interpretation};

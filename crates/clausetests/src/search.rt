@@ -1,4 +1,6 @@
 // The least elements that break a clause, by its tables. The last variable is one set; each one before it is a loop.
+// Clauses that repeat stay clauses: each function asks for the length that it reads; a type with a number's bound would be made at each
+// read and opened at each use.
 ghost use Rattle.std.specs.Prelude.{◌≡◌, Bool, ℕ, ◌<◌, ◌≤◌, ◌+◌, ◌-◌, length};
 ghost use Rattle.words.specs.Words.{words};
 ghost use Rattle.rules.specs.Run.{scratch_bytes};

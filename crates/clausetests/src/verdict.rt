@@ -1,4 +1,5 @@
 // The first clause that is broken, and the least elements that break it.
+// Clauses that repeat stay clauses: each function asks for the length that it reads.
 ghost use Rattle.std.specs.Prelude.{◌≡◌, false, List, ℕ, ◌≤◌, ◌+◌, ◌*◌, length, take};
 ghost use Rattle.words.specs.Words.{words};
 ghost use Rattle.rules.specs.Base.{any};

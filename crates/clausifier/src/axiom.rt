@@ -1,5 +1,6 @@
 // clausify_axiom: the arms, over the numbers of an axiom.
 // A run in scratch is its first word and its count, two numbers, as the definitions' `run` has it.
+// Clauses that repeat stay clauses: `AxiomOf` and `Clausifying` are about one moment of what is lent.
 ghost use Rattle.std.specs.Prelude.{◌<◌, ◌≤◌, length};
 ghost use Rattle.words.specs.Words.{words};
 ghost use Rattle.rules.specs.Axioms.{clausify_axiom};

@@ -1,4 +1,6 @@
 // clause.rs: clausify_axiom over all axioms, in the deck's order; with option 4 each with the limits that it names.
+// Clauses that repeat stay clauses: `Clausifying` is about one moment of what is lent; a type with a number's bound would be made at each
+// read and opened at each use.
 #![tactic(auto)]
 
 pub mod axiom;

@@ -1,4 +1,5 @@
 // An axiom, and then the limits that it named (option 4).
+// Clauses that repeat stay clauses: `AxiomOf` and `Clausifying` are about one moment of what is lent.
 ghost use Rattle.std.specs.Prelude.{◌≡◌, true, ◌&&◌, length};
 ghost use Rattle.words.specs.Words.{words};
 ghost use Rattle.ir.specs.Options.{equal_names};

@@ -1,4 +1,5 @@
 // A run in cleared tables, and what a refusal leaves of it.
+// Clauses that repeat stay clauses: tables that are read are no `Tables`.
 ghost use Rattle.std.specs.Prelude.{◌≡◌, true, List, ℕ, length, replicate, Ok};
 ghost use Rattle.words.specs.Words.{words};
 ghost use Rattle.rules.specs.State.{Rooms};

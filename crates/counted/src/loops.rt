@@ -1,6 +1,7 @@
 // add_counted_self_loops: R(v, v) where an at-most atom over a reflexive R counts it.
 // What never defers has two of the tables and the counters: with all of them it would say again what it leaves alone.
 // The bound of a number that is read from a word stays a clause: a type with it would be made at each read, to be taken apart again.
+// Clauses that repeat stay clauses: each function asks for the length that it reads; `Good` is about one moment of what is lent.
 ghost use Rattle.std.specs.Prelude.{◌≡◌, List, [], ◌∷◌, ◌++◌, ℕ, ◌+◌, ◌*◌, ◌<◌, ◌≤◌, ◌^◌, length, take};
 ghost use Rattle.words.specs.Words.{words};
 ghost use Rattle.ir.specs.Roles.{role_id};

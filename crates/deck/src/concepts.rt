@@ -1,4 +1,5 @@
 // 6 to 9, of a concept line: what it names, its list, an equal line before it, its bound.
+// Clauses that repeat stay clauses: `ConceptsHeld`, `IsConceptLine` and `IsList` are about one moment of what is lent.
 ghost use Rattle.std.specs.Prelude.{◌≡◌, ℕ, ◌≤◌, ◌<◌, get_or, drop};
 ghost use Rattle.words.specs.Words.{words};
 ghost use Rattle.rules.specs.Base.{all, any};

@@ -1,4 +1,5 @@
 // What a good line leaves: the header's numbers, a count, and a concept's or an axiom's record.
+// Clauses that repeat stay clauses: `RowEntering` is about one moment of what is lent.
 ghost use Rattle.std.specs.Prelude.{◌≡◌, ◌+◌, ◌*◌, ◌≤◌, ◌<◌, length, get_or};
 ghost use Rattle.rules.specs.Deck.{section_of};
 ghost use Rattle.deck.specs.Records.{with_header, with_key, RowEntering, RowEntered};

@@ -1,6 +1,8 @@
 // The table: three words for each concept line (where it begins, its number of fields, its depth), two for each axiom line (where
 // it begins, its number of fields), and an index of the concept lines: by hash the last one, and for each the one before it with
 // its hash (one more than its number; 0: none).
+// Clauses that repeat stay clauses: each function asks for the length that it reads; a type with a number's bound would be made at each
+// read and opened at each use.
 ghost use Rattle.std.specs.Prelude.{◌≡◌, [], ◌∷◌, ◌+◌, ◌*◌, ◌≤◌, ◌<◌, length, get_or, set};
 ghost use Rattle.std.proofs.lemmas.List.Edits.{sets};
 ghost use Rattle.words.specs.Words.{words};

@@ -1,4 +1,5 @@
 // clause.rs: decompose_wide_bodies.
+// Clauses that repeat stay clauses: each function asks for the length that it reads; tables that are read are no `Tables`.
 #![tactic(auto)]
 
 pub mod one;

@@ -1,4 +1,5 @@
 // One clause of the list, and its end.
+// Clauses that repeat stay clauses: each function asks for the length that it reads.
 ghost use Rattle.std.specs.Prelude.{◌≡◌, List, ℕ, ◌*◌, ◌<◌, ◌≤◌, length};
 ghost use Rattle.words.specs.Words.{words};
 ghost use Rattle.rules.specs.State.{Clause};

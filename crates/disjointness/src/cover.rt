@@ -1,5 +1,7 @@
 // A disjoint union's class is covered by its members, where each is a class or an individual.
 // A run in scratch is its first word and its count, two numbers, as the definitions' `run` has it.
+// Clauses that repeat stay clauses: each function asks for the length that it reads; `Good` and `Reading` are about one moment of what is
+// lent; a type with a number's bound would be made at each read and opened at each use.
 ghost use Rattle.std.specs.Prelude.{◌≡◌, [], ℕ, ◌+◌, ◌<◌, ◌≤◌, ◌^◌, length};
 ghost use Rattle.words.specs.Words.{words};
 ghost use Rattle.rules.specs.Axioms.{cover};

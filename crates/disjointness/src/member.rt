@@ -1,5 +1,7 @@
 // A member of a disjoint union is below its class.
 // The bound of a number that is read from a word stays a clause: a type with it would be made at each read, to be taken apart again.
+// Clauses that repeat stay clauses: each function asks for the length that it reads; `Encoding` and `Good` are about one moment of what is
+// lent.
 ghost use Rattle.std.specs.Prelude.{ℕ, ◌+◌, ◌<◌, ◌≤◌, ◌^◌, length};
 ghost use Rattle.words.specs.Words.{words};
 ghost use Rattle.pool.specs.Layout.{pool_of};

@@ -1,4 +1,6 @@
 // And and Or: the elements that all concepts of a list have, or one of them.
+// Clauses that repeat stay clauses: each function asks for the length that it reads; a type with a number's bound would be made at each
+// read and opened at each use. A run stays its first word and its count, as in the definitions.
 ghost use Rattle.std.specs.Prelude.{◌≡◌, Bool, ℕ, ◌+◌, ◌<◌, ◌≤◌, length};
 ghost use Rattle.words.specs.Words.{words};
 ghost use Rattle.rules.specs.Invariants.{Each};

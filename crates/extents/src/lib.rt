@@ -1,5 +1,7 @@
 // What a deck's concepts mean in a state that is laid out: a set for each concept line. Store and scratch are two lent buffers, each by
 // itself: one is read while the other is written.
+// Clauses that repeat stay clauses: `ReadyThere` is about one moment of what is lent; a type with a number's bound would be made at each
+// read and opened at each use.
 #![tactic(auto)]
 
 mod joint;

@@ -2,6 +2,8 @@
 // They are told by their first record and their number, two numbers, as `Did` has them.
 // Who never defers takes two tables and the counters: `Tables` asks that the deferrals fit too, and a struct of the three inside it
 // cannot be lent beside `deferrals`.
+// Clauses that repeat stay clauses: each function asks for the length that it reads; `Good` is about one moment of what is lent; a type
+// with a number's bound would be made at each read and opened at each use.
 #![tactic(auto)]
 
 ghost use Rattle.std.specs.Prelude.{◌≡◌, List, [], ◌∷◌, ◌++◌, ℕ, ◌+◌, ◌*◌, ◌≤◌, length};

@@ -1,5 +1,6 @@
 // Option 4: the filler of a limit that is named anew waits, for its inclusion in the name.
 // The bound of a number that is read from a word stays a clause: a type with it would be made at each read, to be taken apart again.
+// Clauses that repeat stay clauses: each function asks for the length that it reads; `Reading` is about one moment of what is lent.
 ghost use Rattle.std.specs.Prelude.{◌≡◌, ◌&&◌, ◌+◌, ◌*◌, ◌<◌, ◌≤◌, length};
 ghost use Rattle.words.specs.Words.{words};
 ghost use Rattle.ir.specs.Pick.{pick};

@@ -1,4 +1,6 @@
 // build_inverse_canon, resolved: a role that is a key has the code of what it is mapped to, which is an inverse; any other its own.
+// Clauses that repeat stay clauses: each function asks for the length that it reads; `Building` is about one moment of what is lent; a
+// type with a number's bound would be made at each read and opened at each use.
 ghost use Rattle.std.specs.Prelude.{◌≡◌, [], ◌*◌, ◌≤◌, ◌<◌, length};
 ghost use Rattle.words.specs.Words.{words};
 ghost use Rattle.ir.specs.Scratch.{alternatives_at};

@@ -1,4 +1,6 @@
 // clause.rs: build_inverse_canon and canon_role.
+// Clauses that repeat stay clauses: each function asks for the length that it reads; a type with a number's bound would be made at each
+// read and opened at each use.
 #![tactic(auto)]
 
 pub mod build;

@@ -1,4 +1,5 @@
 // clause.rs: the passes after the last axiom.
+// Clauses that repeat stay clauses: each function asks for the length that it reads; tables that are read are no `Tables`.
 #![tactic(auto)]
 
 ghost use Rattle.std.specs.Prelude.{◌≡◌, ◌*◌, ◌≤◌, length};

@@ -1,6 +1,7 @@
 // A state read: its lines checked one after the other, each entered into the words that lay it out. A class's set stands in the
 // store where it has room; what an element is related to stands in scratch, by role code. The store's classes beyond its room are
 // found in the text later.
+// Clauses that repeat stay clauses: each function asks for the length that it reads.
 #![tactic(auto)]
 
 pub mod check;

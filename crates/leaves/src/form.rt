@@ -1,5 +1,6 @@
 // Which way emit_head goes.
 // The bound of a number that is read from a word stays a clause: a type with it would be made at each read, to be taken apart again.
+// Clauses that repeat stay clauses: `Reading` is about one moment of what is lent.
 ghost use Rattle.std.specs.Prelude.{◌≡◌, ◌<◌, ◌≤◌};
 ghost use Rattle.words.specs.Words.{words};
 ghost use Rattle.pool.specs.Layout.{field, concept_at, pool_of};

@@ -1,6 +1,8 @@
 // emit_head where nothing is named.
 // Atoms in hand are told by their first record and their number, two numbers, as `Did` has them.
 // The bound of a number that is read from a word stays a clause: a type with it would be made at each read, to be taken apart again.
+// Clauses that repeat stay clauses: each function asks for the length that it reads; `Good` and `Reading` are about one moment of what is
+// lent.
 ghost use Rattle.std.specs.Prelude.{◌≡◌, [], ◌+◌, ◌*◌, ◌<◌, ◌≤◌, length, IfSome};
 ghost use Rattle.words.specs.Words.{words};
 ghost use Rattle.ir.specs.Scratch.{hands_at, limits_at};

@@ -1,5 +1,6 @@
 // What a concept of the pool is: Top, a class, a role in its canonical form.
 // The bound of a number that is read from a word stays a clause: a type with it would be made at each read, to be taken apart again.
+// Clauses that repeat stay clauses: `Reading` is about one moment of what is lent.
 ghost use Rattle.std.specs.Prelude.{◌≡◌, ◌+◌, ◌<◌, ◌^◌, IfSome};
 ghost use Rattle.std.proofs.Math.Option.{some};
 ghost use Rattle.words.specs.Words.{words};

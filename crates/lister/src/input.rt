@@ -1,4 +1,5 @@
 // The listing of an input of any length.
+// Clauses that repeat stay clauses: each function asks for the length that it reads.
 ghost use Rattle.std.specs.Prelude.{◌≡◌, List, ℕ, ◌<◌, ◌≤◌, length};
 ghost use Rattle.rules.specs.Deck.{most_bytes};
 ghost use Rattle.rules.specs.Lister.{lister_lengths, listing};

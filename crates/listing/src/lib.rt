@@ -1,4 +1,6 @@
 // The text of clauses, as the lister prints them, from the lent tables into lent bytes.
+// Clauses that repeat stay clauses: `ClauseThere` is about one moment of what is lent. A run stays its first word and its count, as in the
+// definitions.
 #![tactic(auto)]
 
 ghost use Rattle.std.specs.Prelude.{List, ◌+◌, ◌*◌, ◌/◌, ◌≤◌, length};

@@ -1,5 +1,7 @@
 // DisjointClasses: all pairs of a member and a later one.
 // A run in scratch is its first word and its count, two numbers, as the definitions' `run` has it.
+// Clauses that repeat stay clauses: `Clausifying` and `Listed` are about one moment of what is lent; a type with a number's bound would be
+// made at each read and opened at each use.
 ghost use Rattle.std.specs.Prelude.{[], ◌+◌, ◌-◌, ◌<◌, length, get_or};
 ghost use Rattle.words.specs.Words.{words};
 ghost use Rattle.rules.specs.Base.{for_each};

@@ -1,6 +1,8 @@
 // DisjointObjectProperties: all pairs of a role and a later one that differs from it.
 // A run in scratch is its first word and its count, two numbers, as the definitions' `run` has it.
 // What never defers has two of the tables and the counters: with all of them it would say again what it leaves alone.
+// Clauses that repeat stay clauses: `Clausifying` is about one moment of what is lent; a type with a number's bound would be made at each
+// read and opened at each use.
 ghost use Rattle.std.specs.Prelude.{◌≡◌, List, [], map, ℕ, ◌+◌, ◌-◌, ◌<◌, length, get_or};
 ghost use Rattle.words.specs.Words.{words};
 ghost use Rattle.rules.specs.Base.{for_each};

@@ -1,5 +1,7 @@
 // name_branches: each child of the root, with what is below it, becomes one class atom on the root. (`root`, `t` and `keep` stay apart:
 // each step of the recursion takes other ones of them, and changes one.)
+// Clauses that repeat stay clauses: each function asks for the length that it reads; `NamedThere` and `TameThere` are about one moment of
+// what is lent; a type with a number's bound would be made at each read and opened at each use.
 ghost use Rattle.std.specs.Prelude.{List, ◌++◌, ℕ, ◌+◌, ◌*◌, ◌<◌, ◌≤◌, length};
 ghost use Rattle.words.specs.Words.{words};
 ghost use Rattle.ir.specs.declared.atom.Atom.{Atom};

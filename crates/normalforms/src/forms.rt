@@ -1,4 +1,6 @@
 // The text of a deck's normal form.
+// Clauses that repeat stay clauses: each function asks for the length that it reads; `NormalizingAxioms` is about one moment of what is
+// lent.
 ghost use Rattle.std.specs.Prelude.{◌*◌, ◌≤◌, length};
 ghost use Rattle.words.specs.Words.{words};
 ghost use Rattle.ir.specs.Scratch.{hands_at};

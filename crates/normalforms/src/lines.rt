@@ -1,6 +1,8 @@
 // The text of a pool and of axioms. A kind is printed as the number that it is: an enum would be made by a match over the same numbers, to
 // be a number again. A concept's id and its record's words are bounded by `Ready`: a type with the bound would be made at each read, to be
 // taken apart again.
+// Clauses that repeat stay clauses: each function asks for the length that it reads; `AxiomsHeld` is about one moment of what is lent. A
+// run stays its first word and its count, as in the definitions.
 ghost use Rattle.std.specs.Prelude.{◌+◌, ◌*◌, ◌≤◌, ◌<◌, ◌≡◌, true, false, length};
 ghost use Rattle.words.specs.Words.{words};
 ghost use Rattle.ir.specs.Refusals.{refusal_number};

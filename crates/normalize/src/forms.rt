@@ -1,4 +1,6 @@
 // nnf_axioms: the concepts of each axiom become their normal forms.
+// Clauses that repeat stay clauses: `NormalizingAxioms` is about one moment of what is lent; a type with a number's bound would be made at
+// each read and opened at each use.
 ghost use Rattle.std.specs.Prelude.{◌≡◌, ◌+◌, ◌-◌, ◌≤◌, ◌<◌, true};
 ghost use Rattle.words.specs.Words.{words};
 ghost use Rattle.ir.specs.Scratch.{numbers_at, lines_at, stack_at};

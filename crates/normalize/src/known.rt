@@ -1,5 +1,6 @@
 // Normal forms that are known: for each concept, and for its negation, one word: 0, or the id of its normal form and, times
 // 2,048, the visits that made it. Made again, in a pool that has only grown, it takes as many visits and makes nothing.
+// Clauses that repeat stay clauses: each function asks for the length that it reads.
 ghost use Rattle.std.specs.Prelude.{◌≡◌, ◌+◌, ◌*◌, ◌≤◌, ◌<◌, length, get_or};
 ghost use Rattle.words.specs.Words.{words};
 ghost use Rattle.ir.specs.Scratch.{hands_at};

@@ -2,6 +2,8 @@
 // `memo` choose what `nnf_by` and `KnownIf` choose by the same Bool: a closure would need a name for what each of the two says. (`memo`
 // was tried as a const parameter of the three: the check refuses the step that it makes itself for a call inside a generic cycle,
 // `the-fit-normal_each-normal-requires`, whatever the answers.)
+// Clauses that repeat stay clauses: `Normalizing` is about one moment of what is lent. A run stays its first word and its count, as in the
+// definitions.
 ghost use Rattle.std.specs.Prelude.{◌≡◌, true, false, ℕ, ◌<◌};
 ghost use Rattle.words.specs.Words.{words};
 ghost use Rattle.ir.specs.Scratch.{stack_at};

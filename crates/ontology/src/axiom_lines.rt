@@ -1,4 +1,5 @@
 // The axiom lines become axioms: their numbers, one line behind the other.
+// Clauses that repeat stay clauses: each function asks for the length that it reads.
 ghost use Rattle.std.specs.Prelude.{◌≡◌, ◌+◌, ◌*◌, ◌≤◌, ◌<◌, ℕ, length};
 ghost use Rattle.words.specs.Words.{words};
 ghost use Rattle.ir.specs.Scratch.{axioms_at, numbers_at, lines_at, stack_at};

@@ -1,4 +1,6 @@
 // The reader's table in scratch: where each line of an accepted deck begins and how many numbers it has.
+// Clauses that repeat stay clauses: each function asks for the length that it reads; a type with a number's bound would be made at each
+// read and opened at each use.
 ghost use Rattle.std.specs.Prelude.{◌≡◌, ◌*◌, ◌≤◌, ◌<◌, length};
 ghost use Rattle.words.specs.Words.{words};
 ghost use Rattle.ir.specs.Scratch.{stack_at};

@@ -1,4 +1,6 @@
 // The search for the equal record, by hash.
+// Clauses that repeat stay clauses: each function asks for the length that it reads; `Asked` and `Ready` are about one moment of what is
+// lent; a type with a number's bound would be made at each read and opened at each use.
 ghost use Rattle.std.specs.Prelude.{◌≡◌, ◌+◌, ◌*◌, ◌≤◌, ◌<◌, length};
 ghost use Rattle.words.specs.Words.{words};
 ghost use Rattle.rules.specs.Concept.{same_concept};

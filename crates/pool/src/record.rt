@@ -1,4 +1,6 @@
 // A concept's record, six words: kind, role code, number, child, the list members in use after it, and the index's link.
+// Clauses that repeat stay clauses: each function asks for the length that it reads; a type with a number's bound would be made at each
+// read and opened at each use.
 ghost use Rattle.std.specs.Prelude.{◌≡◌, ◌+◌, ◌≤◌, ◌<◌, length, get_or};
 ghost use Rattle.words.specs.Words.{words};
 ghost use Rattle.rules.specs.Pool.{most_concepts, most_members};

@@ -2,6 +2,8 @@
 // made of the same two. `negated` chooses what the clauses' definitions choose by the same Bool: a closure would need a name for what
 // each of the two says. Kinds are the record's numbers, by pool's names: an enum would be made by a match over the same numbers. Scratch
 // and counters are each by itself: both change between two uses, and a struct of them would be made anew at each call.
+// Clauses that repeat stay clauses: `Normalizing` and `Ready` are about one moment of what is lent; a type with a number's bound would be
+// made at each read and opened at each use.
 ghost use Rattle.std.specs.Prelude.{◌≡◌, ◌<◌, length};
 ghost use Rattle.std.proofs.lemmas.List.Edits.{sets};
 ghost use Rattle.words.specs.Words.{words};

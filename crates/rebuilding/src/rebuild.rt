@@ -1,5 +1,7 @@
 // A concept made again of its parts' normal forms. `negated` chooses what `rebuilt` chooses by the same Bool; for it, for kinds, and for
 // scratch and counters each by itself, what the head of parts says holds here too.
+// Clauses that repeat stay clauses: `Ready` and `Rebuilding` are about one moment of what is lent; a type with a number's bound would be
+// made at each read and opened at each use. A run stays its first word and its count, as in the definitions.
 ghost use Rattle.std.specs.Prelude.{◌≡◌, true, false, [], ◌∷◌, ◌≤◌, ◌<◌, drop};
 ghost use Rattle.words.specs.Words.{words};
 ghost use Rattle.ir.specs.Scratch.{keys_at};

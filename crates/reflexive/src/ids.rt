@@ -1,5 +1,7 @@
 // reflexive_role_ids: by mapped ids, a flag for each role behind the role map. Each step takes the set's size and answers the new one: a
 // struct of it and scratch would be opened at each read, since ontology's and inverse's functions take scratch alone.
+// Clauses that repeat stay clauses: each function asks for the length that it reads; `Building` and `Ready` are about one moment of what
+// is lent; a type with a number's bound would be made at each read and opened at each use.
 ghost use Rattle.std.specs.Prelude.{◌≡◌, [], ℕ, ◌*◌, ◌≤◌, ◌<◌, length};
 ghost use Rattle.words.specs.Words.{words};
 ghost use Rattle.ir.specs.Scratch.{alternatives_at};

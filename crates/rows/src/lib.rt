@@ -1,4 +1,5 @@
 // Rows of numbers in 11 columns, as a deck has them, written into lent bytes.
+// A run stays its first word and its count, as in the definitions.
 #![tactic(auto)]
 
 ghost use Rattle.std.specs.Prelude.{◌≡◌, [], ◌∷◌, ◌+◌, ◌*◌, ◌≤◌, ◌<◌, length, take, drop};

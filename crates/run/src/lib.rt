@@ -1,4 +1,5 @@
 // clausify_with_stats but for its statistics, on lent tables of zeros.
+// Clauses that repeat stay clauses: each function asks for the length that it reads.
 #![tactic(auto)]
 
 ghost use Rattle.std.specs.Prelude.{◌≤◌, length};

@@ -1,4 +1,6 @@
 // Sets in lent words, two words each, read and written by the table's words, which their clauses are about.
+// Clauses that repeat stay clauses: each function asks for the length that it reads; a type with a number's bound would be made at each
+// read and opened at each use.
 ghost use Rattle.std.specs.Prelude.{◌≡◌, Bool, ℕ, ◌≤◌, ◌<◌, ◌+◌, ◌*◌, length};
 ghost use Rattle.words.specs.Words.{words};
 ghost use Rattle.rules.specs.Run.{scratch_bytes};

@@ -1,4 +1,5 @@
 // Sets of at most 64 elements, element x the digit x of one number.
+// Clauses that repeat stay clauses: a type with a number's bound would be made at each read and opened at each use.
 #![tactic(auto)]
 
 pub mod kept;

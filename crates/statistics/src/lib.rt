@@ -1,4 +1,5 @@
 // clause.rs: ClauseStats.
+// Clauses that repeat stay clauses: tables that are read are no `Tables`.
 #![tactic(auto)]
 
 ghost use Rattle.std.specs.Prelude.{◌≡◌, List, ◌≤◌, length};

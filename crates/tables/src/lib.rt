@@ -1,5 +1,6 @@
 // The lent tables: one clause more, its atoms as one run in the atom table; one deferral more. Each function takes the tables that it
 // writes, and not `Tables`: with all of them it would say again what it leaves alone, and ask for the size of one that it does not touch.
+// Clauses that repeat stay clauses: a type with a number's bound would be made at each read and opened at each use.
 #![tactic(auto)]
 
 pub mod lent;

@@ -1,5 +1,6 @@
 // The records of the lent tables: how many there is room for, clause i's record, its body and its head as parts of the atom table,
 // deferral i's record.
+// Clauses that repeat stay clauses: each function asks for the length that it reads; `ClauseThere` is about one moment of what is lent.
 ghost use Rattle.std.specs.Prelude.{◌≡◌, ◌++◌, ◌+◌, ◌*◌, ◌/◌, ◌≤◌, length};
 ghost use Rattle.words.specs.Words.{words};
 ghost use Rattle.rules.specs.State.{Clause};

@@ -1,4 +1,5 @@
 // The axioms' test of a deck that was run.
+// Clauses that repeat stay clauses: each function asks for the length that it reads; `ReadyThere` is about one moment of what is lent.
 ghost use Rattle.std.specs.Prelude.{◌≡◌, List, ℕ, ◌≤◌, length};
 ghost use Rattle.words.specs.Words.{words};
 ghost use Rattle.rules.specs.State.{Clause};

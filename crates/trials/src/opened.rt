@@ -1,4 +1,5 @@
 // What an accepted deck declares.
+// Clauses that repeat stay clauses: each function asks for the length that it reads.
 ghost use Rattle.std.specs.Prelude.{◌≡◌, ◌≤◌, length};
 ghost use Rattle.rules.specs.Deck.{Known, fine, read_deck};
 ghost use Rattle.rules.specs.Run.{scratch_bytes};

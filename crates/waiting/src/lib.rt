@@ -1,4 +1,5 @@
 // The limits that wait (option 4), in scratch: their count, then the filler and the name of each.
+// Clauses that repeat stay clauses: each function asks for the length that it reads.
 #![tactic(auto)]
 
 ghost use Rattle.std.specs.Prelude.{◌≡◌, ◌+◌, ◌*◌, ◌<◌, ◌≤◌, length, get_or, set};
