@@ -2,12 +2,13 @@
 use mathlib.Core.Path.{◌≡◌, refl, sym, ap, ◌∙◌}
 use mathlib.Core.Bool.{Bool, true, false, ◌&&◌, ◌||◌}
 use mathlib.Core.List.{List, [], ◌∷◌}
-use Prim.Native.Nat.{ℕ, ◌+◌, ◌%◌, ◌<◌, ◌≤◌}
+use Prim.Native.Nat.{ℕ, zero, suc, ◌+◌, ◌-◌, ◌%◌, ◌<◌, ◌≤◌}
 use native.Mathlib.Omega.{arith}
 use borrow.Author.Tests.{lt-ltb, le-ltb}
 use lib.Dec.{eqb, ltb}
 use lib.ListN.{length, get_or, take, drop, length-drop, drop_of_length-le}
 use lib.Seq.{length-take-le, get_or-take, get_or-drop}
+use Rattle.std.specs.List.{list_all, range_with_len}
 use Rattle.rules.specs.Base.{all}
 use Rattle.rules.specs.Deck.{rising}
 use Rattle.words.specs.Words.{words}
@@ -37,12 +38,6 @@ line_number v n k h = part_at v line_at n k h
 
 -- ---- from number k on
 module _ (l : List ℕ) (k x : ℕ) (h : k < length l) (e : x ≡ get_or l k 0) where
-  pub all_yes : (q : ℕ → Bool) → q x ≡ true → all q (drop (k + 1) l) ≡ all q (drop k l)
-  all_yes q c = rw (next l k x h e, c) refl
-
-  pub all_no : (q : ℕ → Bool) → q x ≡ false → false ≡ all q (drop k l)
-  all_no q c = rw (next l k x h e, c) refl
-
   pub rising_first : rising (x ∷ drop (k + 1) l) ≡ rising (drop k l)
   rising_first = rw (next l k x h e) refl
 
@@ -59,9 +54,6 @@ module _ (l : List ℕ) (k : ℕ) (h : length l ≤ k) where
   pub past : drop k l ≡ []
   past = drop_of_length-le l {i = k} h
 
-  pub all_end : (q : ℕ → Bool) → true ≡ all q (drop k l)
-  all_end q = rw past refl
-
   pub rising_none : true ≡ rising (drop k l)
   unfolding rising
   rising_none = rw past refl
@@ -77,6 +69,11 @@ module _ (l : List ℕ) (k : ℕ) (h : length l ≤ k) where
   pub pairs_end : (a b : ℕ) → true ≡ rising_pairs (a ∷ b ∷ drop k l)
   unfolding rising_pairs
   pairs_end a b = rw past refl
+
+-- a test of the n numbers from number k on
+pub all_from : (q : ℕ → Bool) (l : List ℕ) (k n : ℕ) → length l - k ≡ n → list_all (λ i. q (get_or l i 0)) (range_with_len k n) ≡ all q (drop k l)
+all_from q l k zero e = rw (past l k (omega arith)) refl
+all_from q l k (suc n) e = rw (next l k (get_or l k 0) (omega arith) refl) (ap (λ (b : Bool). q (get_or l k 0) && b) (all_from q l (k + 1) n (omega arith)))
 
 -- ---- two numbers
 pub two_next : (l : List ℕ) (k x y : ℕ) → k + 1 < length l → x ≡ get_or l k 0 → y ≡ get_or l (k + 1) 0 → drop k l ≡ x ∷ y ∷ drop (k + 2) l

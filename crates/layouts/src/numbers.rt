@@ -34,12 +34,7 @@ impl<'a> Numbers<'a> {
     pub fn all_below(&self, size: u32) -> bool
         ensures { result ≡ all (λ e. ltb e size) (drop 2 (numbers self.now)) }
     {
-        for k in 2..self.count {
-            if self.number(k) >= size {
-                return false;
-            }
-        }
-        true
+        (2..self.count).all(|k| self.number(k) < size)
     }
 
     // They rise strictly.
