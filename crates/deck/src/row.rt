@@ -65,12 +65,7 @@ impl<'a> Row<'a> {
         requires { Each (F.pre test) (drop from (numbers self.now)) }
         ensures { (q : ℕ → Bool) → ((x : ℕ) (b : Bool) → x < 2 ^ 64 → F.pre test x → F.post test x b → b ≡ q x) → result ≡ all q (drop from (numbers self.now)) }
     {
-        for k in from..self.line.fields {
-            if !test(self.field(k)) {
-                return false;
-            }
-        }
-        true
+        (from..self.line.fields).map(|k| self.field(k)).all(test)
     }
 
     pub fn all_below(&self, from: usize, bound: usize) -> bool
@@ -104,15 +99,8 @@ impl<'a> Row<'a> {
     pub fn same_numbers(&self, other: &Row) -> bool
         ensures { result ≡ same_words (numbers self.now) (numbers other.now) }
     {
-        if self.line.fields != other.line.fields {
-            return false;
-        }
-        for k in 0..self.line.fields {
-            if self.field(k) != other.field(k) {
-                return false;
-            }
-        }
-        true
+        self.line.fields == other.line.fields
+            && (0..self.line.fields).all(|k| self.field(k) == other.field(k))
     }
 
     pub fn hash(&self) -> usize

@@ -1,16 +1,17 @@
+use mathlib.Core.Path.{refl, ◌∙◌}
 use native.Mathlib.Omega.{arith}
-use mathlib.Core.Path.{◌∙◌}
-use Rattle.deck.proofs.RowLaws.{same_length, same_yes, same_no, same_end}
+use borrow.Author.Tests.{tests, ne_eqb}
+use Rattle.std.proofs.Common.{rules}
+use Rattle.std.proofs.lemmas.Iterator.{YieldsList-from_range, cases_from_all}
+use Rattle.deck.proofs.RowLaws.{Agree, Differ, same_length, same_all}
 use Rattle.deck.proofs.row.Row.same_numbers.Goals as goal
 
 pub returns-then-self-other : goal.returns-then-self-other
-returns-then-self-other c = same_length c.args.self.now c.args.other.now c.if-self-other.true
+returns-then-self-other c =
+    let r = c.args.self.now in
+    let o = c.args.other.now in
+    same_all r o c.if-self-other.true c.all.result
+    (cases_from_all _ _ c.all.result (Agree r o) (Differ r o) c.all.ensures.ran (YieldsList-from_range 0 r.line.fields r.line.fields refl (omega arith)) (λ x q k. search (rules, tests)) (λ x q k. search (rules, tests)))
 
-pub returns-then-field : goal.returns-then-field
-returns-then-field c = same_no c.args.self.now c.loop-k.k _ c.loop-k-test.true c.field.ensures c.args.other.now _ (omega arith) c.field-in-loop-k.ensures c.if-field.true ∙ c.loop-k.invariant
-
-pub loop-k-preserved : goal.loop-k-preserved
-loop-k-preserved c = same_yes c.args.self.now c.loop-k.k _ c.loop-k-test.true c.field.ensures c.args.other.now _ (omega arith) c.field-in-loop-k.ensures c.if-field.false ∙ c.loop-k.invariant
-
-pub returns : goal.returns
-returns c = same_end c.args.self.now c.loop-k.k c.loop-k-test.false c.args.other.now c.if-self-other.false ∙ c.loop-k.invariant
+pub returns-else-self-other : goal.returns-else-self-other
+returns-else-self-other c = ne_eqb _ _ c.if-self-other.false ∙ same_length c.args.self.now c.args.other.now c.if-self-other.false
