@@ -155,12 +155,7 @@ fn unfolded(atoms: &[u8], k: Record, b: u32) -> Option<u32> {
     if let Some(m) = bits(atoms, k, 0, 12, b) {
         return Some(m);
     }
-    for i in 12..15 {
-        if let Some(s) = single(atoms, k, i, b) {
-            return Some(s);
-        }
-    }
-    None
+    (12..15).find_map(|i| single(atoms, k, i, b))
 }
 
 // Clause c is what is due there.

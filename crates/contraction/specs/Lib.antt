@@ -1,5 +1,6 @@
 pub mod InHands
 pub mod SameLaws
+pub mod SearchLaws
 pub mod PlainLaws
 pub mod PlacedLaws
 pub mod Sizes

@@ -94,10 +94,6 @@ pub fn is_among(
     requires { HandThere (words scratch.now) hand.body hand.head × TableThere (words clauses.now) (words atoms.now) to × (from ≤ to) × (in_hand_bytes ≤ length scratch.now) }
     ensures { (l : List Clause) (x : Clause) → Tabled (words clauses.now) (words atoms.now) to l → ClauseInHand (words scratch.now) hand.body hand.head x → result ≡ contains_clause (drop from l) x }
 {
-    for c in (from..to).rev() {
-        if has_size(clauses, c, hand) && is_clause(scratch, clauses, atoms, hand, c) {
-            return true;
-        }
-    }
-    false
+    (from..to).rev().any(|c| has_size(clauses, c, hand)
+        && is_clause(scratch, clauses, atoms, hand, c))
 }

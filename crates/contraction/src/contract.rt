@@ -82,12 +82,7 @@ fn in_body(scratch: &[u8], nb: u32, i: usize) -> bool
     requires { (24 * (hand_at + nb) ≤ length scratch.now) × (24 * (i + 1) ≤ length scratch.now) }
     ensures { (b : List Atom) (x : Atom) → nb ≡ length b → At (words scratch.now) (6 * hand_at) (flat b) → At (words scratch.now) (6 * i) (six x) → result ≡ contains_atom b x }
 {
-    for j in 0..nb as usize {
-        if clause::same_records(scratch, 6 * i, scratch, 6 * (HAND + j), 1) {
-            return true;
-        }
-    }
-    false
+    (0..nb as usize).any(|j| clause::same_records(scratch, 6 * i, scratch, 6 * (HAND + j), 1))
 }
 
 // Record i is R(v, v) over a reflexive role.
@@ -109,11 +104,7 @@ pub fn is_trivial(scratch: &[u8], hand: Hand) -> bool
     requires { HandThere (words scratch.now) hand.body hand.head × (in_hand_bytes ≤ length scratch.now) }
     ensures { (set : List ℕ) (x : Clause) → FlagsHeld (words scratch.now) set → ClauseInHand (words scratch.now) hand.body hand.head x → result ≡ is_trivial set x }
 {
-    for j in 0..hand.head as usize {
-        let i = HAND + hand.body as usize + j;
-        if in_body(scratch, hand.body, i) || is_self_loop(scratch, i) {
-            return true;
-        }
-    }
-    false
+    let first = HAND + hand.body as usize;
+    (first..first + hand.head as usize).any(|i| in_body(scratch, hand.body, i)
+        || is_self_loop(scratch, i))
 }
