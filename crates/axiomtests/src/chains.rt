@@ -85,6 +85,8 @@ fn walk(scratch: &mut [u8], c: Chain, x: u64)
     }
 }
 
+// The first element with a path is that of the least one. (A loop: a closure that writes scratch would need clauses of its own for what it
+// leaves.)
 pub fn least_path(scratch: &mut [u8], c: Chain) -> Option<u32>
     requires { ChainIn scratch.old c.size c }
     ensures aside { Aside (words scratch.old) (words scratch.new) }

@@ -156,6 +156,7 @@ fn axiom_broken(store: &[u8], scratch: &mut [u8], t: Trial, i: u32) -> Option<u3
     row_broken(store, scratch, t, line)
 }
 
+// The first axiom that is broken. (A loop: a closure that writes scratch would need clauses of its own for what it leaves.)
 pub fn axioms_verdict(store: &[u8], scratch: &mut [u8], t: Trial) -> Result<(), verdict::Broken>
     requires { SetsThere store.now scratch.old t }
     ensures { (d : Known) (I : Interpretation) → Ready d I (words store.now) (words scratch.old) → ConceptSets d I (length d.concepts) (words scratch.old) → Fits d I t → verdict_in (words scratch.new) result ≡ axioms_verdict I d }

@@ -106,7 +106,8 @@ fn pair_mask(scratch: &[u8], t: Trial, line: Line, x: u64) -> u64
     }
 }
 
-// The first element with a set that is not empty, if there is one.
+// The first element with a set that is not empty, if there is one. (A loop: by `find_map` the step does not close. What it says of its
+// calls lets it stop at a None, and what it says of its run `search` does not lead to each element.)
 pub fn first_pair(scratch: &[u8], t: Trial, line: Line) -> Option<First>
     requires { LineIn scratch.now t line.kind line.at line.count × (of_pair line.kind ≡ true) }
     ensures { FirstWith (words scratch.now) t line.kind line.at line.count result }
