@@ -85,7 +85,7 @@ fn walk(scratch: &mut [u8], c: Chain, x: u64)
     }
 }
 
-// The first element with a path is that of the least one. (A loop: a closure that writes scratch would need clauses of its own for what it
+// The least path that breaks the axiom, if there is one. (A loop: a closure that writes scratch would need clauses of its own for what it
 // leaves.)
 pub fn least_path(scratch: &mut [u8], c: Chain) -> Option<u32>
     requires { ChainIn scratch.old c.size c }

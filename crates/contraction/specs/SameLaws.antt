@@ -1,7 +1,7 @@
 -- Runs of words compared word by word, and the atoms and clauses that they are. Assumes nothing.
-use Rattle.std.specs.Prelude.{◌≡◌, refl, Bool, true, false, ◌&&◌, ◌||◌, List, [], ◌∷◌, ◌++◌, ℕ, zero, suc, ◌+◌, ◌*◌, ◌<◌, ◌≤◌, eqb, length, get_or, take, drop}
-use Rattle.std.proofs.Common.{ap, ap₂, ◌∙◌, add-one, arith, drop_of_length-le, drop-cons}
-use Rattle.std.proofs.Math.Bool.{and-false, or-true}
+use Rattle.std.specs.Prelude.{◌≡◌, refl, Bool, true, false, ◌&&◌, ◌||◌, List, [], ◌∷◌, ◌++◌, ℕ, ◌*◌, eqb, length, take, drop}
+use Rattle.std.proofs.Common.{ap, ap₂, ◌∙◌, arith}
+use Rattle.std.proofs.Math.Bool.{and-false}
 use Rattle.ir.specs.Pick.{pick}
 use Rattle.ir.specs.Records.{six, same_words, same_atom}
 use Rattle.ir.specs.declared.atom.Atom.{Atom}
@@ -12,38 +12,7 @@ use Rattle.rules.specs.DecodeLaws.{flat_append, flat_long}
 use Rattle.rules.specs.Reflexive.{same_atoms, same_clause}
 use Rattle.tables.specs.TabledLaws.{At}
 
--- ---- a test over a list, element after element
-module _ {A : Type 0} (p : A → Bool) (l : List A) (i : ℕ) (d : A) where
-  next : i < length l → any p (drop i l) ≡ (p (get_or l i d) || any p (drop (i + 1) l))
-  next h = rw (drop-cons l i d h, add-one i) refl
-
-  pub any_found : i < length l → p (get_or l i d) ≡ true → any p (drop i l) ≡ true
-  any_found h e = next h ∙ rw e refl
-
-  pub any_on : i < length l → p (get_or l i d) ≡ false → any p (drop i l) ≡ any p (drop (i + 1) l)
-  any_on h e = next h ∙ rw e refl
-
-pub any_none : {A : Type 0} (p : A → Bool) (l : List A) (i : ℕ) → length l ≤ i → any p (drop i l) ≡ false
-any_none p l i h = rw (drop_of_length-le l {i = i} h) refl
-
-any_drop : {A : Type 0} (p : A → Bool) (l : List A) (j : ℕ) → any p (drop j l) ≡ true → any p l ≡ true
-any_drop p [] zero e = e
-any_drop p [] (suc j) e = e
-any_drop p (x ∷ l) zero e = e
-any_drop p (x ∷ l) (suc j) e = rw (any_drop p l j e) (or-true (p x))
-
--- what is found behind is found
-pub any_behind : {A : Type 0} (p : A → Bool) (l : List A) (i j : ℕ) → i ≤ j → any p (drop j l) ≡ true → any p (drop i l) ≡ true
-any_behind p [] zero zero h e = e
-any_behind p [] zero (suc j) h e = e
-any_behind p [] (suc i) zero h e = e
-any_behind p [] (suc i) (suc j) h e = e
-any_behind p (x ∷ l) zero zero h e = e
-any_behind p (x ∷ l) zero (suc j) h e = any_drop p (x ∷ l) (suc j) e
-any_behind p (x ∷ l) (suc i) zero h e = absurd (omega arith)
-any_behind p (x ∷ l) (suc i) (suc j) h e = any_behind p l i j (omega arith) e
-
--- one of two tests
+-- ---- one of two tests over a list
 pub any_either : {A : Type 0} (p q : A → Bool) (l : List A) → (any p l || any q l) ≡ any (λ a. p a || q a) l
 any_either p q [] = refl
 any_either p q (x ∷ l) = swap (p x) (any p l) (q x) (any q l) ∙ ap (λ (b : Bool). (p x || q x) || b) (any_either p q l)
