@@ -1,6 +1,6 @@
 -- Atoms by their words: in a table from atom i on, and in a part of a table's bytes. Assumes nothing.
 use Rattle.std.specs.Prelude.{◌≡◌, refl, List, ◌∷◌, ◌++◌, ℕ, suc, ◌+◌, ◌*◌, ◌-◌, ◌<◌, ◌≤◌, length, get_or, take, drop}
-use Rattle.std.proofs.Common.{sym, ap, ◌∙◌, arith, length-append, length-drop, take-append-drop, get_or-take, get_or-drop, take_at, take_all, drop_at, drop-cons, length-take-le}
+use Rattle.std.proofs.Common.{sym, ap, ◌∙◌, arith, length-append, length-drop, take-append-drop, take_at, take_all, drop_at, drop-cons, length-take-le}
 use Rattle.std.proofs.Math.Seq.{take-length}
 use Rattle.words.specs.Words.{words}
 use Rattle.words.specs.Laws.{words_take, words_drop}

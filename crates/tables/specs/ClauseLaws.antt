@@ -16,7 +16,7 @@ use Rattle.rules.specs.Run.{clause_words, atom_words, flat, clause_records, atom
 use Rattle.rules.specs.Decode.{decode_clauses}
 use Rattle.rules.specs.DecodeLaws.{flat_long, flat_append, clause_records_long, atom_records_long, decode_records}
 use Rattle.tables.specs.Drawn.{padded, Tables, tables, counters_in, clauses_in, atoms_in, show}
-use Rattle.tables.specs.Tabled.{first_atom, body_count, head_count, atom_count, clause_put, first_put, body_put, At, Run, no_clause, ClauseAt, From, Tabled, ClauseThere, TableThere}
+use Rattle.tables.specs.Tabled.{first_atom, body_count, head_count, clause_put, first_put, body_put, At, Run, no_clause, ClauseAt, From, Tabled, ClauseThere, TableThere}
 use Rattle.tables.specs.TabledLaws.{at_front, at_back, at_get, at_long, first_is, count_is, rest_is}
 use Rattle.tables.specs.AtomLaws.{part_long, part_words}
 

@@ -1,7 +1,10 @@
 -- How the rules' state stands in the counters and in the words of the three lent tables: the records, then zeros.
-use Rattle.std.specs.Prelude.{◌≡◌, List, ◌++◌, ℕ, ◌*◌, ◌-◌, ◌≤◌, length, replicate}
+use Rattle.std.specs.Prelude.{◌≡◌, Bool, false, List, ◌++◌, ℕ, ◌+◌, ◌*◌, ◌-◌, ◌/◌, ◌≤◌, ◌<◌, ◌&&◌, length, replicate, ltb, leb, Result, Ok, Err}
+use Prim.{Unit}
 use Rattle.ir.specs.Counts.{counters}
 use Rattle.ir.specs.declared.counters.Counters.{Counters}
+use Rattle.ir.specs.declared.refusal.Refusal.{Refusal}
+use Rattle.ir.specs.declared.refusal.Refusal.TheVariants.{NoRoom}
 use Rattle.ir.specs.Answer.{Answer}
 use Rattle.ir.specs.Answer.{Done, Refused}
 use Rattle.rules.specs.Base.{Res, ok, refused}
@@ -56,3 +59,11 @@ pub record Sized (c a d : ℕ) : Type 0 where
   pub clauses : c ≤ 4 * clause_words * most_clauses
   pub atoms : a ≤ 4 * atom_words * most_atoms
   pub deferrals : d ≤ 4 * deferral_words * most_deferrals
+
+-- tables of c and a bytes have room for one clause more, of n atoms; the code's answer to that
+abbrev pub roomy : ℕ → ℕ → Counters → ℕ → Bool
+roomy c a k n = ltb k.clauses (c / (4 * clause_words)) && leb (k.atoms + n) (a / (4 * atom_words))
+
+abbrev pub Roomed : ℕ → ℕ → Counters → ℕ → Result (Unit {0}) Refusal → Type 0
+Roomed c a k n (Ok u) = (k.clauses < c / (4 * clause_words)) × (k.atoms + n ≤ a / (4 * atom_words))
+Roomed c a k n (Err e) = (e ≡ NoRoom) × (roomy c a k n ≡ false)

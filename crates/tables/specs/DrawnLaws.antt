@@ -1,9 +1,9 @@
 -- Laws of the drawing: one clause more, one deferral more. Assumes nothing.
-use Rattle.std.specs.Prelude.{◌≡◌, List, [], ◌∷◌, ◌++◌, ℕ, zero, suc, ◌+◌, ◌*◌, ◌-◌, ◌/◌, ◌≤◌, ◌<◌, drop, replicate}
+use Rattle.std.specs.Prelude.{◌≡◌, false, List, [], ◌∷◌, ◌++◌, ℕ, zero, suc, ◌+◌, ◌*◌, ◌-◌, ◌/◌, ◌≤◌, ◌<◌, drop, replicate}
 use Rattle.std.proofs.Math.Path.{refl, ap}
 use Rattle.std.proofs.Common.{sym, ◌∙◌, append-nil, append_assoc}
 use native.Mathlib.Omega.{arith}
-use borrow.Author.Tests.{lt-ltb, le-ltb, le-leb, lt-leb}
+use borrow.Author.Tests.{lt-ltb, le-ltb, le-leb}
 use Rattle.std.proofs.Math.ListN.{length, length-append}
 use Rattle.std.proofs.lemmas.List.{length-replicate}
 use Rattle.std.proofs.Math.Seq.{sets, take-append_seam, drop-append-add}
@@ -20,7 +20,7 @@ use Rattle.rules.specs.Base.{ok, refused}
 use Rattle.rules.specs.State.{Clause, clause, Deferred, Env, Out, total, push, defer, Rooms}
 use Rattle.rules.specs.Run.{clause_words, atom_words, deferral_words, flat, atom_records, clause_records, deferral_records}
 use Rattle.rules.specs.DecodeLaws.{flat_long, flat_append, atom_records_long, clause_records_long, deferral_records_long}
-use Rattle.tables.specs.Drawn.{padded, tables, counters_in, clauses_in, atoms_in, deferrals_in, counters_of, show, shown}
+use Rattle.tables.specs.Drawn.{padded, tables, counters_in, clauses_in, atoms_in, deferrals_in, counters_of, show, shown, roomy}
 use Rattle.tables.specs.Tabled.{clause_put, deferral_put, Run}
 
 -- ---- the same by its own counters
@@ -118,13 +118,9 @@ module _ (env : Env) (k : Counters) (s : Out) (c a d : List ℕ) (e : tables k c
   deferrals_count = ap (λ (x : Counters). x.deferrals) counters_is
 
   module _ (b h : List Atom) where
-    pub push_no_clause : env.rooms.clauses ≤ k.clauses → refused 12 ≡ shown {A = Unit {0}} (λ _. 0) k env.rooms (push env b h s)
+    pub push_no_room : (x y n : ℕ) → x / (4 * clause_words) ≡ env.rooms.clauses → y / (4 * atom_words) ≡ env.rooms.atoms → n ≡ length (b ++ h) → roomy x y k n ≡ false → refused 12 ≡ shown {A = Unit {0}} (λ _. 0) k env.rooms (push env b h s)
     unfolding push
-    push_no_clause l = rw (le-ltb (length s.clauses) env.rooms.clauses (rw (← clauses_count) l)) refl
-
-    pub push_no_atoms : k.clauses < env.rooms.clauses → env.rooms.atoms < k.atoms + length (b ++ h) → refused 12 ≡ shown {A = Unit {0}} (λ _. 0) k env.rooms (push env b h s)
-    unfolding push
-    push_no_atoms l m = rw (lt-ltb (length s.clauses) env.rooms.clauses (rw (← clauses_count) l), lt-leb (total s.clauses + length (b ++ h)) env.rooms.atoms (rw (← atoms_count) m)) refl
+    push_no_room x y n ex ey en q = rw (rw (ex, ey, en, clauses_count, atoms_count) at q) refl
 
     pub push_done : k.clauses < env.rooms.clauses → k.atoms + length (b ++ h) ≤ env.rooms.atoms
         → ok 0 (tables (pushed (length (b ++ h)) k) (clause_put c k.clauses k.atoms (length b) (length h)) (sets a (atom_words * k.atoms) (flat (b ++ h))) d) ≡ shown {A = Unit {0}} (λ _. 0) k env.rooms (push env b h s)

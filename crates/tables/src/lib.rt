@@ -14,7 +14,7 @@ ghost use Rattle.ir.specs.Records.{Fits};
 ghost use Rattle.ir.specs.declared.atom.Atom.{Atom};
 ghost use Rattle.rules.specs.State.{Env, Out, push, defer};
 ghost use Rattle.tables.specs.Good.{Good, GoodAnswer, KeptAnswer};
-ghost use Rattle.tables.specs.Drawn.{tables, show, shown, after, Lent, Sized};
+ghost use Rattle.tables.specs.Drawn.{tables, show, shown, after, Lent, Sized, Roomed};
 ghost use Rattle.tables.specs.Tabled.{Run};
 
 use ir::atom::Atom;
@@ -22,6 +22,20 @@ use ir::counters::Counters;
 use ir::deferral::Deferral;
 use ir::record;
 use ir::refusal::Refusal;
+
+// Room for one clause more, of n atoms.
+fn room(clauses: &[u8], atoms: &[u8], k: Counters, n: usize) -> Result<(), Refusal>
+    requires { n ≤ 512 }
+    ensures { Roomed (length clauses.now) (length atoms.now) k n result }
+{
+    if read::clause_room(clauses) <= k.clauses as usize {
+        return Err(Refusal::NoRoom);
+    }
+    if read::atom_room(atoms) < k.atoms as usize + n {
+        return Err(Refusal::NoRoom);
+    }
+    Ok(())
+}
 
 // The clause of this body and this head.
 pub fn push_clause(
@@ -38,14 +52,9 @@ pub fn push_clause(
 {
     let first = k.atoms;
     let i = k.clauses as usize;
-    let n = body.len() / 24;
-    let m = head.len() / 24;
-    if read::clause_room(clauses) <= i {
-        return Err(Refusal::NoRoom);
-    }
-    if read::atom_room(atoms) < first as usize + n + m {
-        return Err(Refusal::NoRoom);
-    }
+    let n = read::atom_room(body);
+    let m = read::atom_room(head);
+    room(clauses, atoms, *k, n + m)?;
     let bodies = n as u32;
     let heads = m as u32;
     words::copy_words(atoms, 6 * (first as usize), body);
@@ -70,13 +79,8 @@ pub fn push_headed(
 {
     let first = k.atoms;
     let i = k.clauses as usize;
-    let m = run.len() / 24;
-    if read::clause_room(clauses) <= i {
-        return Err(Refusal::NoRoom);
-    }
-    if read::atom_room(atoms) <= first as usize + m {
-        return Err(Refusal::NoRoom);
-    }
+    let m = read::atom_room(run);
+    room(clauses, atoms, *k, m + 1)?;
     let body = m as u32;
     words::copy_words(atoms, 6 * (first as usize), run);
     record::put_atom(atoms, first as usize + m, head);

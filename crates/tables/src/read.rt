@@ -1,7 +1,7 @@
 // The records of the lent tables: how many there is room for, clause i's record, its body and its head as parts of the atom table,
 // deferral i's record.
 // Clauses that repeat stay clauses: each function asks for the length that it reads; `ClauseThere` is about one moment of what is lent.
-ghost use Rattle.std.specs.Prelude.{◌≡◌, ◌++◌, ◌+◌, ◌*◌, ◌/◌, ◌≤◌, length};
+ghost use Rattle.std.specs.Prelude.{◌≡◌, ◌++◌, ◌+◌, ◌-◌, ◌*◌, ◌/◌, ◌≤◌, length, take, drop};
 ghost use Rattle.words.specs.Words.{words};
 ghost use Rattle.rules.specs.State.{Clause};
 ghost use Rattle.rules.specs.Run.{clause_words, atom_words, deferral_words};
@@ -62,6 +62,14 @@ pub fn head_count(clauses: &[u8], i: u32) -> u32
     words::get_word(clauses, CLAUSE * (i as usize) + 2)
 }
 
+// The n atoms from atom `first` on.
+fn part(atoms: &[u8], first: usize, n: usize) -> &[u8]
+    requires { 24 * (first + n) ≤ length atoms.now }
+    ensures { result.now ≡ take (24 * (first + n) - 24 * first) (drop (24 * first) atoms.now) }
+{
+    &atoms[24 * first..24 * (first + n)]
+}
+
 // Its body.
 pub fn body_of<'a>(clauses: &[u8], atoms: &'a [u8], i: u32) -> &'a [u8]
     requires { ClauseThere (words clauses.now) (words atoms.now) i }
@@ -69,9 +77,7 @@ pub fn body_of<'a>(clauses: &[u8], atoms: &'a [u8], i: u32) -> &'a [u8]
 {
     let first = first_atom(clauses, i) as usize;
     let n = body_count(clauses, i) as usize;
-    let from = 24 * first;
-    let to = 24 * (first + n);
-    &atoms[from..to]
+    part(atoms, first, n)
 }
 
 // Its head.
@@ -82,9 +88,7 @@ pub fn head_of<'a>(clauses: &[u8], atoms: &'a [u8], i: u32) -> &'a [u8]
     let first = first_atom(clauses, i) as usize;
     let n = body_count(clauses, i) as usize;
     let m = head_count(clauses, i) as usize;
-    let from = 24 * (first + n);
-    let to = 24 * (first + n + m);
-    &atoms[from..to]
+    part(atoms, first + n, m)
 }
 
 // Its body and the head behind it.
@@ -95,9 +99,7 @@ pub fn atoms_of<'a>(clauses: &[u8], atoms: &'a [u8], i: u32) -> &'a [u8]
     let first = first_atom(clauses, i) as usize;
     let n = body_count(clauses, i) as usize;
     let m = head_count(clauses, i) as usize;
-    let from = 24 * first;
-    let to = 24 * (first + n + m);
-    &atoms[from..to]
+    part(atoms, first, n + m)
 }
 
 // Deferral i: its axiom's line.

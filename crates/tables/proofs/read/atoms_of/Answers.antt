@@ -1,3 +1,5 @@
+use mathlib.Core.Path.{◌≡◌}
+use Prim.Native.Nat.{◌+◌}
 use native.Mathlib.Omega.{arith}
 use Rattle.words.specs.Laws.{length_words}
 use Rattle.tables.specs.ClauseLaws.{head_in_lem, whole_run}
@@ -12,10 +14,11 @@ body_count-n-requires c = omega (arith, c.requires.is.row, length_words c.args.c
 pub head_count-m-requires : goal.head_count-m-requires
 head_count-m-requires c = omega (arith, c.requires.is.row, length_words c.args.clauses.now)
 
-pub slice_bounds-result-end : goal.slice_bounds-result-end
-slice_bounds-result-end c =
-    head_in_lem c.args.clauses.now c.args.atoms.now c.args.i c.requires.clause c.requires.is _ _ c.first_atom-first.ensures c.body_count-n.ensures _ c.head_count-m.ensures
+pub part-requires : goal.part-requires
+part-requires c =
+    omega (arith, head_in_lem c.args.clauses.now c.args.atoms.now c.args.i c.requires.clause c.requires.is _ _ c.first_atom-first.ensures c.body_count-n.ensures _ c.head_count-m.ensures)
 
 pub returns : goal.returns
 returns c =
-    λ x C. whole_run c.args.clauses.now c.args.atoms.now c.args.i x C _ _ c.first_atom-first.ensures c.body_count-n.ensures _ c.head_count-m.ensures
+    let e : c.first_atom-first.result + (c.body_count-n.result + c.head_count-m.result) ≡ c.first_atom-first.result + c.body_count-n.result + c.head_count-m.result = omega arith in
+    λ x C. rw (c.part.ensures, e) (whole_run c.args.clauses.now c.args.atoms.now c.args.i x C _ _ c.first_atom-first.ensures c.body_count-n.ensures _ c.head_count-m.ensures)

@@ -9,10 +9,10 @@ first_atom-first-requires c = omega (arith, c.requires.is.row, length_words c.ar
 pub body_count-n-requires : goal.body_count-n-requires
 body_count-n-requires c = omega (arith, c.requires.is.row, length_words c.args.clauses.now)
 
-pub slice_bounds-result-end : goal.slice_bounds-result-end
-slice_bounds-result-end c =
+pub part-requires : goal.part-requires
+part-requires c =
     body_in_lem c.args.clauses.now c.args.atoms.now c.args.i c.requires.clause c.requires.is _ _ c.first_atom-first.ensures c.body_count-n.ensures
 
 pub returns : goal.returns
 returns c =
-    λ x C. body_run c.args.clauses.now c.args.atoms.now c.args.i x C _ _ c.first_atom-first.ensures c.body_count-n.ensures
+    λ x C. rw c.part.ensures (body_run c.args.clauses.now c.args.atoms.now c.args.i x C _ _ c.first_atom-first.ensures c.body_count-n.ensures)

@@ -12,10 +12,10 @@ body_count-n-requires c = omega (arith, c.requires.is.row, length_words c.args.c
 pub head_count-m-requires : goal.head_count-m-requires
 head_count-m-requires c = omega (arith, c.requires.is.row, length_words c.args.clauses.now)
 
-pub slice_bounds-result-end : goal.slice_bounds-result-end
-slice_bounds-result-end c =
+pub part-requires : goal.part-requires
+part-requires c =
     head_in_lem c.args.clauses.now c.args.atoms.now c.args.i c.requires.clause c.requires.is _ _ c.first_atom-first.ensures c.body_count-n.ensures _ c.head_count-m.ensures
 
 pub returns : goal.returns
 returns c =
-    λ x C. head_run c.args.clauses.now c.args.atoms.now c.args.i x C _ _ c.first_atom-first.ensures c.body_count-n.ensures _ c.head_count-m.ensures
+    λ x C. rw c.part.ensures (head_run c.args.clauses.now c.args.atoms.now c.args.i x C _ _ c.first_atom-first.ensures c.body_count-n.ensures _ c.head_count-m.ensures)
