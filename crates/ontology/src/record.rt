@@ -1,22 +1,10 @@
 // A concept line's record.
 ghost use Rattle.std.specs.Prelude.{◌≡◌, ◌+◌, ◌*◌, ◌≤◌, ◌<◌, length, get_or};
 ghost use Rattle.words.specs.Words.{words};
-ghost use Rattle.pool.specs.Layout.{record_words};
 ghost use Rattle.ontology.specs.Lines.{record_for};
 
 use pool::layout::{ATOMIC, MIN, NOT, SELF, SOME};
 use pool::record::Record;
-
-fn record(kind: u32, role: u32, number: u32, child: u32) -> Record
-    ensures { result ≡ record_words kind role number child }
-{
-    Record {
-        kind,
-        role,
-        number,
-        child,
-    }
-}
 
 // Of the line's kind, the three words behind it, and the line's number of numbers. Kinds are the deck's numbers, in the order of
 // the rule of this name: an enum would be made by a match over the same numbers.
@@ -25,24 +13,24 @@ fn record_for(kind: u32, a: u32, b: u32, c: u32, n: u32) -> Record
     ensures { result ≡ record_for kind a b c n }
 {
     if kind < ATOMIC {
-        return record(kind, 0, 0, 0);
+        return Record::new(kind, 0, 0, 0);
     }
     if kind < SELF {
-        return record(kind, 0, a, 0);
+        return Record::new(kind, 0, a, 0);
     }
     if kind == SELF {
-        return record(kind, a, 0, 0);
+        return Record::new(kind, a, 0, 0);
     }
     if kind == NOT {
-        return record(kind, 0, 0, a);
+        return Record::new(kind, 0, 0, a);
     }
     if kind < SOME {
-        return record(kind, 0, n - 1, 0);
+        return Record::new(kind, 0, n - 1, 0);
     }
     if kind < MIN {
-        return record(kind, a, 0, b);
+        return Record::new(kind, a, 0, b);
     }
-    record(kind, b, a, c)
+    Record::new(kind, b, a, c)
 }
 
 // Of the line whose n numbers are the words from `at` on: a first word and a count, as the rows of the definitions have them. (Four words

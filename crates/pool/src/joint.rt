@@ -72,12 +72,7 @@ pub fn intern_list(
     ensures interned { Interned k.old (intern_raw (list_of (joint_of joint) (run (words scratch.old) at count))) (words scratch.old) (words scratch.new) (answer k.new result) }
     ensures scratch_unchanged { drop pool_words (words scratch.new) ≡ drop pool_words (words scratch.old) }
 {
-    let x = Record {
-        kind: joint.kind(),
-        role: 0,
-        number: count,
-        child: 0,
-    };
+    let x = Record::new(joint.kind(), 0, count, 0);
     intern::intern(scratch, k, x, at)
 }
 

@@ -34,15 +34,10 @@ pub(crate) fn intern_bare(scratch: &mut [u8], k: &mut Counters, kind: u32) -> Re
     ensures interned { Interned k.old (intern_raw (concept_from (record_words kind 0 0 0) [])) (words scratch.old) (words scratch.new) (answer k.new result) }
     ensures scratch_unchanged { drop pool_words (words scratch.new) ≡ drop pool_words (words scratch.old) }
 {
-    let x = Record {
-        kind,
-        role: 0,
-        number: 0,
-        child: 0,
-    };
-    intern_raw(scratch, k, x)
+    intern_raw(scratch, k, Record::new(kind, 0, 0, 0))
 }
 
+// mk_top and mk_bot, mk_some and mk_all, mk_max and mk_min are two each: the Rust's own names.
 pub fn mk_top(scratch: &mut [u8], k: &mut Counters) -> Result<u32, Refusal>
     requires { Ready scratch.old k.old }
     ensures interned { Interned k.old mk_top (words scratch.old) (words scratch.new) (answer k.new result) }
@@ -64,13 +59,7 @@ pub fn mk_atomic(scratch: &mut [u8], k: &mut Counters, class: u32) -> Result<u32
     ensures interned { Interned k.old (intern_raw (Atomic class)) (words scratch.old) (words scratch.new) (answer k.new result) }
     ensures scratch_unchanged { drop pool_words (words scratch.new) ≡ drop pool_words (words scratch.old) }
 {
-    let x = Record {
-        kind: ATOMIC,
-        role: 0,
-        number: class,
-        child: 0,
-    };
-    intern_raw(scratch, k, x)
+    intern_raw(scratch, k, Record::new(ATOMIC, 0, class, 0))
 }
 
 pub fn mk_not(scratch: &mut [u8], k: &mut Counters, c: u32) -> Result<u32, Refusal>
@@ -78,28 +67,15 @@ pub fn mk_not(scratch: &mut [u8], k: &mut Counters, c: u32) -> Result<u32, Refus
     ensures interned { Interned k.old (mk_not c) (words scratch.old) (words scratch.new) (answer k.new result) }
     ensures scratch_unchanged { drop pool_words (words scratch.new) ≡ drop pool_words (words scratch.old) }
 {
-    let x = Record {
-        kind: NOT,
-        role: 0,
-        number: 0,
-        child: c,
-    };
-    intern_raw(scratch, k, x)
+    intern_raw(scratch, k, Record::new(NOT, 0, 0, c))
 }
 
-// mk_some and mk_all are two, as in the Rust.
 pub fn mk_some(scratch: &mut [u8], k: &mut Counters, role: u32, c: u32) -> Result<u32, Refusal>
     requires { Ready scratch.old k.old × (c < k.old.concepts) }
     ensures interned { Interned k.old (mk_some (role_of role) c) (words scratch.old) (words scratch.new) (answer k.new result) }
     ensures scratch_unchanged { drop pool_words (words scratch.new) ≡ drop pool_words (words scratch.old) }
 {
-    let x = Record {
-        kind: SOME,
-        role,
-        number: 0,
-        child: c,
-    };
-    intern_raw(scratch, k, x)
+    intern_raw(scratch, k, Record::new(SOME, role, 0, c))
 }
 
 pub fn mk_all(scratch: &mut [u8], k: &mut Counters, role: u32, c: u32) -> Result<u32, Refusal>
@@ -107,13 +83,7 @@ pub fn mk_all(scratch: &mut [u8], k: &mut Counters, role: u32, c: u32) -> Result
     ensures interned { Interned k.old (mk_all (role_of role) c) (words scratch.old) (words scratch.new) (answer k.new result) }
     ensures scratch_unchanged { drop pool_words (words scratch.new) ≡ drop pool_words (words scratch.old) }
 {
-    let x = Record {
-        kind: ALL,
-        role,
-        number: 0,
-        child: c,
-    };
-    intern_raw(scratch, k, x)
+    intern_raw(scratch, k, Record::new(ALL, role, 0, c))
 }
 
 pub fn mk_max(
@@ -127,13 +97,7 @@ pub fn mk_max(
     ensures interned { Interned k.old (mk_max n (role_of role) c) (words scratch.old) (words scratch.new) (answer k.new result) }
     ensures scratch_unchanged { drop pool_words (words scratch.new) ≡ drop pool_words (words scratch.old) }
 {
-    let x = Record {
-        kind: MAX,
-        role,
-        number: n,
-        child: c,
-    };
-    intern_raw(scratch, k, x)
+    intern_raw(scratch, k, Record::new(MAX, role, n, c))
 }
 
 pub fn mk_min(
@@ -150,11 +114,5 @@ pub fn mk_min(
     if n == 0 {
         return mk_top(scratch, k);
     }
-    let x = Record {
-        kind: MIN,
-        role,
-        number: n,
-        child: c,
-    };
-    intern_raw(scratch, k, x)
+    intern_raw(scratch, k, Record::new(MIN, role, n, c))
 }

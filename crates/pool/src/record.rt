@@ -4,7 +4,7 @@
 ghost use Rattle.std.specs.Prelude.{◌≡◌, ◌+◌, ◌≤◌, ◌<◌, length, get_or};
 ghost use Rattle.words.specs.Words.{words};
 ghost use Rattle.rules.specs.Pool.{most_concepts, most_members};
-ghost use Rattle.pool.specs.Layout.{pool_bytes, members_at, heads_at, field, is_list, count_of, starts_at};
+ghost use Rattle.pool.specs.Layout.{pool_bytes, members_at, heads_at, record_words, field, is_list, count_of, starts_at};
 ghost use Rattle.pool.specs.Held.{link_word};
 
 use crate::layout::{AND, HEADS, MEMBERS, OR, RECORD};
@@ -27,6 +27,17 @@ pub struct Record {
 }
 
 impl Record {
+    pub fn new(kind: u32, role: u32, number: u32, child: u32) -> Record
+        ensures { result ≡ record_words kind role number child }
+    {
+        Record {
+            kind,
+            role,
+            number,
+            child,
+        }
+    }
+
     // And or Or.
     pub fn is_list(self) -> bool
         ensures { result ≡ is_list self.kind }

@@ -20,11 +20,11 @@ returns-then-n-eq0 c = let q : mk_min c.args.n (role_of c.args.role) c.args.c �
 
 pub intern_raw-requires : goal.intern_raw-requires
 unfolding concept_from
-intern_raw-requires c = (c.requires.0, refl, rw (code_role c.args.role) refl, (c.requires.1, tt))
+intern_raw-requires c = rw c.new.ensures (c.requires.0, refl, rw (code_role c.args.role) refl, (c.requires.1, tt))
 
 pub returns : goal.returns
 unfolding concept_from
 returns c = record {
-  interned = subst (λ (f : M Pool ℕ). Interned c.args.k.now f (words c.args.scratch.now) (words c.intern_raw.new.scratch) (answer c.intern_raw.new.k c.intern_raw.result)) (sym (min_is c.args.n (role_of c.args.role) c.args.c c.if-n-eq0.false)) c.intern_raw.ensures.interned;
+  interned = subst (λ (f : M Pool ℕ). Interned c.args.k.now f (words c.args.scratch.now) (words c.intern_raw.new.scratch) (answer c.intern_raw.new.k c.intern_raw.result)) (sym (min_is c.args.n (role_of c.args.role) c.args.c c.if-n-eq0.false)) (rw c.new.ensures at c.intern_raw.ensures.interned);
   scratch_unchanged = c.intern_raw.ensures.scratch_unchanged;
 }
