@@ -13,7 +13,7 @@ pub fn pack(a: Atom) -> u32
     match a {
         Atom::Class(k, v) => 2 * (1024 * k + v),
         Atom::Role(r, u, v) => 2 * (1024 * (1024 * r.code() + u) + v) + 1,
-        _ => 0,
+        _ => unreachable!(),
     }
 }
 

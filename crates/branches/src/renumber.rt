@@ -69,7 +69,7 @@ fn put_atom(scratch: &mut [u8], n: usize, i: usize, a: Atom) -> usize
     match a {
         Atom::Class(k, v) => put_class(scratch, n, i, k, v),
         Atom::Role(r, u, v) => put_role(scratch, n, i, r, u, v),
-        _ => n,
+        _ => unreachable!(),
     }
 }
 
@@ -80,7 +80,7 @@ fn put_record(scratch: &mut [u8], n: usize, i: usize, at: usize) -> usize
 {
     match record::get_atom(scratch, at) {
         Some(a) => put_atom(scratch, n, i, a),
-        None => n,
+        None => unreachable!(),
     }
 }
 

@@ -6,6 +6,6 @@ use Rattle.branches.specs.Renumbered.{Put}
 use Rattle.branches.specs.RenumberLaws.{read_same}
 use Rattle.branches.proofs.renumber.put_record.Goals as goal
 
-pub returns-in-Some : goal.returns-in-Some
-returns-in-Some c = let u = c.put_atom in
+pub returns : goal.returns
+returns c = let u = c.put_atom in
     λ a e. subst (λ (x : Atom). Put met_at keep_at renumbered_at (words c.args.scratch.now) c.args.n c.args.i x (words u.new.scratch) u.result) (read_same (words c.args.scratch.now) c.args.at c.in-Some.a a (sym c.get_atom.ensures ∙ c.in-Some.is) e) u.ensures
