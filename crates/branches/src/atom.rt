@@ -8,7 +8,8 @@ pub const CLASS: u32 = 1;
 
 pub const ROLE: u32 = 2;
 
-// The `count` atoms from record `base` on.
+// The `count` atoms from record `base` on. Their bounds stay clauses: a ghost field would ask more of `mentions_kept` and others that have
+// no such clause (DECISIONS, "What a struct's ghost field may ask").
 #[derive(Clone, Copy)]
 pub struct Atoms {
     pub base: usize,

@@ -1,6 +1,6 @@
 // The edge from a root to a child, and the variables to keep.
 // Clauses that repeat stay clauses: each function asks for the length that it reads; `AtomsThere` and `TameThere` are about one moment of
-// what is lent; a type with a number's bound would be made at each read and opened at each use.
+// what is lent; a type with a number's bound would be made at each read and opened at each use; for `Atoms` its declaration says why.
 ghost use Rattle.std.specs.Prelude.{◌≡◌, Bool, List, [], ◌∷◌, ℕ, ◌+◌, ◌*◌, ◌<◌, ◌≤◌, length, get_or};
 ghost use Rattle.words.specs.Words.{words};
 ghost use Rattle.ir.specs.declared.atom.Atom.{Atom};

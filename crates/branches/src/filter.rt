@@ -18,7 +18,8 @@ pub fn clear(scratch: &mut [u8])
     words::clear_words(scratch, FILTER, 32768);
 }
 
-// The hash of the `count` renumbered words. Modulo 2^32 a role, whose code stands in the high bits, would hardly tell. (A loop: as a
+// The hash of the `count` renumbered words. Not shared with a row's of a deck: its factor, modulus and words are others, and each would be
+// an argument. Modulo 2^32 a role, whose code stands in the high bits, would hardly tell. (A loop: as a
 // fold, its closure would have to bound h in clauses of its own.)
 pub fn hash(scratch: &[u8], count: u32) -> usize
     requires { (count ≤ 256) × (4 * work_words ≤ length scratch.now) }

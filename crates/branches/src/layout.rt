@@ -14,7 +14,8 @@ pub const BODY: usize = 49152;
 
 pub const COPY: usize = 49408;
 
-// Words: the bound variables, for each the child of the root above it, the variables met, those to keep, a renumbered body.
+// Words: the bound variables, for each the child of the root above it, the variables met, those to keep, a renumbered body. (BOUND and TOPS
+// are two runs and not one of pairs: the search goes over BOUND alone.)
 pub const BOUND: usize = 297984;
 
 pub const TOPS: usize = 298241;

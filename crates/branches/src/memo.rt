@@ -1,7 +1,7 @@
 // Named branches: renumbered bodies, each with its name; an equal body has its name already.
 // Clauses that repeat stay clauses: each function asks for the length that it reads; `NamedThere` and `TameThere` are about one moment of
-// what is lent; a type with a number's bound would be made at each read and opened at each use. A run stays its first word and its count,
-// as in the definitions.
+// what is lent; a type with a number's bound would be made at each read and opened at each use; for `Atoms` its declaration says why. A
+// run stays its first word and its count, as in the definitions.
 ghost use Rattle.std.specs.Prelude.{◌≡◌, List, ℕ, ◌+◌, ◌*◌, ◌<◌, ◌≤◌, length, get_or};
 ghost use Rattle.std.proofs.Math.Option.{none};
 ghost use Rattle.words.specs.Words.{words};

@@ -6,6 +6,7 @@ ghost use Rattle.branches.specs.Memo.{packed, Packable};
 use ir::atom::Atom;
 use ir::role::Role;
 
+// No From: it asks for a bound, which a From cannot; `unpack` is its other half.
 pub fn pack(a: Atom) -> u32
     requires { Packable a }
     ensures { result ≡ packed a }

@@ -1,7 +1,7 @@
 // A body renumbered from its root, a word an atom: a variable's number is its place among the variables met.
 // Clauses that repeat stay clauses: each function asks for the length that it reads; `TameThere` is about one moment of what is lent; a
-// type with a number's bound would be made at each read and opened at each use. A run stays its first word and its count, as in the
-// definitions.
+// type with a number's bound would be made at each read and opened at each use; for `Atoms` its declaration says why. A run stays its
+// first word and its count, as in the definitions.
 ghost use Rattle.std.specs.Prelude.{◌≡◌, List, map, ◌+◌, ◌*◌, ◌<◌, ◌≤◌, length, Some};
 ghost use Rattle.words.specs.Words.{words};
 ghost use Rattle.ir.specs.Roles.{role_code};

@@ -95,7 +95,7 @@ fn repeats(row: &Row, t: &[u8], kind: usize, concepts: usize) -> bool
     requires { IsConceptLine row.now kind × ConceptsHeld row.now.deck.now t.now concepts }
     ensures { result ≡ any (same_concept (concept_of kind (numbers row.now))) (concepts_in row.now.deck.now (words t.now) concepts) }
 {
-    // along a chain of links, for which there is no range
+    // along a chain of links, for which there is no range; not shared with `pool::index::find`: the test and the link would be closures
     let mut next = table::head(t, row.hash());
     while let Some(i) = next {
         if row.same_numbers(&concept_row(row.deck, t, concepts, i)) {

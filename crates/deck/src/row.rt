@@ -103,6 +103,7 @@ impl<'a> Row<'a> {
             && (0..self.line.fields).all(|k| self.field(k) == other.field(k))
     }
 
+    // Not shared with `branches::filter::hash`: its factor, modulus and words are others, and each would be an argument.
     pub fn hash(&self) -> usize
         ensures value { result ≡ hash_of (numbers self.now) }
         ensures upper_bound { result < 1024 }

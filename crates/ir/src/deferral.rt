@@ -16,7 +16,7 @@ pub enum Deferral {
 }
 
 impl Deferral {
-    // No From: the contract's definition has this name.
+    // No From: `deferral.kind()` says by its name what number it is, the document's; `u32::from(deferral)` would not.
     pub fn kind(self) -> u32
         ensures { result ≡ deferral_kind self }
     {

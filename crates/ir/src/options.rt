@@ -1,4 +1,5 @@
 // The header's options: 1 decomposes wide bodies, 2 gives card_disjunct_atoms, 4 makes the names of at-most fillers equal to them.
+// Three functions: the options by their names; one of a divisor would be called by a number.
 ghost use Rattle.std.specs.Prelude.{◌≡◌};
 ghost use Rattle.ir.specs.Options.{body_decompose, card_disjunct_atoms, equal_names};
 

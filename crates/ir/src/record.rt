@@ -15,7 +15,8 @@ use crate::role::Role;
 #[derive(Clone, Copy)]
 pub struct AtomWords(pub u32, pub u32, pub u32, pub u32, pub u32, pub u32);
 
-// 0, or one more than the class.
+// 0, or one more than the class. No From, here and at `encode`: each asks for a bound, which a From cannot; `qualifier_of` and `decode`
+// are their other halves.
 fn qualifier_word(q: Qualifier) -> u32
     requires { qualifier_word q < 2 ^ 32 }
     ensures { result ≡ qualifier_word q }

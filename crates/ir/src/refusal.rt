@@ -35,7 +35,7 @@ pub enum Refusal {
 }
 
 impl Refusal {
-    // No From: the contract's definition has this name.
+    // No From: `refusal.number()` says by its name what number it is, the document's; `u32::from(refusal)` would not.
     pub fn number(self) -> u32
         ensures { result ≡ refusal_number self }
     {

@@ -1,6 +1,7 @@
 // The search for the equal record, by hash.
 // Clauses that repeat stay clauses: each function asks for the length that it reads; `Asked` and `Ready` are about one moment of what is
-// lent; a type with a number's bound would be made at each read and opened at each use.
+// lent; a type with a number's bound would be made at each read and opened at each use. k is only for the contracts: they tell the
+// concepts by it.
 ghost use Rattle.std.specs.Prelude.{◌≡◌, ◌+◌, ◌*◌, ◌≤◌, ◌<◌, length};
 ghost use Rattle.words.specs.Words.{words};
 ghost use Rattle.rules.specs.Concept.{same_concept};
@@ -51,7 +52,8 @@ pub fn hash(scratch: &[u8], x: Record, at: usize) -> usize
     hash_run(scratch, hash_record(x), at, x.count())
 }
 
-// Whether concept c is the concept of a record and its list. A record in scratch is words, so that no derived equality has it.
+// Whether concept c is the concept of a record and its list. Word by word: it stops at the first that differs, where a derived equality
+// would first read all four.
 fn same(scratch: &[u8], k: Counters, c: u32, x: Record, at: usize) -> bool
     requires { Ready scratch.now k × Asked scratch.now x at × (c < k.concepts) }
     ensures { result ≡ same_concept (concept_over (words scratch.now) at x) (concept_at (words scratch.now) c) }
@@ -78,7 +80,7 @@ pub fn find(scratch: &[u8], k: Counters, x: Record, at: usize) -> Option<u32>
     requires { Ready scratch.now k × Asked scratch.now x at }
     ensures { found_of result ≡ find (concept_over (words scratch.now) at x) (pool_of (words scratch.now) k.concepts) }
 {
-    // along a chain of links, for which there is no range
+    // along a chain of links, for which there is no range; not shared with the deck's `repeats`: the test and the link would be closures
     let mut next = record::head(scratch, hash(scratch, x, at));
     while let Some(c) = next {
         if same(scratch, k, c, x, at) {

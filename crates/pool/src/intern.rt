@@ -1,6 +1,7 @@
 // Interning: the equal record, or one more at the end.
 // Clauses that repeat stay clauses: each function asks for the length that it reads; `Asked` and `Ready` are about one moment of what is
 // lent; a type with a number's bound would be made at each read and opened at each use.
+// `interned` and `scratch_unchanged` stay two clauses: each caller cites them by their names.
 ghost use Rattle.std.specs.Prelude.{◌≡◌, ◌+◌, ◌*◌, ◌≤◌, ◌<◌, length, drop};
 ghost use Rattle.std.proofs.Math.Option.{none};
 ghost use Rattle.std.proofs.lemmas.List.Edits.{sets};

@@ -2,6 +2,7 @@
 // The marks' space, the operands' first word and their count stay three numbers, as in the definitions' `Operands`: a struct of them
 // would be made anew at each call.
 // Clauses that repeat stay clauses: each function asks for the length that it reads; `Ready` is about one moment of what is lent.
+// `interned` and `scratch_unchanged` stay two clauses: each caller cites them by their names.
 ghost use Rattle.std.specs.Prelude.{◌≡◌, false, ◌+◌, ◌*◌, ◌≤◌, ◌<◌, length, drop};
 ghost use Rattle.words.specs.Words.{words};
 ghost use Rattle.rules.specs.Pool.{intern_raw, any_annihilates, collapsed, mk_and, mk_or};

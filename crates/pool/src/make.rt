@@ -1,6 +1,7 @@
 // The constructors: a concept is interned as it is, but Min 0 is Top.
 // Clauses that repeat stay clauses: `Ready` is about one moment of what is lent; a type with a number's bound would be made at each read
 // and opened at each use.
+// `interned` and `scratch_unchanged` stay two clauses: each caller cites them by their names.
 ghost use Rattle.std.specs.Prelude.{◌≡◌, false, [], ◌≤◌, ◌<◌, drop};
 ghost use Rattle.words.specs.Words.{words};
 ghost use Rattle.ir.specs.Roles.{role_of};

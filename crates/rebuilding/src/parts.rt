@@ -1,7 +1,8 @@
 // The parts of a concept that are visited. Where they stand and how many there are, two words of its record say: an iterator would be
 // made of the same two. `negated` chooses what the clauses' definitions choose by the same Bool: a closure would need a name for what
 // each of the two says. Kinds are the record's numbers, by pool's names: an enum would be made by a match over the same numbers. Scratch
-// and counters are each by itself: both change between two uses, and a struct of them would be made anew at each call.
+// and counters are each by itself: both change between two uses, and a struct of them would be made anew at each call. k is only for the
+// contracts: they tell the concepts by it.
 // Clauses that repeat stay clauses: `Normalizing` and `Ready` are about one moment of what is lent; a type with a number's bound would be
 // made at each read and opened at each use.
 ghost use Rattle.std.specs.Prelude.{◌≡◌, ◌<◌, length};

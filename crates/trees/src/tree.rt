@@ -1,8 +1,8 @@
 // The tree of role atoms below a root: the bound variables, and for each the child of the root above it. (`placed` and the count n stay
 // apart: one is lent, the other is answered.)
 // Clauses that repeat stay clauses: each function asks for the length that it reads; `AtomsThere` is about one moment of what is lent; a
-// type with a number's bound would be made at each read and opened at each use. A run stays its first word and its count, as in the
-// definitions.
+// type with a number's bound would be made at each read and opened at each use; for `Atoms` its declaration says why. A run stays its
+// first word and its count, as in the definitions.
 ghost use Rattle.std.specs.Prelude.{◌≡◌, false, List, is_some, unwrap_or, ◌+◌, ◌*◌, ◌≤◌, ◌<◌, length, get_or, take, replicate};
 ghost use Rattle.words.specs.Words.{words};
 ghost use Rattle.ir.specs.Pick.{pick};
