@@ -1,5 +1,5 @@
 -- One line in the words v of scratch, and what the line reader says of the text.
-use Rattle.std.specs.Prelude.{◌≡◌, true, List, [], ℕ, suc, ◌+◌, ◌≤◌, ◌<◌, length, get_or, take, drop, Option, Some, None}
+use Rattle.std.specs.Prelude.{◌≡◌, true, List, [], ℕ, suc, ◌+◌, ◌*◌, ◌≤◌, ◌<◌, length, get_or, take, drop, Option, Some, None}
 use Rattle.rules.specs.Text.{row, row_of}
 use Rattle.rules.specs.Deck.{Known}
 use Rattle.rules.specs.Run.{scratch_bytes}
@@ -28,6 +28,20 @@ rows_word = 131072
 
 abbrev pub KeptFrom : ℕ → List ℕ → List ℕ → Type 0
 KeptFrom a v v' = (i : ℕ) → a ≤ i → get_or v' i 0 ≡ get_or v i 0
+
+-- the line at p, read: its n numbers stand in scratch, and the rows are as they were
+pub record ReadLine (text : List ℕ) (p : ℕ) (v v' : List ℕ) (n q : ℕ) : Type 0 where
+  pub few : n ≤ line_words
+  pub count : length (line_in v' n) ≡ n
+  pub read : row_of (drop p text) ≡ row (line_in v' n) (drop q text)
+  pub behind : q ≡ p + 11 * n + 1
+  pub within : q ≤ length text
+  pub rows : KeptFrom rows_word v v'
+
+-- there is none, or it is longer than any good one
+abbrev pub NumbersAs : List ℕ → ℕ → List ℕ → List ℕ → Option Next → Type 0
+NumbersAs text p v v' (Some l) = ReadLine text p v v' l.count l.behind
+NumbersAs text p v v' None = (r bytes : List ℕ) → row_of (drop p text) ≡ row r bytes → line_words < length r
 
 -- the first line, and the place behind it
 pub record FirstLine (text : List ℕ) (n q : ℕ) : Type 0 where

@@ -25,6 +25,7 @@ use crate::enter::At;
 use crate::limits::Limits;
 use ir::answer::Refused;
 use ir::refusal::Refusal;
+use sets::places;
 
 // The first bad line of a state, from 1; 0 where an individual has no line, as the reply's row has it.
 #[derive(Clone, Copy, PartialEq, Eq, Debug)]
@@ -104,6 +105,6 @@ pub fn read_state(
         return Err(BadLine { line: 1 });
     };
     words::clear(store);
-    words::clear_words(scratch, 131072, 256 * (m.roles as usize));
+    words::clear_words(scratch, 2 * places::ROWS, 256 * (m.roles as usize));
     read_lines(text, store, scratch, m, first.size, first.behind)
 }

@@ -6,7 +6,7 @@ ghost use Rattle.words.specs.Words.{words};
 ghost use Rattle.rules.specs.Run.{scratch_bytes};
 ghost use Rattle.sets.specs.Places.{line_at};
 ghost use Rattle.sets.specs.Laid.{KeptTo};
-ghost use Rattle.layouts.specs.Lines.{FirstAs, NextAs};
+ghost use Rattle.layouts.specs.Lines.{NumbersAs, FirstAs, NextAs};
 
 use crate::check;
 use crate::enter::At;
@@ -29,18 +29,25 @@ pub struct Next {
     pub behind: usize,
 }
 
+// The line at p, in scratch; None where it breaks the layout or has more than 40,960 numbers.
+fn read_numbers(text: &[u8], scratch: &mut [u8], p: usize) -> Option<Next>
+    requires { scratch_bytes ≤ length scratch.old }
+    ensures numbers_as { NumbersAs text.now p (words scratch.old) (words scratch.new) result }
+    ensures kept_to { KeptTo line_at (words scratch.old) (words scratch.new) }
+{
+    let Line::Read(count, behind) = text::read_row(text, p, scratch, places::LINE) else {
+        return None;
+    };
+    (count <= places::LINE_END - places::LINE).then_some(Next { count, behind })
+}
+
 // None where the line is bad.
 pub fn first_line(text: &[u8], scratch: &mut [u8]) -> Option<First>
     requires { scratch_bytes ≤ length scratch.old }
     ensures first_as { FirstAs text.now result }
     ensures kept_to { KeptTo line_at (words scratch.old) (words scratch.new) }
 {
-    let Line::Read(count, behind) = text::read_row(text, 0, scratch, places::LINE) else {
-        return None;
-    };
-    if 40960 < count {
-        return None;
-    }
+    let Next { count, behind } = read_numbers(text, scratch, 0)?;
     let line = Numbers { scratch, count };
     if !check::count_ok(&line) {
         return None;
@@ -64,14 +71,13 @@ pub fn next_line(
     ensures next_as { NextAs m at.kind at.id size text.now p (words scratch.old) (words scratch.new) result }
     ensures kept_to { KeptTo line_at (words scratch.old) (words scratch.new) }
 {
-    let Line::Read(count, behind) = text::read_row(text, p, scratch, places::LINE) else {
-        return None;
+    let next = read_numbers(text, scratch, p)?;
+    let line = Numbers {
+        scratch,
+        count: next.count,
     };
-    if 40960 < count {
+    if !check::line_ok(&line, m, at, size) {
         return None;
     }
-    if !check::line_ok(&Numbers { scratch, count }, m, at, size) {
-        return None;
-    }
-    Some(Next { count, behind })
+    Some(next)
 }

@@ -1,4 +1,6 @@
 // The numbers of a line, which stand in scratch from word LINE on.
+// `all_below` and `rises` stay beside those of a deck's row: these numbers are words and begin at 2, a row's are read from its columns
+// and begin at 1, so that a trait of both would have as many methods as it shares.
 ghost use Rattle.std.specs.Prelude.{◌≤◌, length};
 ghost use Rattle.rules.specs.Run.{scratch_bytes};
 ghost use Rattle.sets.specs.Places.{line_words};
