@@ -8,7 +8,7 @@ use Prim.Native.Nat.{ℕ, zero, suc, ◌+◌, ◌-◌, ◌<◌, ◌≤◌}
 use native.Mathlib.Omega.{arith}
 use borrow.Author.Tests.{eqb-true, eqb-false, leb-true, le-leb, lt-leb, ltb-true, ltb-false, not-true}
 use lib.Dec.{eqb, ltb, leb}
-use lib.ListN.{length, get_or, take, drop, replicate, length-drop, get_or-map, get_or-eq_default}
+use lib.ListN.{length, get_or, take, drop, replicate, length-drop, get_or-map}
 use lib.Seq.{get_or-take, get_or-drop}
 use mathlib.Core.Bool.{not}
 use Rattle.ir.specs.Pick.{pick}
@@ -20,7 +20,7 @@ use Rattle.rules.specs.Deck.{most_listed, sections, fixed_fields, list_kinds, se
 use Rattle.rules.specs.DeckLaws.{all_each}
 use Rattle.rules.specs.Text.{most_number}
 use Rattle.rules.specs.TextLaws.{each_get_d, by_test}
-use Rattle.deck.specs.Kinds.{Says}
+use Rattle.deck.specs.Kinds.{section_said, fixed_said, listed_said, first_said, Says}
 use Rattle.deck.specs.Records.{section_number, firsts, first_part, kind_member, under, IsList}
 use Rattle.deck.specs.declared.kinds.Kind.{Kind}
 use Rattle.deck.specs.declared.state.Section.{Section}
@@ -40,32 +40,15 @@ padded [] m n = zeros m n
 padded (x ∷ l) m zero = refl
 padded (x ∷ l) m (suc n) = padded l m n
 
--- a kind that is none
-pub record SaysNothing (d : Kind) : Type 0 where
-  pub section : section_number d.section ≡ 0
-  pub fixed : d.fixed ≡ 0
-  pub listed : d.listed ≡ false
-  pub first : d.first ≡ 0
-
 -- the table's columns are those of the rules
-pub says : (l : List Kind) (d : Kind) (n : ℕ) → map (λ k. section_number k.section) l ≡ sections → map (λ k. k.fixed) l ≡ fixed_fields
-    → map (λ k. k.listed) l ≡ map (λ i. eqb i 1) list_kinds → map (λ k. k.first) l ≡ firsts ++ replicate 24 0 → SaysNothing d → Says (get_or l n d) n
-says l d n a b c e z = record {
-  section = sym (get_or-map (λ k. section_number k.section) l n d) ∙ rw (a, z.section) refl;
-  fixed = sym (get_or-map (λ k. k.fixed) l n d) ∙ rw (b, z.fixed) refl;
-  listed = sym (get_or-map (λ k. k.listed) l n d) ∙ rw (c, z.listed) (get_or-map (λ i. eqb i 1) list_kinds n 0);
-  first = sym (get_or-map (λ k. k.first) l n d) ∙ rw (e, z.first) (padded firsts 24 n);
+pub says : (l : List (Option Kind)) (n : ℕ) → map section_said l ≡ sections → map fixed_said l ≡ fixed_fields
+    → map listed_said l ≡ map (λ i. eqb i 1) list_kinds → map first_said l ≡ firsts ++ replicate 24 0 → Says (get_or l n option.None) n
+says l n a b c e = record {
+  section = sym (get_or-map section_said l n option.None) ∙ rw a refl;
+  fixed = sym (get_or-map fixed_said l n option.None) ∙ rw b refl;
+  listed = sym (get_or-map listed_said l n option.None) ∙ rw c (get_or-map (λ i. eqb i 1) list_kinds n 0);
+  first = sym (get_or-map first_said l n option.None) ∙ rw e (padded firsts 24 n);
 }
-
-pub says_none : (d : Kind) (n : ℕ) → SaysNothing d → 37 ≤ n → Says d n
-says_none d n z h =
-    let i : 13 ≤ n = omega arith in
-    record {
-      section = z.section ∙ sym (get_or-eq_default sections 0 h);
-      fixed = z.fixed ∙ sym (get_or-eq_default fixed_fields 0 h);
-      listed = z.listed ∙ sym (ap (λ i. eqb i 1) (get_or-eq_default list_kinds 0 h));
-      first = z.first ∙ sym (get_or-eq_default firsts 0 i);
-    }
 
 -- a section that is not that of the concepts
 pub no_concepts : (s : Option Section) → (s ≡ option.Some Concepts → ⊥) → eqb (section_number s) 3 ≡ false

@@ -9,308 +9,263 @@ use crate::state::Section;
 
 // Of a kind: its section, its numbers before a list, whether the rest of the line is a list, and where the concepts that a concept
 // line names begin, which are the rest of the line.
+#[derive(Clone, Copy)]
 struct Kind {
-    section: Option<Section>,
+    section: Section,
     fixed: usize,
     listed: bool,
     first: usize,
 }
 
 // Numbers without a comment are no kinds.
-static KINDS: [Kind; 37] = [
+static KINDS: [Option<Kind>; 37] = [
     // 0 header
-    Kind {
-        section: Some(Section::Header),
+    Some(Kind {
+        section: Section::Header,
         fixed: 4,
         listed: false,
         first: 5,
-    },
+    }),
     // 1 Top
-    Kind {
-        section: Some(Section::Concepts),
+    Some(Kind {
+        section: Section::Concepts,
         fixed: 0,
         listed: false,
         first: 1,
-    },
+    }),
     // 2 Bot
-    Kind {
-        section: Some(Section::Concepts),
+    Some(Kind {
+        section: Section::Concepts,
         fixed: 0,
         listed: false,
         first: 1,
-    },
+    }),
     // 3 Atomic
-    Kind {
-        section: Some(Section::Concepts),
+    Some(Kind {
+        section: Section::Concepts,
         fixed: 1,
         listed: false,
         first: 2,
-    },
+    }),
     // 4 Nominal
-    Kind {
-        section: Some(Section::Concepts),
+    Some(Kind {
+        section: Section::Concepts,
         fixed: 1,
         listed: false,
         first: 2,
-    },
+    }),
     // 5 Self
-    Kind {
-        section: Some(Section::Concepts),
+    Some(Kind {
+        section: Section::Concepts,
         fixed: 1,
         listed: false,
         first: 2,
-    },
+    }),
     // 6 Not
-    Kind {
-        section: Some(Section::Concepts),
+    Some(Kind {
+        section: Section::Concepts,
         fixed: 1,
         listed: false,
         first: 1,
-    },
+    }),
     // 7 And
-    Kind {
-        section: Some(Section::Concepts),
+    Some(Kind {
+        section: Section::Concepts,
         fixed: 0,
         listed: true,
         first: 1,
-    },
+    }),
     // 8 Or
-    Kind {
-        section: Some(Section::Concepts),
+    Some(Kind {
+        section: Section::Concepts,
         fixed: 0,
         listed: true,
         first: 1,
-    },
+    }),
     // 9 Some
-    Kind {
-        section: Some(Section::Concepts),
+    Some(Kind {
+        section: Section::Concepts,
         fixed: 2,
         listed: false,
         first: 2,
-    },
+    }),
     // 10 All
-    Kind {
-        section: Some(Section::Concepts),
+    Some(Kind {
+        section: Section::Concepts,
         fixed: 2,
         listed: false,
         first: 2,
-    },
+    }),
     // 11 Min
-    Kind {
-        section: Some(Section::Concepts),
+    Some(Kind {
+        section: Section::Concepts,
         fixed: 3,
         listed: false,
         first: 3,
-    },
+    }),
     // 12 Max
-    Kind {
-        section: Some(Section::Concepts),
+    Some(Kind {
+        section: Section::Concepts,
         fixed: 3,
         listed: false,
         first: 3,
-    },
-    Kind {
-        section: None,
-        fixed: 0,
-        listed: false,
-        first: 0,
-    },
+    }),
+    None,
     // 14 key mark
-    Kind {
-        section: Some(Section::Keys),
+    Some(Kind {
+        section: Section::Keys,
         fixed: 1,
         listed: false,
         first: 0,
-    },
-    Kind {
-        section: None,
-        fixed: 0,
-        listed: false,
-        first: 0,
-    },
-    Kind {
-        section: None,
-        fixed: 0,
-        listed: false,
-        first: 0,
-    },
-    Kind {
-        section: None,
-        fixed: 0,
-        listed: false,
-        first: 0,
-    },
-    Kind {
-        section: None,
-        fixed: 0,
-        listed: false,
-        first: 0,
-    },
-    Kind {
-        section: None,
-        fixed: 0,
-        listed: false,
-        first: 0,
-    },
-    Kind {
-        section: None,
-        fixed: 0,
-        listed: false,
-        first: 0,
-    },
+    }),
+    None,
+    None,
+    None,
+    None,
+    None,
+    None,
     // 21 SubClassOf
-    Kind {
-        section: Some(Section::Axioms),
+    Some(Kind {
+        section: Section::Axioms,
         fixed: 2,
         listed: false,
         first: 0,
-    },
+    }),
     // 22 EquivalentClasses
-    Kind {
-        section: Some(Section::Axioms),
+    Some(Kind {
+        section: Section::Axioms,
         fixed: 0,
         listed: true,
         first: 0,
-    },
+    }),
     // 23 DisjointClasses
-    Kind {
-        section: Some(Section::Axioms),
+    Some(Kind {
+        section: Section::Axioms,
         fixed: 0,
         listed: true,
         first: 0,
-    },
+    }),
     // 24 DisjointUnion
-    Kind {
-        section: Some(Section::Axioms),
+    Some(Kind {
+        section: Section::Axioms,
         fixed: 1,
         listed: true,
         first: 0,
-    },
+    }),
     // 25 domain
-    Kind {
-        section: Some(Section::Axioms),
+    Some(Kind {
+        section: Section::Axioms,
         fixed: 2,
         listed: false,
         first: 0,
-    },
+    }),
     // 26 range
-    Kind {
-        section: Some(Section::Axioms),
+    Some(Kind {
+        section: Section::Axioms,
         fixed: 2,
         listed: false,
         first: 0,
-    },
+    }),
     // 27 chain
-    Kind {
-        section: Some(Section::Axioms),
+    Some(Kind {
+        section: Section::Axioms,
         fixed: 1,
         listed: true,
         first: 0,
-    },
+    }),
     // 28 transitive
-    Kind {
-        section: Some(Section::Axioms),
+    Some(Kind {
+        section: Section::Axioms,
         fixed: 1,
         listed: false,
         first: 0,
-    },
+    }),
     // 29 irreflexive
-    Kind {
-        section: Some(Section::Axioms),
+    Some(Kind {
+        section: Section::Axioms,
         fixed: 1,
         listed: false,
         first: 0,
-    },
+    }),
     // 30 asymmetric
-    Kind {
-        section: Some(Section::Axioms),
+    Some(Kind {
+        section: Section::Axioms,
         fixed: 1,
         listed: false,
         first: 0,
-    },
+    }),
     // 31 disjoint roles
-    Kind {
-        section: Some(Section::Axioms),
+    Some(Kind {
+        section: Section::Axioms,
         fixed: 0,
         listed: true,
         first: 0,
-    },
+    }),
     // 32 inverse
-    Kind {
-        section: Some(Section::Axioms),
+    Some(Kind {
+        section: Section::Axioms,
         fixed: 2,
         listed: false,
         first: 0,
-    },
+    }),
     // 33 role inclusion
-    Kind {
-        section: Some(Section::Axioms),
+    Some(Kind {
+        section: Section::Axioms,
         fixed: 2,
         listed: false,
         first: 0,
-    },
+    }),
     // 34 equivalent roles
-    Kind {
-        section: Some(Section::Axioms),
+    Some(Kind {
+        section: Section::Axioms,
         fixed: 0,
         listed: true,
         first: 0,
-    },
+    }),
     // 35 reflexive
-    Kind {
-        section: Some(Section::Axioms),
+    Some(Kind {
+        section: Section::Axioms,
         fixed: 1,
         listed: false,
         first: 0,
-    },
+    }),
     // 36 ClassAssertion
-    Kind {
-        section: Some(Section::Axioms),
+    Some(Kind {
+        section: Section::Axioms,
         fixed: 2,
         listed: false,
         first: 0,
-    },
+    }),
 ];
 
-static NO_KIND: Kind = Kind {
-    section: None,
-    fixed: 0,
-    listed: false,
-    first: 0,
-};
-
-fn kind_of(number: usize) -> &'static Kind
-    ensures { Says result.now number }
+fn kind_of(number: usize) -> Option<Kind>
+    ensures { Says result number }
 {
-    if number < KINDS.len() {
-        &KINDS[number]
-    } else {
-        &NO_KIND
-    }
+    *KINDS.get(number)?
 }
 
 pub fn section_of(kind: usize) -> Option<Section>
     ensures { section_number result ≡ section_of kind }
 {
-    kind_of(kind).section
+    kind_of(kind).map(|kind| kind.section)
 }
 
 pub fn fixed_of(kind: usize) -> usize
     ensures { result ≡ fixed_of kind }
 {
-    kind_of(kind).fixed
+    kind_of(kind).map_or(0, |kind| kind.fixed)
 }
 
 fn is_list(kind: usize) -> bool
     ensures { result ≡ is_list_kind kind }
 {
-    kind_of(kind).listed
+    kind_of(kind).is_some_and(|kind| kind.listed)
 }
 
 pub fn first_part(kind: usize) -> usize
     ensures { result ≡ first_part kind }
 {
-    kind_of(kind).first
+    kind_of(kind).map_or(0, |kind| kind.first)
 }
 
 // The header comes first and once.

@@ -87,7 +87,7 @@ pub fn read(deck: &[u8], t: &mut [u8]) -> Result<State, Refused>
     if 65536 < deck.len() {
         return Err(Refused::from(Refusal::BadColumns));
     }
-    words::clear_words(t, 5120, 1024);
+    words::clear_words(t, table::HEADS, table::LINKS - table::HEADS);
     read_lines(deck, t)
 }
 

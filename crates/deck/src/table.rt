@@ -14,9 +14,9 @@ use crate::row::Line;
 // The table is of lent bytes, so that its parts are known by their first words.
 const AXIOMS: usize = 3072;
 
-const HEADS: usize = 5120;
+pub const HEADS: usize = 5120;
 
-const LINKS: usize = 6144;
+pub const LINKS: usize = 6144;
 
 fn word(t: &[u8], i: usize) -> usize
     requires { 4 * i + 4 ≤ length t.now }

@@ -1,10 +1,13 @@
-use mathlib.Core.Path.{refl}
-use Rattle.deck.specs.declared.kinds.TheConstants.{KINDS, NO_KIND}
-use Rattle.deck.proofs.KindLaws.{says, says_none}
+use mathlib.Core.Path.{refl, sym, subst}
+use lib.ListN.{get_or-eq_default}
+use Rattle.std.specs.declared.option.Option.TheVariants.{None}
+use Rattle.deck.specs.Kinds.{Says}
+use Rattle.deck.specs.declared.kinds.TheConstants.{KINDS}
+use Rattle.deck.proofs.KindLaws.{says}
 use Rattle.deck.proofs.kinds.kind_of.Goals as goal
 
-pub returns-then-number-lt37 : goal.returns-then-number-lt37
-returns-then-number-lt37 c = says KINDS NO_KIND c.args.number refl refl refl refl record { section = refl; fixed = refl; listed = refl; first = refl }
+pub returns-in_err-get : goal.returns-in_err-get
+returns-in_err-get c = rw c.from_residual.ensures (subst (λ o. Says o c.args.number) (get_or-eq_default KINDS None c.in_err-get.ensures.lookup.3) (says KINDS c.args.number refl refl refl refl))
 
-pub returns-else-number-lt37 : goal.returns-else-number-lt37
-returns-else-number-lt37 c = says_none NO_KIND c.args.number record { section = refl; fixed = refl; listed = refl; first = refl } c.if-number-lt37.false
+pub returns : goal.returns
+returns c = subst (λ o. Says o c.args.number) (sym (c.in_ok-get.ensures.lookup.3.1 None)) (says KINDS c.args.number refl refl refl refl)
