@@ -3,3 +3,4 @@ pub mod KeptLaws
 pub mod Places
 pub mod Laid
 pub mod Verdicts
+pub mod FoldLaws

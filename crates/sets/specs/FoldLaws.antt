@@ -1,0 +1,60 @@
+-- What a `fold` over a range keeps, said of the number that is next, or was last. Assumes nothing.
+use Rattle.std.specs.Prelude.{Option, Some, None, ◌≡◌, refl, List, [], ◌∷◌, ℕ, ◌+◌, ◌-◌, ◌<◌, ◌≤◌}
+use Rattle.std.proofs.Common.{subst, sym, arith}
+use Rattle.std.specs.Fn.{Called}
+use Rattle.std.specs.Iterator.{Drains, Yields}
+use Rattle.std.specs.Iterator.Adapters.{rev_source, rev_steps}
+use Rattle.std.specs.List.{FoldsTo}
+use Rattle.std.specs.Option.{MatchOption}
+use Rattle.std.specs.declared.iter.Rev.{Rev}
+use Rattle.std.specs.declared.ops.Range.{Range}
+use denote.Param.Members.{Mut}
+
+-- the numbers from the first on, and from the last on
+abbrev pub up : Range ℕ → Option ℕ → Range ℕ → Type 0
+up s r t = (t.end ≡ s.end) × MatchOption r ((s.end - s.start ≡ 0) × (t.start ≡ s.start)) (λ x. (0 < s.end - s.start) × (x ≡ s.start) × (t.start ≡ s.start + 1))
+
+abbrev pub down : Range ℕ → Option ℕ → Range ℕ → Type 0
+down s r t = (t.start ≡ s.start) × MatchOption r ((s.end - s.start ≡ 0) × (t.end ≡ s.end)) (λ x. (0 < s.end - s.start) × (x ≡ t.end) × (s.end ≡ t.end + 1))
+
+module _ {S A F C : Type 0} (steps : S → Option A → S → Type 0) (g : Mut F (C × (A × Unit {0})) C) (f : F) where
+  abbrev pub Folds : S → C → C → Type 0
+  Folds s a r = (xs : List A) × (f' : F) × Drains steps s xs × FoldsTo {P = F × C} (λ p x q. Called g p.0 (p.1, (x, tt)) q.1 q.0) (f, a) xs (f', r)
+
+  module _ (J : S → C → Type 0) (step : (s : S) (x : A) (t : S) (a b : C) (f' : F) → steps s (Some x) t → J s a → Called g f (a, (x, tt)) b f' → J t b × (f' ≡ f)) where
+    turns : (xs : List A) (s t : S) (h h' : F) (a r : C) → h ≡ f → J s a → Yields steps s xs t → FoldsTo {P = F × C} (λ p x q. Called g p.0 (p.1, (x, tt)) q.1 q.0) (h, a) xs (h', r) → J t r
+    turns [] s t h h' a r e j y k = subst (λ (v : S). J v r) y (subst (λ (p : F × C). J s p.1) k j)
+    turns (x ∷ xs) s t h h' a r e j y k =
+        let n = step s x y.0 a k.0.1 k.0.0 y.1 j (subst (λ (z : F). Called g z (a, (x, tt)) k.0.1 k.0.0) e k.1) in
+        turns xs y.0 t k.0.0 h' k.0.1 r n.1 n.0 y.2 k.2
+
+    -- the moment after the last turn, when no item is left
+    kept : (s : S) (a r : C) → Folds s a r → J s a → (t : S) × (u : S) × steps t None u × J t r
+    kept s a r ran j = let D = ran.2 in (D.1.0, D.0, D.1.2, turns ran.0 s D.1.0 f ran.1 a r refl j D.1.1 ran.3)
+
+module _ {F C : Type 0} (g : Mut F (C × (ℕ × Unit {0})) C) (f : F) (J : ℕ → C → Type 0) (n : ℕ) where
+  pub fold_up : ((x : ℕ) (a b : C) (f' : F) → x < n → J x a → Called g f (a, (x, tt)) b f' → J (x + 1) b × (f' ≡ f))
+      → (s : Range ℕ) (a r : C) → s ≡ record { start = 0; end = n } → J 0 a → Folds up g f s a r → J n r
+  fold_up step s a r e j ran =
+      let K = kept up g f (λ (t : Range ℕ) (v : C). (t.end ≡ n) × (t.start ≤ n) × J t.start v)
+          (λ k x t v w f' p q h.
+          let z : x < n = omega (arith, p.1, q.0) in
+          let N = step x v w f' z (subst (λ (i : ℕ). J i v) (sym p.1.1) q.2) h in
+          let y : x + 1 ≡ t.start = omega (arith, p.1) in
+          ((omega (arith, p.0, q.0), omega (arith, p.1, q.0), subst (λ (i : ℕ). J i w) y N.0), N.1))
+          s a r ran (subst (λ (t : Range ℕ). (t.end ≡ n) × (t.start ≤ n) × J t.start a) (sym e) (refl, omega arith, j)) in
+      let z : K.0.start ≡ n = omega (arith, K.2, K.3.0, K.3.1) in
+      subst (λ (i : ℕ). J i r) z K.3.2
+
+  pub fold_down : ((x : ℕ) (a b : C) (f' : F) → x < n → J (x + 1) a → Called g f (a, (x, tt)) b f' → J x b × (f' ≡ f))
+      → (s : Rev (Range ℕ)) (a r : C) → rev_source s ≡ record { start = 0; end = n } → J n a → Folds (rev_steps down) g f s a r → J 0 r
+  fold_down step s a r e j ran =
+      let K = kept (rev_steps down) g f (λ (t : Rev (Range ℕ)) (v : C). ((rev_source t).start ≡ 0) × ((rev_source t).end ≤ n) × J (rev_source t).end v)
+          (λ k x t v w f' p q h.
+          let z : x < n = omega (arith, p.1, q.1) in
+          let y : (rev_source k).end ≡ x + 1 = omega (arith, p.1) in
+          let N = step x v w f' z (subst (λ (i : ℕ). J i v) y q.2) h in
+          ((omega (arith, p.0, q.0), omega (arith, p.1, q.1), subst (λ (i : ℕ). J i w) p.1.1 N.0), N.1))
+          s a r ran (subst (λ (t : Range ℕ). (t.start ≡ 0) × (t.end ≤ n) × J t.end a) (sym e) (refl, omega arith, j)) in
+      let z : (rev_source K.0).end ≡ 0 = omega (arith, K.2, K.3.0) in
+      subst (λ (i : ℕ). J i r) z K.3.2
