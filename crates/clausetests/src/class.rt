@@ -28,11 +28,7 @@ fn line_set(text: &[u8], p: usize, n: usize, size: u32) -> u64
     requires { (p + 11 * n ≤ length text.now) × (size ≤ 64) }
     ensures { result ≡ set_of size (drop 2 (row_at text.now p n)) }
 {
-    let mut m = 0;
-    for k in 2..n {
-        m = with_below(m, text::field(text, p, n, k), size);
-    }
-    m
+    (2..n).fold(0, |m, k| with_below(m, text::field(text, p, n, k), size))
 }
 
 // The line is class c's.
