@@ -18,11 +18,7 @@ fn meet(data: &[u8], at: usize, w: u32) -> Option<usize> {
 
 // Where the next numbers end, if they are these.
 fn meet_all(data: &[u8], from: usize, numbers: &[u32]) -> Option<usize> {
-    let mut at = from;
-    for number in numbers {
-        at = meet(data, at, *number)?;
-    }
-    Some(at)
+    numbers.iter().try_fold(from, |at, w| meet(data, at, *w))
 }
 
 // The ten numbers of line 43.
@@ -62,11 +58,9 @@ fn meet_clause(data: &[u8], clauses: &[u8], i: u32, w: Walk) -> Option<Walk> {
 }
 
 fn meet_clauses(data: &[u8], clauses: &[u8], n: u32, at: usize) -> Option<Walk> {
-    let mut w = Walk { at, first: 0 };
-    for i in 0..n {
-        w = meet_clause(data, clauses, i, w)?;
-    }
-    Some(w)
+    (0..n).try_fold(Walk { at, first: 0 }, |w, i| {
+        meet_clause(data, clauses, i, w)
+    })
 }
 
 // A word of an atom: it is not stored where it is 0.
@@ -99,11 +93,7 @@ fn meet_atom(data: &[u8], atoms: &[u8], k: u32, from: usize) -> Option<usize> {
 }
 
 fn meet_atoms(data: &[u8], atoms: &[u8], n: u32, from: usize) -> Option<usize> {
-    let mut at = from;
-    for k in 0..n {
-        at = meet_atom(data, atoms, k, at)?;
-    }
-    Some(at)
+    (0..n).try_fold(from, |at, k| meet_atom(data, atoms, k, at))
 }
 
 // Deferral i's record, likewise.
@@ -117,11 +107,7 @@ fn meet_deferral(data: &[u8], deferrals: &[u8], i: u32, at: usize) -> Option<usi
 }
 
 fn meet_deferrals(data: &[u8], deferrals: &[u8], n: u32, from: usize) -> Option<usize> {
-    let mut at = from;
-    for i in 0..n {
-        at = meet_deferral(data, deferrals, i, at)?;
-    }
-    Some(at)
+    (0..n).try_fold(from, |at, i| meet_deferral(data, deferrals, i, at))
 }
 
 // The numbers and records of an accepted deck: where they end, and how many atoms there are.

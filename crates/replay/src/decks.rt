@@ -27,65 +27,49 @@ fn put_number(data: &[u8], out: &mut [u8], p: Place) -> Place {
     }
 }
 
-// n numbers and a line feed.
-fn put_numbers(data: &[u8], n: u32, out: &mut [u8], from: Place) -> Place {
-    let mut p = from;
-    for _ in 0..n {
-        if data.len() <= p.at {
-            break;
-        }
-        p = put_number(data, out, p);
-    }
-    Place {
-        at: p.at,
-        end: put_byte(out, p.end, 10),
-    }
-}
-
 // The next byte, as it stands.
 fn put_raw(data: &[u8], out: &mut [u8], p: Place) -> Place {
-    if data.len() <= p.at {
-        return p;
-    }
     Place {
-        at: p.at + 1,
+        at: p.at.saturating_add(1),
         end: put_byte(out, p.end, data::raw(data, p.at)),
     }
 }
 
-// n of them.
-fn put_bytes(data: &[u8], n: u32, out: &mut [u8], from: Place) -> Place {
+// n steps, as far as there is data.
+fn each<F: Fn(&[u8], &mut [u8], Place) -> Place>(
+    data: &[u8],
+    n: u32,
+    out: &mut [u8],
+    from: Place,
+    step: F,
+) -> Place
+    requires { F.IsAlwaysCallable step }
+{
     let mut p = from;
     for _ in 0..n {
         if data.len() <= p.at {
             break;
         }
-        p = put_raw(data, out, p);
+        p = step(data, out, p);
     }
     p
 }
 
 fn put_line(data: &[u8], out: &mut [u8], p: Place) -> Place {
     let x = data::number(data, p.at);
+    let n = x.value / 2;
     let q = Place {
         at: x.at,
         end: p.end,
     };
-    if x.value % 2 == 0 {
-        return put_numbers(data, x.value / 2, out, q);
+    if x.value % 2 == 1 {
+        return each(data, n, out, q, put_raw);
     }
-    put_bytes(data, x.value / 2, out, q)
-}
-
-fn put_lines(data: &[u8], n: u32, out: &mut [u8], from: Place) -> Place {
-    let mut p = from;
-    for _ in 0..n {
-        if data.len() <= p.at {
-            break;
-        }
-        p = put_line(data, out, p);
+    let r = each(data, n, out, q, put_number);
+    Place {
+        at: r.at,
+        end: put_byte(out, r.end, b'\n'),
     }
-    p
 }
 
 // The deck whose lines begin at byte `at`, from byte 0 of `out` on; the text's end lies in `out`.
@@ -93,9 +77,10 @@ pub fn put_deck(data: &[u8], at: usize, out: &mut [u8]) -> Place
     ensures { result.end ≤ length out.new }
 {
     let x = data::number(data, at);
-    let p = put_lines(data, x.value, out, Place { at: x.at, end: 0 });
-    if out.len() < p.end {
-        return Place { at: p.at, end: 0 };
+    let from = Place { at: x.at, end: 0 };
+    let p = each(data, x.value, out, from, put_line);
+    Place {
+        at: p.at,
+        end: p.end.min(out.len()),
     }
-    p
 }

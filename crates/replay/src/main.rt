@@ -24,10 +24,10 @@ struct Sums {
 }
 
 impl Sums {
-    fn add(mut self, accepted: bool, same: bool) -> Sums {
+    fn add(mut self, is_accepted: bool, same: bool) -> Sums {
         self.decks = num::wrapping_add_u32(self.decks, 1);
-        self.accepted = num::wrapping_add_u32(self.accepted, u32::from(accepted));
-        self.refused = num::wrapping_add_u32(self.refused, u32::from(!accepted));
+        self.accepted = num::wrapping_add_u32(self.accepted, u32::from(is_accepted));
+        self.refused = num::wrapping_add_u32(self.refused, u32::from(!is_accepted));
         self.differences = num::wrapping_add_u32(self.differences, u32::from(!same));
         self
     }
@@ -65,10 +65,7 @@ fn run_deck(
 
 // Where something of so many bytes ends.
 fn end_of(at: usize, bytes: u32) -> usize {
-    if 1000000000 < at {
-        return at;
-    }
-    at + bytes as usize
+    at.saturating_add(bytes as usize)
 }
 
 // n decks from byte `from` of the data on.
