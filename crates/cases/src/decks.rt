@@ -1,5 +1,4 @@
 // The cases' decks. Concept i is class i, as far as there are classes; the last class is the consequent.
-// Clauses that repeat stay clauses: a type with a number's bound would be made at each read and opened at each use.
 ghost use Rattle.std.specs.Prelude.{◌≤◌, length};
 
 fn end(out: &mut [u8], at: usize) -> usize {
@@ -23,22 +22,36 @@ fn header(out: &mut [u8], classes: u32, roles: u32, options: u32) -> usize {
     line(out, 0, &[0, classes, 0, roles, options])
 }
 
-// Class i; role 0 some concept i; concept i below b.
-fn concept(out: &mut [u8], at: usize, kind: u32, i: u32, b: u32) -> usize {
-    match kind {
-        3 => line(out, at, &[3, i]),
-        9 => line(out, at, &[9, 0, i]),
-        _ => line(out, at, &[21, i, b]),
-    }
-}
-
-// Such lines for each i from `from` on, below `to`.
-fn lines(out: &mut [u8], at: usize, kind: u32, from: u32, to: u32, b: u32) -> usize {
+// The lines of each i from `from` on, below `to`.
+fn lines<F: Fn(&mut [u8], usize, u32) -> usize>(
+    out: &mut [u8],
+    at: usize,
+    from: u32,
+    to: u32,
+    one: F,
+) -> usize
+    requires { F.IsAlwaysCallable one }
+{
     let mut p = at;
     for i in from..to {
-        p = concept(out, p, kind, i, b);
+        p = one(out, p, i);
     }
     p
+}
+
+// Class i.
+fn class(out: &mut [u8], at: usize, i: u32) -> usize {
+    line(out, at, &[3, i])
+}
+
+// Role 0 some concept i.
+fn some(out: &mut [u8], at: usize, i: u32) -> usize {
+    line(out, at, &[9, 0, i])
+}
+
+// Concept a below b.
+fn below(out: &mut [u8], at: usize, a: u32, b: u32) -> usize {
+    line(out, at, &[21, a, b])
 }
 
 // And (7) or Or (8) of the concepts from `from` on, below `to`.
@@ -55,9 +68,9 @@ fn or_of(out: &mut [u8], n: u32) -> usize
     requires { n ≤ 128 }
 {
     let p = header(out, n + 1, 0, 2);
-    let q = lines(out, p, 3, 0, n + 1, 0);
+    let q = lines(out, p, 0, n + 1, class);
     let r = list(out, q, 8, 0, n);
-    line(out, r, &[21, n + 1, n])
+    below(out, r, n + 1, n)
 }
 
 // An And of two Ors of n classes below a class.
@@ -65,11 +78,11 @@ fn and_of_ors(out: &mut [u8], n: u32) -> usize
     requires { n ≤ 64 }
 {
     let p = header(out, 2 * n + 1, 0, 2);
-    let q = lines(out, p, 3, 0, 2 * n + 1, 0);
+    let q = lines(out, p, 0, 2 * n + 1, class);
     let r = list(out, q, 8, 0, n);
     let s = list(out, r, 8, n, 2 * n);
     let t = list(out, s, 7, 2 * n + 1, 2 * n + 3);
-    line(out, t, &[21, 2 * n + 3, 2 * n])
+    below(out, t, 2 * n + 3, 2 * n)
 }
 
 // n classes and one more, Some over each of the n, the And of the first m of these.
@@ -77,8 +90,8 @@ fn somes(out: &mut [u8], n: u32, m: u32, options: u32) -> usize
     requires { (n ≤ 128) × (m ≤ n) }
 {
     let p = header(out, n + 1, 1, options);
-    let q = lines(out, p, 3, 0, n + 1, 0);
-    let r = lines(out, q, 9, 0, n, 0);
+    let q = lines(out, p, 0, n + 1, class);
+    let r = lines(out, q, 0, n, some);
     list(out, r, 7, n + 1, n + 1 + m)
 }
 
@@ -87,7 +100,7 @@ fn and_of_somes(out: &mut [u8], n: u32) -> usize
     requires { n ≤ 64 }
 {
     let p = somes(out, n, n, 3);
-    line(out, p, &[21, 2 * n + 1, n])
+    below(out, p, 2 * n + 1, n)
 }
 
 // The same for twelve over a reflexive role, without option 1; behind that `more` Somes, each below the class, and `before` of
@@ -98,9 +111,15 @@ fn unfolding(out: &mut [u8], before: u32, more: u32) -> usize
     let n = 12 + more;
     let p = somes(out, n, 12, 2);
     let q = line(out, p, &[35, 0]);
-    let r = lines(out, q, 21, n + 13, n + 13 + before, n);
-    let s = line(out, r, &[21, 2 * n + 1, n]);
-    lines(out, s, 21, n + 13, n + 13 + more, n)
+    let r = lines(
+        out,
+        q,
+        n + 13,
+        n + 13 + before,
+        |o, at, i| below(o, at, i, n),
+    );
+    let s = below(out, r, 2 * n + 1, n);
+    lines(out, s, n + 13, n + 13 + more, |o, at, i| below(o, at, i, n))
 }
 
 fn write(out: &mut [u8], case: u32) -> usize {
@@ -121,9 +140,5 @@ fn write(out: &mut [u8], case: u32) -> usize {
 pub fn deck(out: &mut [u8], case: u32) -> usize
     ensures { result ≤ length out.new }
 {
-    let n = write(out, case);
-    if out.len() < n {
-        return 0;
-    }
-    n
+    write(out, case).min(out.len())
 }

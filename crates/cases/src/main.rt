@@ -39,7 +39,7 @@ fn refused(number: u32) -> Row {
 }
 
 fn accepted(clauses: &[u8], atoms: &[u8], deferrals: &[u8], case: u32, n: Numbers) -> Row {
-    let mut met = [0u8; 5000];
+    let mut met = [false; 5000];
     Row {
         refused: 0,
         clauses: n.stats.total,
@@ -99,10 +99,7 @@ fn run_cases(
         let w = run_case(case, &deck[..n], clauses, atoms, deferrals, scratch);
         p = put_row(out, p, case, w);
     }
-    if out.len() < p {
-        return 0;
-    }
-    p
+    p.min(out.len())
 }
 
 fn main(rt: HostRuntime) -> io::Result<()> {
