@@ -25,7 +25,7 @@ use Rattle.pool.specs.Tabs.{tab_next, tab_end}
 use Rattle.tables.specs.Good.{Good}
 use Rattle.antecedents.specs.Counts.{joined, under, count_all, count_step, count, GoodEncoded}
 use Rattle.antecedents.specs.CountLaws.{count_good, joined_good}
-use Rattle.antecedents.specs.Stands.{Stands, Listed, HasList, list_in, Counts, CountsAll}
+use Rattle.antecedents.specs.Stands.{Stands, Listed, HasList, list_in, Counts, CountsAll, CountsList}
 use Rattle.antecedents.specs.Kinds.{at_top, at_class, at_nominal, at_and, at_or, at_some, Other, by_other, listed_in, some_below}
 
 -- ---- what a visit leaves
@@ -60,9 +60,6 @@ module _ (w : List ℕ) (c s m : ℕ) (es : s ≡ field w c 3) (em : m ≡ field
   pub list_is : run w (members_at + s) m ≡ list_in w c
   list_is = rw (es, em) refl
 
--- CountsAll, of any run
-abbrev pub CountsRun : List ℕ → Bool → ℕ → ℕ → ℕ → Encoded → Encoded → Type 0
-CountsRun w b c start many acc r = (n f : ℕ) → c < n → c ≤ f → r ≡ count_all (count (pool_of w n) f) b (run w (members_at + start) many) acc
 
 pub record Here (w : List ℕ) (k v : Counters) (c kind a b : ℕ) : Type 0 where
   pub go : visited k ≡ Begun v
@@ -70,7 +67,7 @@ pub record Here (w : List ℕ) (k v : Counters) (c kind a b : ℕ) : Type 0 wher
   pub a_is : a ≡ field w c 2
   pub b_is : b ≡ field w c 3
 
-pub counts_all : (w : List ℕ) (b : Bool) (c s m : ℕ) (acc r : Encoded) → s ≡ field w c 3 → m ≡ field w c 2 → CountsRun w b c s m acc r → CountsAll w b c acc r
+pub counts_all : (w : List ℕ) (b : Bool) (c s m : ℕ) (acc r : Encoded) → s ≡ field w c 3 → m ≡ field w c 2 → CountsAll w b c s m acc r → CountsList w b c acc r
 counts_all w b c s m acc r es em q n f l le = q n f l le ∙ ap (λ (x : List ℕ). count_all (count (pool_of w n) f) b x acc) (list_is w c s m es em)
 
 pub is_full : (w : List ℕ) (k : Counters) (c : ℕ) → visited k ≡ Full → Counts w k c (Refused 10)
@@ -98,11 +95,11 @@ module _ (w : List ℕ) (k v : Counters) (c kind a b : ℕ) (h : Here w k v c ki
   is_nominal e n zero l lt = absurd (omega arith)
   is_nominal e n (suc f) l lt = sym (step_is w n f c k v (Nominal (field w c 2)) l h.go (at_nominal w c (kind_of 4 e)))
 
-  pub is_and : kind ≡ 7 → (r : Encoded) → CountsRun w true c b a (Found v 1 0) r → Counts w k c r
+  pub is_and : kind ≡ 7 → (r : Encoded) → CountsAll w true c b a (Found v 1 0) r → Counts w k c r
   is_and e r q n zero l lt = absurd (omega arith)
   is_and e r q n (suc f) l lt = q n f l (omega arith) ∙ sym (step_is w n f c k v (And (run w (members_at + b) a)) l h.go (rw (h.a_is, h.b_is) (at_and w c (kind_of 7 e))))
 
-  pub is_or : kind ≡ 8 → (r : Encoded) → CountsRun w false c b a (Found v 0 0) r → Counts w k c r
+  pub is_or : kind ≡ 8 → (r : Encoded) → CountsAll w false c b a (Found v 0 0) r → Counts w k c r
   is_or e r q n zero l lt = absurd (omega arith)
   is_or e r q n (suc f) l lt = q n f l (omega arith) ∙ sym (step_is w n f c k v (Or (run w (members_at + b) a)) l h.go (rw (h.a_is, h.b_is) (at_or w c (kind_of 8 e))))
 
@@ -163,10 +160,10 @@ module _ (w : List ℕ) (b : Bool) (c start many : ℕ) where
   one_turn G x l acc acc' r k n j e q p = rw (e, p, q) refl
 
   module _ (acc₀ acc : Encoded) (i : ℕ) (turn : Turn w b c start many acc₀ acc i) where
-    turn_stop : ((k : Counters) (n l : ℕ) → acc ≡ Found k n l → ⊥) → CountsRun w b c start many acc₀ acc
+    turn_stop : ((k : Counters) (n l : ℕ) → acc ≡ Found k n l → ⊥) → CountsAll w b c start many acc₀ acc
     turn_stop h n f l le = sym (turn.rest n f l le ∙ stopped (count (pool_of w n) f) (run w (members_at + start + i) (many - i)) acc h)
 
-    pub turn_end : many ≤ i → CountsRun w b c start many acc₀ acc
+    pub turn_end : many ≤ i → CountsAll w b c start many acc₀ acc
     unfolding count_all
     turn_end h n f l le = sym (turn.rest n f l le ∙ ap (λ (m : List ℕ). count_all (count (pool_of w n) f) b m acc) (tab_end (λ j. get_or w j 0) (members_at + start) i many h))
 
@@ -192,8 +189,8 @@ module _ (w : List ℕ) (b : Bool) (c start many : ℕ) where
   -- no numbers: the rest is not counted
   module _ (acc₀ acc : Encoded) (i : ℕ) (turn : Turn w b c start many acc₀ acc i) (lt : i < many) (L : Listed w c start many) (x : ℕ) (ex : x ≡ get_or w (members_at + (start + i)) 0)
       (k : Counters) (n l : ℕ) (e : acc ≡ Found k n l) (r : Encoded) (q : Counts w k x r) where
-    pub turn_unsupported : (k' : Counters) → Unsupported k' ≡ joined b n l r → CountsRun w b c start many acc₀ (Unsupported k')
+    pub turn_unsupported : (k' : Counters) → Unsupported k' ≡ joined b n l r → CountsAll w b c start many acc₀ (Unsupported k')
     turn_unsupported k' j = turn_stop acc₀ (Unsupported k') (i + 1) (turn_next acc₀ acc i turn lt L x ex k n l e r (Unsupported k') q j) (λ _ _ _ d. let z : ◌≡◌ {A = ℕ} 0 1 = cc in omega arith)
 
-    pub turn_refused : (m : ℕ) → Refused m ≡ joined b n l r → CountsRun w b c start many acc₀ (Refused m)
+    pub turn_refused : (m : ℕ) → Refused m ≡ joined b n l r → CountsAll w b c start many acc₀ (Refused m)
     turn_refused m j = turn_stop acc₀ (Refused m) (i + 1) (turn_next acc₀ acc i turn lt L x ex k n l e r (Refused m) q j) (λ _ _ _ d. let z : ◌≡◌ {A = ℕ} 0 1 = cc in omega arith)

@@ -36,7 +36,7 @@ use Rattle.antecedents.specs.Stands.{Listed, list_in}
 use Rattle.antecedents.specs.Kinds.{at_top, at_class, at_nominal, at_and, at_or, at_some, Other, by_other}
 use Rattle.antecedents.specs.Table.{size_in, vars_in, plus_vars}
 use Rattle.antecedents.specs.Picks.{Pick, pick_and, pick_or, pick_step, pick_alt, put_at, write_on}
-use Rattle.antecedents.specs.Writes.{Writable, Reads, Kept, WroteRole, Wrote, WroteAll, chosen_of, PartIs}
+use Rattle.antecedents.specs.Writes.{Writable, Reads, Kept, WroteRole, Wrote, WroteList, chosen_of, PartIs}
 use Rattle.antecedents.specs.WriteLaws.{write_append, put_kept, kept_none, kept_trans, kept_hands, hands_word, concept_like, size_like, vars_like, roles_like, reads_kept}
 use Rattle.antecedents.proofs.Counting.{part_below}
 use Rattle.antecedents.proofs.Rows.{Here}
@@ -196,7 +196,7 @@ module _ (base : ℕ) (w : List ℕ) (c kind a b : ℕ) (h : Here w c kind a b) 
   unfolding write_on
   is_nominal e w' r p = step_is (Nominal a) (rw h.a_is (at_nominal w c (kind_in_lem 4 e))) w' r (put_kept w q (Class (base + a) v) w' r p) (λ w₀ n f canon R l m. p)
 
-  pub is_and : kind ≡ 7 → (w' : List ℕ) (r : ℕ) → WroteAll base w c v y k q w' r → Wrote base w c v y k q w' r
+  pub is_and : kind ≡ 7 → (w' : List ℕ) (r : ℕ) → WroteList base w c v y k q w' r → Wrote base w c v y k q w' r
   is_and e w' r p = step_is (And (list_in w c)) (at_and w c (kind_in_lem 7 e)) w' r p.kept (λ w₀ n f canon R l m. p.same w₀ n f canon R l m)
 
   -- the chosen disjunct's
@@ -252,7 +252,7 @@ module _ (base : ℕ) (w₁ : List ℕ) (c start many v y k q r₀ : ℕ) where
   turn_first = record { within = omega arith; kept = kept_none w₁ q; rest = λ w₀ n f canon R l m. rw (add-zero (members_at + start), sub-zero many) refl }
 
   module _ (w : List ℕ) (o u r j i : ℕ) (turn : Turn base w₁ c start many v y k q r₀ w o u r j i) where
-    pub turn_end : many ≤ i → r₀ ≡ size_in w₁ c → run w₁ (members_at + start) many ≡ list_in w₁ c → WroteAll base w₁ c v y k q w o
+    pub turn_end : many ≤ i → r₀ ≡ size_in w₁ c → run w₁ (members_at + start) many ≡ list_in w₁ c → WroteList base w₁ c v y k q w o
     unfolding pick_and write_on
     turn_end h e is = record {
       kept = turn.kept;

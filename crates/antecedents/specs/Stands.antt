@@ -33,5 +33,9 @@ abbrev pub Counts : List ℕ → Counters → ℕ → Encoded → Type 0
 Counts w k c r = (n f : ℕ) → c < n → c < f → r ≡ count (pool_of w n) f k c
 
 -- r: the numbers of the list of c, after those of acc
-abbrev pub CountsAll : List ℕ → Bool → ℕ → Encoded → Encoded → Type 0
-CountsAll w b c acc r = (n f : ℕ) → c < n → c ≤ f → r ≡ count_all (count (pool_of w n) f) b (list_in w c) acc
+abbrev pub CountsAll : List ℕ → Bool → ℕ → ℕ → ℕ → Encoded → Encoded → Type 0
+CountsAll w b c start many acc r = (n f : ℕ) → c < n → c ≤ f → r ≡ count_all (count (pool_of w n) f) b (run w (members_at + start) many) acc
+
+-- and of its own
+abbrev pub CountsList : List ℕ → Bool → ℕ → Encoded → Encoded → Type 0
+CountsList w b c acc r = CountsAll w b c (field w c 3) (field w c 2) acc r

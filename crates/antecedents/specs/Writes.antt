@@ -69,10 +69,14 @@ pub record Wrote (base : ℕ) (w : List ℕ) (c v y k at : ℕ) (w' : List ℕ) 
   pub same : (w₀ : List ℕ) (n f : ℕ) (canon : InverseCanon) → Reads w w₀ n canon → c < n → c < f → (w', r) ≡ write_on (w, at) (pick_alt canon base (pool_of w₀ n) w₀ f c v y k)
 
 -- the parts of an And's k-th alternative are written
-pub record WroteAll (base : ℕ) (w : List ℕ) (c v y k at : ℕ) (w' : List ℕ) (r : ℕ) : Type 0 where
+pub record WroteAll (base : ℕ) (w : List ℕ) (c start many v y k at : ℕ) (w' : List ℕ) (r : ℕ) : Type 0 where
   pub kept : Kept w at w' r
   pub same : (w₀ : List ℕ) (n f : ℕ) (canon : InverseCanon) → Reads w w₀ n canon → c < n → c ≤ f
-      → (w', r) ≡ write_on (w, at) (pick_and w₀ (pick_alt canon base (pool_of w₀ n) w₀ f) v (list_in w c) y (size_in w₀ c) k)
+      → (w', r) ≡ write_on (w, at) (pick_and w₀ (pick_alt canon base (pool_of w₀ n) w₀ f) v (run w (members_at + start) many) y (size_in w₀ c) k)
+
+-- and of its own
+abbrev pub WroteList : ℕ → List ℕ → ℕ → ℕ → ℕ → ℕ → ℕ → List ℕ → ℕ → Type 0
+WroteList base w c v y k at w' r = WroteAll base w c (field w c 3) (field w c 2) v y k at w' r
 
 -- the disjunct that holds the k-th alternative
 unfoldable pub chosen_of : List ℕ → List ℕ → ℕ → ℕ → Option Chosen

@@ -4,7 +4,7 @@ ghost use Rattle.words.specs.Words.{words};
 ghost use Rattle.ir.specs.Encoded.{Found};
 ghost use Rattle.tables.specs.Good.{Good};
 ghost use Rattle.antecedents.specs.Counts.{is_conj, first_of};
-ghost use Rattle.antecedents.specs.Stands.{Stands, HasList, Counts, CountsAll};
+ghost use Rattle.antecedents.specs.Stands.{Stands, HasList, Counts, CountsList};
 ghost use Rattle.ir.specs.Encoded.{encoded};
 
 use crate::numbers;
@@ -35,7 +35,7 @@ fn encode_parts(
     joint: Joint,
 ) -> Result<Option<Alternatives>, Refusal>
     requires { Stands scratch.now c × HasList (words scratch.now) c × Good k.old }
-    ensures { CountsAll (words scratch.now) (is_conj joint) c (Found k.old (first_of (is_conj joint)) 0) (encoded k.new result) }
+    ensures { CountsList (words scratch.now) (is_conj joint) c (Found k.old (first_of (is_conj joint)) 0) (encoded k.new result) }
 {
     let start = record::child(scratch, c);
     let mut acc = Alternatives {

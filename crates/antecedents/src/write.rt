@@ -10,7 +10,7 @@ ghost use Rattle.rules.specs.Pool.{most_concepts, most_members};
 ghost use Rattle.pool.specs.Layout.{members_at, field};
 ghost use Rattle.antecedents.specs.Stands.{HasList, list_in};
 ghost use Rattle.antecedents.specs.Picks.{put_at};
-ghost use Rattle.antecedents.specs.Writes.{Writable, WroteRole, Wrote, WroteAll, chosen_of, PartIs};
+ghost use Rattle.antecedents.specs.Writes.{Writable, WroteRole, Wrote, WroteList, chosen_of, PartIs};
 
 use crate::{numbers, table};
 use ir::atom::Atom;
@@ -104,7 +104,7 @@ fn next_part(scratch: &[u8], i: u32, r: u32, j: u32, y: u32) -> Part
 #[cycle(write_one_write_parts)]
 fn write_parts(scratch: &mut [u8], base: u32, at: usize, c: u32, v: u32, y: u32, k: u32) -> usize
     requires { Writable scratch.old base c × (hands_at ≤ 6 * at) × HasList (words scratch.old) c }
-    ensures { WroteAll base (words scratch.old) c v y k at (words scratch.new) result }
+    ensures { WroteList base (words scratch.old) c v y k at (words scratch.new) result }
 {
     let start = record::child(scratch, c);
     let mut p = at;

@@ -7,7 +7,7 @@ use crate::role::Role;
 // The filler of a number restriction: a class, or Top where there is none.
 pub type Qualifier = Option<u32>;
 
-#[derive(Clone, Copy)]
+#[derive(Clone, Copy, PartialEq, Eq)]
 pub enum Atom {
     // class, variable
     Class(u32, u32),

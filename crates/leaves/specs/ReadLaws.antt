@@ -431,3 +431,6 @@ module _ (s : List ℕ) (k : Counters) (R : Reading s k) (c : ℕ) (h : c < k.co
       let q : field (words s) c 3 ≡ (plain (concept_at (words s) c)).child = ap (λ (x : Record). x.child) (R.ready.held.records c h).words ∙ starts_child (members (pool_of (words s) c)) (concept_at (words s) c) (rw kind_of at l) in
       let b = counted_child l in
       rw (← q) (pool_at (words s) k.concepts (field (words s) c 3) (omega arith))
+
+pub role_of_code : (x : ℕ) → x < 2 ^ 32 → role_id (role_of x) < 2 ^ 31
+role_of_code x h = by_test (eqb (x % 2) 0) (λ a. rw a (omega arith)) (λ a. rw a (omega arith))

@@ -25,7 +25,7 @@ use Rattle.rules.specs.Invariants.{Each, Bounds, RoleIn, Bounded, Wf, InAnd, InO
 use Rattle.rules.specs.TextLaws.{by_test, pick_by, each_get_d, lines_of, RowRead, Reads, row_reads}
 use Rattle.rules.specs.EachLaws.{each_map, each_both, each_append}
 use Rattle.rules.specs.PoolLaws.{members_snoc}
-use Rattle.rules.specs.DepthLaws.{parts_below}
+use Rattle.rules.specs.DepthLaws.{parts_below as parts_named}
 
 -- ---- tests and lists
 pub all_each : {A : Type 0} (p : A → Bool) (P : A → Type 0) → ((a : A) → p a ≡ true → P a) → (l : List A) → all p l ≡ true → Each P l
@@ -261,6 +261,9 @@ bounded h n (Some r c) v p s b = (ltb-true (role_id r) h.roles v, p.0)
 bounded h n (All r c) v p s b = (ltb-true (role_id r) h.roles v, p.0)
 bounded h n (Min k r c) v p s b = (s, ltb-true (role_id r) h.roles v, p.0)
 bounded h n (Max k r c) v p s b = (ltb-true k most_number b, ltb-true (role_id r) h.roles v, p.0)
+
+pub parts_below : (B : Bounds) (n m : ℕ) (e : Concept) → n ≤ m → Bounded B n e → Each (λ c. c < m) (parts_of e)
+parts_below B n m e l h = each_map (λ c. c < n) (λ c. c < m) (λ c q. omega arith) (parts_of e) (parts_named B n e h)
 
 -- lists
 rising_from : (x : ℕ) (l : List ℕ) → rising (x ∷ l) ≡ true → RisingFrom x l
@@ -662,7 +665,7 @@ module _ (n : ℕ) (s : Known) (k : ℕ) (r : List ℕ) (K : KnownAt n s) (N : E
       let C = concept_zero s x (T.concept e) in
       let F = from_row k r N some listed in
       let B = bounded s.header (length p) x (names_is 3 e) C.below F.small C.bound in
-      let below : (i : ℕ) → i < length p → Each (λ a. a < length p) (parts_of (at p i)) = λ i h. each_map (λ c. c < i) (λ c. c < length p) (λ c q. omega arith) (parts_of (at p i)) (parts_below (bounds_of s) i (at p i) (D.wf i h)) in
+      let below : (i : ℕ) → i < length p → Each (λ a. a < length p) (parts_of (at p i)) = λ i h. parts_below (bounds_of s) i (length p) (at p i) (omega arith) (D.wf i h) in
       let g : length (p ++ (x ∷ [])) ≡ length p + 1 = length_more p x in
       let u : bytes_used (known 3 s.header s.keys (p ++ (x ∷ [])) s.depths s.axioms) ≤ n + 11 * length r + 1 = omega (arith, K.used, members_snoc p x, F.narrow) in
       rw e record {

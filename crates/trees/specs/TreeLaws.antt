@@ -54,8 +54,8 @@ module _ (w : List ℕ) (flags : List Bool) (base count : ℕ) (long : count ≤
         let e : eqb (get_or w (6 * (base + j)) 0) 2 ≡ is_role_atom a.atom = ap (λ (x : ℕ). eqb x 2) a.words.kind ∙ role_test a.atom in
         rw (a.split, flags_from flags j count h long, e) refl
 
-    pub loose_found : (eqb (get_or w (6 * (base + j)) 0) 2 && not (get_or flags j false)) ≡ true → loose j ≡ true
-    loose_found e = loose_one ∙ rw e refl
+    pub loose_here : (eqb (get_or w (6 * (base + j)) 0) 2 && not (get_or flags j false)) ≡ true → loose j ≡ true
+    loose_here e = loose_one ∙ rw e refl
 
     pub loose_on : (eqb (get_or w (6 * (base + j)) 0) 2 && not (get_or flags j false)) ≡ false → loose j ≡ loose (j + 1)
     loose_on e = loose_one ∙ rw e refl
@@ -63,9 +63,9 @@ module _ (w : List ℕ) (flags : List Bool) (base count : ℕ) (long : count ≤
   pub loose_back : (k : ℕ) → loose k ≡ true → loose 0 ≡ true
   loose_back k e = disconnected_back l (take count flags) k e
 
-  pub loose_end : loose count ≡ false
+  pub loose_stop : loose count ≡ false
   unfolding any_disconnected
-  loose_end = let z : drop count l ≡ [] = drop_of_length-le l {i = count} (omega (arith, A.long)) in rw z refl
+  loose_stop = let z : drop count l ≡ [] = drop_of_length-le l {i = count} (omega (arith, A.long)) in rw z refl
 
 -- ---- the root alone
 abbrev pub rooted : List ℕ → ℕ → List ℕ
