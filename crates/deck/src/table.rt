@@ -78,17 +78,18 @@ pub fn put_concept(t: &mut [u8], i: usize, line: Line, depth: usize)
     requires { (12 * i + 12 ≤ length t.old) × (line.begin ≤ 65536) × (line.fields ≤ 65536) × (depth ≤ 65536) }
     ensures { words t.new ≡ sets (words t.old) (3 * i) (line.begin ∷ line.fields ∷ depth ∷ []) }
 {
-    words::put_word(t, 3 * i, line.begin as u32);
-    words::put_word(t, 3 * i + 1, line.fields as u32);
-    words::put_word(t, 3 * i + 2, depth as u32);
+    words::put_words(
+        t,
+        3 * i,
+        &[line.begin as u32, line.fields as u32, depth as u32],
+    );
 }
 
 pub fn put_axiom(t: &mut [u8], i: usize, line: Line)
     requires { (i < 1024) × (table_bytes ≤ length t.old) × (line.begin ≤ 65536) × (line.fields ≤ 65536) }
     ensures { words t.new ≡ sets (words t.old) (axioms_at + 2 * i) (line.begin ∷ line.fields ∷ []) }
 {
-    words::put_word(t, AXIOMS + 2 * i, line.begin as u32);
-    words::put_word(t, AXIOMS + 2 * i + 1, line.fields as u32);
+    words::put_words(t, AXIOMS + 2 * i, &[line.begin as u32, line.fields as u32]);
 }
 
 // Concept line i joins the index.

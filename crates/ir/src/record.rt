@@ -138,13 +138,7 @@ fn put_record(t: &mut [u8], i: usize, w: AtomWords)
     requires { 24 * i + 24 ≤ length t.old }
     ensures { words t.new ≡ sets (words t.old) (6 * i) (six_of w) }
 {
-    let at = 6 * i;
-    words::put_word(t, at, w.0);
-    words::put_word(t, at + 1, w.1);
-    words::put_word(t, at + 2, w.2);
-    words::put_word(t, at + 3, w.3);
-    words::put_word(t, at + 4, w.4);
-    words::put_word(t, at + 5, w.5);
+    words::put_words(t, 6 * i, &[w.0, w.1, w.2, w.3, w.4, w.5]);
 }
 
 // Record i of a table becomes the atom.

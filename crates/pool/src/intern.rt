@@ -20,27 +20,17 @@ use crate::record::Record;
 use ir::counters::Counters;
 use ir::refusal::Refusal;
 
-// The six words of record c.
-fn put_words(scratch: &mut [u8], c: u32, x: Record, used: u32, link: u32)
-    requires { (c < most_concepts) × (pool_bytes ≤ length scratch.old) }
-    ensures { words scratch.new ≡ sets (words scratch.old) (6 * c) (six_of x used link) }
-{
-    let at = RECORD * (c as usize);
-    words::put_word(scratch, at, x.kind);
-    words::put_word(scratch, at + 1, x.role);
-    words::put_word(scratch, at + 2, x.number);
-    words::put_word(scratch, at + 3, x.child);
-    words::put_word(scratch, at + 4, used);
-    words::put_word(scratch, at + 5, link);
-}
-
 // Record c, first in the index under hash h.
 fn put_record(scratch: &mut [u8], c: u32, h: usize, x: Record, used: u32)
     requires { (c < most_concepts) × (h < 2048) × (pool_bytes ≤ length scratch.old) }
     ensures { words scratch.new ≡ record_put (words scratch.old) c h x used }
 {
     let link = words::get_word(scratch, HEADS + h);
-    put_words(scratch, c, x, used, link);
+    words::put_words(
+        scratch,
+        RECORD * (c as usize),
+        &[x.kind, x.role, x.number, x.child, used, link],
+    );
     words::put_word(scratch, HEADS + h, c + 1);
 }
 

@@ -12,9 +12,7 @@ pub fn put_clause(clauses: &mut [u8], i: usize, first: u32, body: u32, head: u32
     requires { 4 * (clause_words * i + clause_words) ≤ length clauses.old }
     ensures { words clauses.new ≡ clause_put (words clauses.old) i first body head }
 {
-    words::put_word(clauses, CLAUSE * i, first);
-    words::put_word(clauses, CLAUSE * i + 1, body);
-    words::put_word(clauses, CLAUSE * i + 2, head);
+    words::put_words(clauses, CLAUSE * i, &[first, body, head]);
 }
 
 // Its atoms begin elsewhere.
@@ -38,6 +36,5 @@ pub fn put_deferral(deferrals: &mut [u8], i: usize, line: u32, kind: u32)
     requires { 4 * (deferral_words * i + deferral_words) ≤ length deferrals.old }
     ensures { words deferrals.new ≡ deferral_put (words deferrals.old) i line kind }
 {
-    words::put_word(deferrals, DEFERRAL * i, line);
-    words::put_word(deferrals, DEFERRAL * i + 1, kind);
+    words::put_words(deferrals, DEFERRAL * i, &[line, kind]);
 }

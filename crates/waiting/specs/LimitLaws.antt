@@ -1,7 +1,8 @@
 -- Laws of the limits in scratch. Assumes nothing.
-use Rattle.std.specs.Prelude.{◌≡◌, refl, Bool, true, false, List, [], ◌∷◌, ◌++◌, ℕ, zero, suc, ◌+◌, ◌*◌, ◌≤◌, ◌<◌, length, get_or, set, take, ltb}
-use Rattle.std.proofs.Common.{sym, ap, subst, ◌∙◌, arith, length-append, length-set, get_or-set_same, get_or-set_other, get_or-take, take_all, length-take-le, ltb-true, ltb-false, lt-ltb, le-ltb}
+use Rattle.std.specs.Prelude.{◌≡◌, refl, Bool, true, false, List, [], ◌∷◌, ◌++◌, ℕ, suc, ◌+◌, ◌*◌, ◌≤◌, ◌<◌, length, get_or, set, take, ltb}
+use Rattle.std.proofs.Common.{sym, ap, ◌∙◌, arith, length-append, length-set, get_or-set_same, get_or-set_other, get_or-take, take_all, length-take-le, ltb-true, ltb-false, lt-ltb, le-ltb}
 use Rattle.std.proofs.lemmas.List.{take-append-le, take-set-le}
+use Rattle.std.proofs.lemmas.List.Edits.{sets}
 use Rattle.ir.specs.Pick.{pick}
 use Rattle.ir.specs.Scratch.{limits_at, limits_words}
 use Rattle.rules.specs.State.{Limit}
@@ -80,11 +81,12 @@ module _ (w : List ℕ) (filler name : ℕ) where
       take-set-le p (set (set w at filler) (at + 1) name) limits_at (n + 1) h ∙ take-set-le p (set w at filler) (at + 1) name (omega arith) ∙ take-set-le p w at filler (omega arith)
 
   -- as the code makes it, or leaves it
-  pub appended_is : (n at : ℕ) (w1 w2 w3 : List ℕ) → n ≡ get_or w limits_at 0 → n < most_limits → at ≡ limits_at + 1 + 2 * n → w1 ≡ set w at filler → w2 ≡ set w1 (at + 1) name → w3 ≡ set w2 limits_at (n + 1)
-      → w3 ≡ appended w filler name
-  appended_is n at w1 w2 w3 e h a x y z =
+  pub appended_is : (n at : ℕ) (w1 w2 : List ℕ) → n ≡ get_or w limits_at 0 → n < most_limits → at ≡ limits_at + 1 + 2 * n → w1 ≡ sets w at (filler ∷ name ∷ []) → w2 ≡ set w1 limits_at (n + 1)
+      → w2 ≡ appended w filler name
+  appended_is n at w1 w2 e h a x y =
       let b : ltb (get_or w limits_at 0) most_limits ≡ true = lt-ltb (get_or w limits_at 0) most_limits (omega arith) in
-      rw b (z ∙ rw (y, x, a, ← e) refl)
+      let q : limits_at + 1 + 2 * n + 1 ≡ suc (limits_at + 1 + 2 * n) = omega arith in
+      rw b (y ∙ rw (x, a, ← e, q) refl)
 
   pub appended_not : (n : ℕ) → n ≡ get_or w limits_at 0 → most_limits ≤ n → w ≡ appended w filler name
   appended_not n e h = let b : ltb (get_or w limits_at 0) most_limits ≡ false = le-ltb (get_or w limits_at 0) most_limits (omega arith) in rw b refl

@@ -1,6 +1,6 @@
 -- The limits that wait, in the words w of scratch. Of the rules' list the first `most_limits` stand there: no run comes to
 -- another one, since each that is settled takes a concept of the pool.
-use Rattle.std.specs.Prelude.{◌≡◌, List, [], ℕ, ◌+◌, ◌*◌, ◌≤◌, get_or, set, take, ltb}
+use Rattle.std.specs.Prelude.{◌≡◌, List, ℕ, ◌+◌, ◌*◌, ◌≤◌, get_or, set, take, ltb}
 use Rattle.ir.specs.Pick.{pick}
 use Rattle.ir.specs.Scratch.{limits_at}
 use Rattle.rules.specs.State.{Limit}

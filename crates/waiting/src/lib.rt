@@ -51,8 +51,7 @@ pub fn append(scratch: &mut [u8], filler: u32, name: u32)
     let n = words::get_word(scratch, LIMITS);
     if n < MOST {
         let at = LIMITS + 1 + 2 * (n as usize);
-        words::put_word(scratch, at, filler);
-        words::put_word(scratch, at + 1, name);
+        words::put_words(scratch, at, &[filler, name]);
         words::put_word(scratch, LIMITS, n + 1);
     }
 }

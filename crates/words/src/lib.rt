@@ -30,6 +30,16 @@ pub fn put_word(s: &mut [u8], i: usize, w: u32)
     s[at..at + 4].copy_from_slice(&w.to_le_bytes());
 }
 
+// The words from `at` on become xs.
+pub fn put_words(s: &mut [u8], at: usize, xs: &[u32])
+    requires { 4 * (at + length xs.now) ≤ length s.old }
+    ensures { words s.new ≡ sets (words s.old) at xs.now }
+{
+    for i in 0..xs.len() {
+        put_word(s, at + i, xs[i]);
+    }
+}
+
 // All zeros.
 pub fn clear(s: &mut [u8])
     ensures { s.new ≡ replicate (length s.old) 0 }
