@@ -1,5 +1,6 @@
 // 6 to 9, of a concept line: what it names, its list, an equal line before it, its bound.
-// Clauses that repeat stay clauses: `ConceptsHeld`, `IsConceptLine` and `IsList` are about one moment of what is lent.
+// Clauses that repeat stay clauses: `ConceptsHeld` is about one moment of the table, which a good line changes; `IsList` is of one
+// number: a type with it would be made in one place and opened in three.
 ghost use Rattle.std.specs.Prelude.{◌≡◌, ℕ, ◌≤◌, ◌<◌, get_or, drop};
 ghost use Rattle.words.specs.Words.{words};
 ghost use Rattle.rules.specs.Base.{all, any};
@@ -15,6 +16,14 @@ use crate::state::State;
 use crate::{kinds, table};
 use ir::refusal::Refusal;
 
+// A line of a concept kind, with that kind's number of fields.
+#[derive(Clone, Copy)]
+struct ConceptLine<'a> {
+    row: Row<'a>,
+    kind: usize,
+    ghost is_line: { IsConceptLine row kind },
+}
+
 // Concept line i. How many there are is said for the contract alone.
 fn concept_row<'a>(deck: &'a [u8], t: &[u8], concepts: usize, i: usize) -> Row<'a>
     requires { ConceptsHeld deck.now t.now concepts × (i < concepts) }
@@ -26,7 +35,8 @@ fn concept_row<'a>(deck: &'a [u8], t: &[u8], concepts: usize, i: usize) -> Row<'
     }
 }
 
-// The greatest depth of the concepts that are numbers `from` and on.
+// The greatest depth of the concepts that are numbers `from` and on. (A loop: as an iterator's `max` or `fold` it is as long, and its
+// closure is asked at each turn for a depth that the table has, which the loop's invariant says.)
 pub fn deepest_of(row: &Row, t: &[u8], from: usize, concepts: usize) -> usize
     requires { ConceptsHeld row.now.deck.now t.now concepts × Each (λ c. c < concepts) (drop from (numbers row.now)) }
     ensures value { result ≡ deepest (depths_in (words t.now) concepts) 0 (drop from (numbers row.now)) }
@@ -39,11 +49,12 @@ pub fn deepest_of(row: &Row, t: &[u8], from: usize, concepts: usize) -> usize
     deepest
 }
 
-fn nested(row: &Row, t: &[u8], kind: usize, st: State) -> bool
-    requires { IsConceptLine row.now kind × ConceptsHeld row.now.deck.now t.now st.concepts }
-    ensures { result ≡ nest_ok (known_in row.now.deck.now t.now st) (concept_of kind (numbers row.now)) }
+fn nested(line: &ConceptLine, t: &[u8], st: State) -> bool
+    requires { ConceptsHeld line.now.row.deck.now t.now st.concepts }
+    ensures { result ≡ nest_ok (known_in line.now.row.deck.now t.now st) (concept_of line.now.kind (numbers line.now.row)) }
 {
-    let from = kinds::first_part(kind);
+    let row = &line.row;
+    let from = kinds::first_part(line.kind);
     let concepts = st.concepts;
     row.all_below(from, concepts) && deepest_of(row, t, from, concepts) + 1 <= 64
 }
@@ -79,22 +90,24 @@ fn members_fine(row: &Row, t: &[u8], kind: usize, concepts: usize) -> bool
     row.line.fields >= 3 && row.rises() && all_fit(row, t, kind, concepts)
 }
 
-fn list_fine(row: &Row, t: &[u8], kind: usize, concepts: usize) -> bool
-    requires { IsConceptLine row.now kind × ConceptsHeld row.now.deck.now t.now concepts × Each (λ c. c < concepts) (drop (first_part kind) (numbers row.now)) }
-    ensures { result ≡ members_ok (concepts_in row.now.deck.now (words t.now) concepts) (concept_of kind (numbers row.now)) }
+fn list_fine(line: &ConceptLine, t: &[u8], concepts: usize) -> bool
+    requires { ConceptsHeld line.now.row.deck.now t.now concepts × Each (λ c. c < concepts) (drop (first_part line.now.kind) (numbers line.now.row)) }
+    ensures { result ≡ members_ok (concepts_in line.now.row.deck.now (words t.now) concepts) (concept_of line.now.kind (numbers line.now.row)) }
 {
+    let kind = line.kind;
     if kind == 7 || kind == 8 {
-        members_fine(row, t, kind, concepts)
+        members_fine(&line.row, t, kind, concepts)
     } else {
         true
     }
 }
 
 // An earlier concept line is equal.
-fn repeats(row: &Row, t: &[u8], kind: usize, concepts: usize) -> bool
-    requires { IsConceptLine row.now kind × ConceptsHeld row.now.deck.now t.now concepts }
-    ensures { result ≡ any (same_concept (concept_of kind (numbers row.now))) (concepts_in row.now.deck.now (words t.now) concepts) }
+fn repeats(line: &ConceptLine, t: &[u8], concepts: usize) -> bool
+    requires { ConceptsHeld line.now.row.deck.now t.now concepts }
+    ensures { result ≡ any (same_concept (concept_of line.now.kind (numbers line.now.row))) (concepts_in line.now.row.deck.now (words t.now) concepts) }
 {
+    let row = &line.row;
     // along a chain of links, for which there is no range; not shared with `pool::index::find`: the test and the link would be closures
     let mut next = table::head(t, row.hash());
     while let Some(i) = next {
@@ -106,11 +119,10 @@ fn repeats(row: &Row, t: &[u8], kind: usize, concepts: usize) -> bool
     false
 }
 
-fn bound_fine(row: &Row, kind: usize) -> bool
-    requires { IsConceptLine row.now kind }
-    ensures { result ≡ bound_ok (concept_of kind (numbers row.now)) }
+fn bound_fine(line: &ConceptLine) -> bool
+    ensures { result ≡ bound_ok (concept_of line.now.kind (numbers line.now.row)) }
 {
-    kind != 12 || row.below(1, 4294967295)
+    line.kind != 12 || line.row.below(1, 4294967295)
 }
 
 pub fn concept(row: &Row, t: &[u8], kind: usize, st: State) -> Result<(), Refusal>
@@ -118,16 +130,17 @@ pub fn concept(row: &Row, t: &[u8], kind: usize, st: State) -> Result<(), Refusa
     ensures { verdict_number result ≡ concept_verdict (known_in row.now.deck.now t.now st) (concept_of kind (numbers row.now)) }
 {
     let concepts = st.concepts;
-    if !nested(row, t, kind, st) {
+    let line = ConceptLine { row: *row, kind };
+    if !nested(&line, t, st) {
         return Err(Refusal::BadNesting);
     }
-    if !list_fine(row, t, kind, concepts) {
+    if !list_fine(&line, t, concepts) {
         return Err(Refusal::BadList);
     }
-    if repeats(row, t, kind, concepts) {
+    if repeats(&line, t, concepts) {
         return Err(Refusal::Repeated);
     }
-    if !bound_fine(row, kind) {
+    if !bound_fine(&line) {
         return Err(Refusal::LargestBound);
     }
     Ok(())

@@ -14,6 +14,7 @@ fn header_fine(row: &Row) -> bool
     row.entry(1) <= 4096 && row.entry(2) <= 4096 && row.entry(3) <= 1024 && row.entry(4) <= 7
 }
 
+// As `limits` below.
 fn room(row: &Row, kind: usize, st: State) -> bool
     ensures { (d : Known) → Counted st d → result ≡ room_ok d kind (numbers row.now) }
 {
@@ -25,7 +26,8 @@ fn room(row: &Row, kind: usize, st: State) -> bool
     }
 }
 
-// The answer for all that is known beside the state's numbers.
+// The answer for all that is known beside the state's numbers: the code has no list of the concepts or axioms, so that `Counted` is a
+// premise about every one that a caller may mean.
 pub fn limits(row: &Row, kind: usize, st: State) -> bool
     ensures { (d : Known) → Counted st d → result ≡ limits_ok d kind (numbers row.now) }
 {

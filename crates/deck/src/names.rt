@@ -38,7 +38,7 @@ fn axiom_names(row: &Row, kind: usize, st: State) -> bool
     }
 }
 
-// The answer for all that is known beside the state's numbers.
+// The answer for all that is known beside the state's numbers, as in `limits`.
 pub fn names(row: &Row, kind: usize, st: State) -> bool
     ensures { (d : Known) → Counted st d → result ≡ names_ok d kind (numbers row.now) }
 {

@@ -1,6 +1,7 @@
 // The table: three words for each concept line (where it begins, its number of fields, its depth), two for each axiom line (where
 // it begins, its number of fields), and an index of the concept lines: by hash the last one, and for each the one before it with
 // its hash (one more than its number; 0: none).
+// Each word has its own function: its contract's definition is by its place.
 // Clauses that repeat stay clauses: each function asks for the length that it reads; a type with a number's bound would be made at each
 // read and opened at each use.
 ghost use Rattle.std.specs.Prelude.{◌≡◌, [], ◌∷◌, ◌+◌, ◌*◌, ◌≤◌, ◌<◌, length, get_or, set};
@@ -14,9 +15,9 @@ use crate::row::Line;
 // The table is of lent bytes, so that its parts are known by their first words.
 const AXIOMS: usize = 3072;
 
-pub const HEADS: usize = 5120;
+pub(crate) const HEADS: usize = 5120;
 
-pub const LINKS: usize = 6144;
+pub(crate) const LINKS: usize = 6144;
 
 fn word(t: &[u8], i: usize) -> usize
     requires { 4 * i + 4 ≤ length t.now }
@@ -43,7 +44,6 @@ pub fn concept_line(t: &[u8], i: usize) -> Line
     line(t, 3 * i)
 }
 
-// One word of a record, by its own name.
 pub fn concept_depth(t: &[u8], i: usize) -> usize
     requires { 12 * i + 12 ≤ length t.now }
     ensures { result ≡ get_or (words t.now) (3 * i + 2) 0 }

@@ -1,4 +1,5 @@
 // An axiom: the numbers of its line, the first of which is its kind.
+// Each word has its own function, by the name that its contract's definition has.
 // Clauses that repeat stay clauses: each function asks for the length that it reads; a type with a number's bound would be made at each
 // read and opened at each use.
 ghost use Rattle.std.specs.Prelude.{◌≡◌, ◌+◌, ◌*◌, ◌≤◌, ◌<◌, length};

@@ -1,4 +1,5 @@
 // The reader's table in scratch: where each line of an accepted deck begins and how many numbers it has.
+// Each of the two has its own function, by the name that its contract's definition has.
 // Clauses that repeat stay clauses: each function asks for the length that it reads; a type with a number's bound would be made at each
 // read and opened at each use.
 ghost use Rattle.std.specs.Prelude.{◌≡◌, ◌*◌, ◌≤◌, ◌<◌, length};

@@ -10,7 +10,7 @@ returns-then-not-nested c = rw (← c.nested.ensures, c.if-not-nested.true) refl
 pub list_fine-requires : goal.list_fine-requires
 list_fine-requires c =
     let r = c.args.row.now in
-    (c.requires.0, c.requires.1, nest_each r.deck.now c.args.t.now c.args.st r.line.begin r.line.fields c.args.kind c.requires.0 (sym c.nested.ensures ∙ c.if-not-nested.false))
+    (c.requires.1, nest_each r.deck.now c.args.t.now c.args.st r.line.begin r.line.fields c.args.kind c.requires.0 (sym c.nested.ensures ∙ c.if-not-nested.false))
 
 pub returns-then-not-list_fine : goal.returns-then-not-list_fine
 unfolding concept_verdict

@@ -11,13 +11,13 @@ use Rattle.deck.proofs.concepts.list_fine.Goals as goal
 
 pub members_fine-requires : goal.members_fine-requires
 members_fine-requires c =
-    let i : IsList c.args.kind = ⊎_elim inl (λ e. inr e.1) c.if-kind-eq8.either in
-    (c.requires.1, subst (λ (k : ℕ). Each (λ x. x < c.args.concepts) (drop k (numbers c.args.row.now))) (list_first c.args.kind i) c.requires.2, i)
+    let i : IsList c.args.line.now.kind = ⊎_elim inl (λ e. inr e.1) c.if-kind-eq8.either in
+    (c.requires.0, subst (λ (k : ℕ). Each (λ x. x < c.args.concepts) (drop k (numbers c.args.line.now.row))) (list_first c.args.line.now.kind i) c.requires.1, i)
 
 pub returns-then-kind-eq8 : goal.returns-then-kind-eq8
 returns-then-kind-eq8 c =
-    let i : IsList c.args.kind = ⊎_elim inl (λ e. inr e.1) c.if-kind-eq8.either in
-    c.members_fine.ensures ∙ sym (list_members c.args.row.now c.args.kind c.requires.0 (concepts_in c.args.row.now.deck.now (words c.args.t.now) c.args.concepts) i)
+    let i : IsList c.args.line.now.kind = ⊎_elim inl (λ e. inr e.1) c.if-kind-eq8.either in
+    c.members_fine.ensures ∙ sym (list_members c.args.line.now.row c.args.line.now.kind c.args.line.now.is_line (concepts_in c.args.line.now.row.deck.now (words c.args.t.now) c.args.concepts) i)
 
 pub returns-else-kind-eq8 : goal.returns-else-kind-eq8
-returns-else-kind-eq8 c = sym (no_members c.args.row.now c.args.kind c.requires.0 (concepts_in c.args.row.now.deck.now (words c.args.t.now) c.args.concepts) c.if-kind-eq8.false.0 c.if-kind-eq8.false.1)
+returns-else-kind-eq8 c = sym (no_members c.args.line.now.row c.args.line.now.kind c.args.line.now.is_line (concepts_in c.args.line.now.row.deck.now (words c.args.t.now) c.args.concepts) c.if-kind-eq8.false.0 c.if-kind-eq8.false.1)

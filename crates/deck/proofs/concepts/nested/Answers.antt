@@ -10,14 +10,14 @@ use Rattle.deck.proofs.ConceptLaws.{line_parts}
 use Rattle.deck.proofs.concepts.nested.Goals as goal
 
 pub deepest_of-requires : goal.deepest_of-requires
-deepest_of-requires c = (c.requires.1, all_each (λ x. ltb x c.args.st.concepts) (λ x. x < c.args.st.concepts) (λ x q. ltb-true x c.args.st.concepts q) (drop c.first_part-from.result (numbers c.args.row.now)) (sym c.all_below.ensures ∙ c.if-all_below.true))
+deepest_of-requires c = (c.requires, all_each (λ x. ltb x c.args.st.concepts) (λ x. x < c.args.st.concepts) (λ x q. ltb-true x c.args.st.concepts q) (drop c.first_part-from.result (numbers c.args.line.now.row)) (sym c.all_below.ensures ∙ c.if-all_below.true))
 
 pub returns-then-all_below : goal.returns-then-all_below
 returns-then-all_below c =
-    let r = c.args.row.now in
-    rw (length_tab, line_parts r.deck.now r.line.begin r.line.fields c.args.kind c.requires.0, ← c.first_part-from.ensures, ← c.all_below.ensures, c.if-all_below.true, ← c.deepest_of.ensures.value) refl
+    let r = c.args.line.now.row in
+    rw (length_tab, line_parts r.deck.now r.line.begin r.line.fields c.args.line.now.kind c.args.line.now.is_line, ← c.first_part-from.ensures, ← c.all_below.ensures, c.if-all_below.true, ← c.deepest_of.ensures.value) refl
 
 pub returns-else-all_below : goal.returns-else-all_below
 returns-else-all_below c =
-    let r = c.args.row.now in
-    rw (length_tab, line_parts r.deck.now r.line.begin r.line.fields c.args.kind c.requires.0, ← c.first_part-from.ensures, ← c.all_below.ensures, c.if-all_below.false) refl
+    let r = c.args.line.now.row in
+    rw (length_tab, line_parts r.deck.now r.line.begin r.line.fields c.args.line.now.kind c.args.line.now.is_line, ← c.first_part-from.ensures, ← c.all_below.ensures, c.if-all_below.false) refl
