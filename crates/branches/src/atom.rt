@@ -3,10 +3,12 @@
 ghost use Rattle.std.specs.Prelude.{◌≡◌, ◌+◌, ◌*◌, ◌≤◌, length, get_or};
 ghost use Rattle.words.specs.Words.{words};
 
-// The kinds of class and role atoms. (Numbers, as the records have them: an enum would name six kinds to tell two.)
+// The kinds of class, role and Exists atoms. (Numbers, as the records have them: an enum would name six kinds to tell three.)
 pub const CLASS: u32 = 1;
 
 pub const ROLE: u32 = 2;
+
+pub const EXISTS: u32 = 3;
 
 // The `count` atoms from record `base` on. Their bounds stay clauses: a ghost field would ask more of `mentions_kept` and others that have
 // no such clause (DECISIONS, "What a struct's ghost field may ask").

@@ -23,7 +23,8 @@ fn count_in(scratch: &[u8], code: u32, x: u32, among: u64) -> u32
     sets::size(sets::both(kept::row(scratch, code, x), among))
 }
 
-// The elements that are related to at most n of a set.
+// The elements that are related to at most n of a set. (A function for each comparison: what one of a closure promises would speak of
+// what the closure answers.)
 fn at_most(scratch: &[u8], code: u32, among: u64, n: u32, size: u32) -> u64
     requires { RowsThere code size scratch.now }
     ensures { (R : ℕ → ℕ → Bool) (f : ℕ → Bool) → Rows (words scratch.now) code size R → among ≡ mask_of size f → result ≡ mask_of size (λ x. leb (count_in size R f x) n) }
@@ -31,7 +32,7 @@ fn at_most(scratch: &[u8], code: u32, among: u64, n: u32, size: u32) -> u64
     sets::filtered(size, |x| count_in(scratch, code, x, among) <= n)
 }
 
-// To at least n.
+// To at least n. (Of an atom Exists to at least 1, as its law has it; `some` of extents is of a layer that is not named here.)
 fn at_least(scratch: &[u8], code: u32, among: u64, n: u32, size: u32) -> u64
     requires { RowsThere code size scratch.now }
     ensures { (R : ℕ → ℕ → Bool) (f : ℕ → Bool) → Rows (words scratch.now) code size R → among ≡ mask_of size f → result ≡ mask_of size (λ x. leb n (count_in size R f x)) }
@@ -89,9 +90,9 @@ pub fn atom_row(scratch: &[u8], a: Atom, free: u32, x: u32, size: u32) -> u64
     match a {
         Atom::Role(r, u, _) => kept::row(scratch, turned(r, u, free).code(), x),
         Atom::Equal(_, _) => sets::with(0, x as u64),
-        Atom::Class(_, _) => 0,
-        Atom::Exists(_, _, _) => 0,
-        Atom::AtMost(_, _, _, _) => 0,
-        Atom::AtLeast(_, _, _, _) => 0,
+        Atom::Class(_, _) => unreachable!(),
+        Atom::Exists(_, _, _) => unreachable!(),
+        Atom::AtMost(_, _, _, _) => unreachable!(),
+        Atom::AtLeast(_, _, _, _) => unreachable!(),
     }
 }

@@ -164,7 +164,7 @@ fn narrow_at(state: &State, scratch: &mut [u8], run: &[u8], i: usize, v: Vars, s
     ensures changed { Changed (2 * vars_at) shown_at (words scratch.old) (words scratch.new) }
 {
     let Some(a) = record::get_atom(run, i) else {
-        return;
+        unreachable!()
     };
     narrow_atom(state, scratch, a, v, side);
 }

@@ -37,7 +37,7 @@ fn joined(j: Joint, a: u64, b: u64) -> u64
 }
 
 // Of the list members from start on. (`start` and `count` are two words of the concept's record, which a struct would carry to here
-// alone.)
+// alone. A loop: of a `fold` the step does not close, since the `j` that its closure captures is not known to be this one.)
 pub fn joint_set(scratch: &[u8], j: Joint, start: u32, count: u32, n: u32) -> u64
     requires { (start + count ≤ most_members) × (n ≤ 64) × (scratch_bytes ≤ length scratch.now) × Each (λ c. c < most_concepts) (run (words scratch.now) (members_at + start) count) }
     ensures { (m : ℕ → ℕ → Bool) → Each (λ c. set_at (words scratch.now) (concepts_at + c) ≡ mask_of n (m c)) (run (words scratch.now) (members_at + start) count) → result ≡ mask_of n (λ x. over (joint_of j) (λ c. m c x) (run (words scratch.now) (members_at + start) count)) }

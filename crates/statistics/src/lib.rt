@@ -14,6 +14,8 @@ ghost use Rattle.tables.specs.Tabled.{Tabled, TableThere, Run};
 ghost use Rattle.statistics.specs.Counted.{stats_of};
 ghost use Rattle.statistics.specs.Counting.{counted, Within};
 
+use branches::atom;
+use branches::atom::EXISTS;
 use branches::vars;
 use tables::read;
 
@@ -34,7 +36,7 @@ pub struct ClauseStats {
 fn has_exists(head: &[u8]) -> bool
     ensures { (l : List Atom) → Run head.now l → result ≡ any is_exists l }
 {
-    (0..read::atom_room(head)).any(|i| words::get_word(head, 6 * i) == 3)
+    (0..read::atom_room(head)).any(|i| atom::kind(head, i) == EXISTS)
 }
 
 impl ClauseStats {
@@ -56,7 +58,8 @@ impl ClauseStats {
     }
 }
 
-// Of the first n clauses, so many deferrals and so many rewritten bodies.
+// Of the first n clauses, so many deferrals and so many rewritten bodies. (A loop: `add` asks that the counts be small, which the closure
+// of a `fold` would ask for in a clause of its own.)
 pub fn clause_stats(
     clauses: &[u8],
     atoms: &[u8],

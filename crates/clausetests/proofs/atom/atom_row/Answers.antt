@@ -35,14 +35,14 @@ returns-in-Equal c =
     let a = c.args in
     λ I roles text w G N. one_is I roles a.size text w (words a.scratch.now) G a.«free» a.x c.with.result a.a c.requires.0 c.requires.1 c.in-Equal.field-0 c.in-Equal.field-1 c.in-Equal.is c.with.ensures
 
-pub returns-in-Class : goal.returns-in-Class
-returns-in-Class c = λ I roles text w G N. absurd (subst (PairWith c.args.«free») c.in-Class.is c.requires.1)
+pub unreachable-requires : goal.unreachable-requires
+unreachable-requires c = subst (PairWith c.args.«free») c.in-Class.is c.requires.1
 
-pub returns-in-Exists : goal.returns-in-Exists
-returns-in-Exists c = λ I roles text w G N. absurd (subst (PairWith c.args.«free») c.in-Exists.is c.requires.1)
+pub unreachable-requires-in-Exists : goal.unreachable-requires-in-Exists
+unreachable-requires-in-Exists c = subst (PairWith c.args.«free») c.in-Exists.is c.requires.1
 
-pub returns-in-AtMost : goal.returns-in-AtMost
-returns-in-AtMost c = λ I roles text w G N. absurd (subst (PairWith c.args.«free») c.in-AtMost.is c.requires.1)
+pub unreachable-requires-in-AtMost : goal.unreachable-requires-in-AtMost
+unreachable-requires-in-AtMost c = subst (PairWith c.args.«free») c.in-AtMost.is c.requires.1
 
-pub returns-in-AtLeast : goal.returns-in-AtLeast
-returns-in-AtLeast c = λ I roles text w G N. absurd (subst (PairWith c.args.«free») c.in-AtLeast.is c.requires.1)
+pub unreachable-requires-in-AtLeast : goal.unreachable-requires-in-AtLeast
+unreachable-requires-in-AtLeast c = subst (PairWith c.args.«free») c.in-AtLeast.is c.requires.1

@@ -5,11 +5,11 @@ use Rattle.clausetests.specs.Fitting.{is_head}
 use Rattle.clausetests.proofs.RunLaws.{read_some, read_nth, run_within, there_nth, meant_nth, tables_nth}
 use Rattle.clausetests.proofs.fitting.narrow_at.Goals as goal
 
-pub returns-in_default : goal.returns-in_default
-returns-in_default c =
+pub unreachable-requires : goal.unreachable-requires
+unreachable-requires c =
     let A = c.args in
     let R = c.requires.1 in
-    absurd (read_some A.run.now A.i R.list R.are c.requires.0 c.get_atom.result c.get_atom.ensures c.in_default.is)
+    read_some A.run.now A.i R.list R.are c.requires.0 c.get_atom.result c.get_atom.ensures c.in_default.is
 
 pub narrow_atom-requires : goal.narrow_atom-requires
 narrow_atom-requires c =
