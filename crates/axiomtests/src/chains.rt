@@ -1,5 +1,6 @@
 // Axioms 27 and 28: the least path along the parts that the role above has not. For each first element the sets from which the
 // last k parts can still be broken; then each next element is the least that is related and in its set.
+// Clauses that repeat stay clauses: `ChainIn` is about one moment of what is lent.
 ghost use Rattle.std.specs.Prelude.{◌≡◌, Bool, not, ◌&&◌, ◌∷◌, ℕ, suc, ◌+◌, ◌*◌, ◌<◌, ◌≤◌, length};
 ghost use Rattle.words.specs.Words.{words};
 ghost use Rattle.ir.specs.Roles.{role_of};
@@ -35,7 +36,8 @@ fn part(scratch: &[u8], c: Chain, j: u32) -> u32
     words::get_word(scratch, c.at + c.step * (j as usize))
 }
 
-// The elements that are related to one of the set.
+// The elements that are related to one of the set. (extents' SOME has them too, but what it promises speaks of `any`, as a concept's
+// meaning does, and this of `all`, as a chain's condition does.)
 fn back(scratch: &[u8], size: u64, code: u32, set: u64) -> u64
     requires { (code < 2 * most_roles) × (size ≤ most_elements) × (scratch_bytes ≤ length scratch.now) }
     ensures { (I : Interpretation) (f : ℕ → Bool) → size ≡ I.size → RowsOf I (words scratch.now) code → set ≡ mask_of I.size f → result ≡ mask_of I.size (λ y. not (all (λ w. not (related I (role_of code) y w && f w)) (rises 0 I.size))) }

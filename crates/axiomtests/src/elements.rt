@@ -1,5 +1,5 @@
 // Axioms whose condition speaks of one element, 21 to 24, 29 and 35: the set of those that break it.
-// Clauses that repeat stay clauses: `LineThere` is about one moment of what is lent.
+// Clauses that repeat stay clauses: `LineIn` and `LineThere` are about one moment of what is lent.
 ghost use Rattle.std.specs.Prelude.{◌≡◌, true, List, ℕ};
 ghost use Rattle.words.specs.Words.{words};
 ghost use Rattle.axiomtests.specs.Lines.{LineIn, LineThere, Elements, of_element};

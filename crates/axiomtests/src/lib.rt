@@ -1,4 +1,5 @@
 // The first broken axiom of a deck in a state that is laid out, with the least breaking assignment.
+// Clauses that repeat stay clauses: `LineIn` and `LineThere` are about one moment of what is lent.
 #![tactic(auto)]
 
 pub mod chains;

@@ -1,5 +1,6 @@
 // Axioms whose condition speaks of two elements, 25, 26 and 30 to 34: for a first element x the set of those that break it
 // behind x, and the first x with one.
+// Clauses that repeat stay clauses: `LineIn` is about one moment of what is lent.
 ghost use Rattle.std.specs.Prelude.{◌≡◌, true, ◌<◌};
 ghost use Rattle.words.specs.Words.{words};
 ghost use Rattle.axiomtests.specs.Lines.{LineIn, Behind, FirstWith, of_pair};
@@ -82,7 +83,8 @@ fn sub_role(scratch: &[u8], t: Trial, line: Line, x: u64) -> u64
     sets::without(roles::row(scratch, sub, x), roles::row(scratch, sup, x))
 }
 
-// EquivalentObjectProperties.
+// EquivalentObjectProperties. (As `elements::equivalent`, and DisjointObjectProperties as `elements::disjoint`, but each promises what its
+// own axiom says: one function would promise it of any list of sets, which is what `members` promises.)
 fn equivalent_roles(scratch: &[u8], t: Trial, line: Line, x: u64) -> u64
     requires { LineIn scratch.now t 34 line.at line.count × (x < t.size) }
     ensures { Behind (words scratch.now) t 34 line.at line.count x result }

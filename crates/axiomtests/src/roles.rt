@@ -11,7 +11,7 @@ ghost use Rattle.sets.specs.Laid.{row_of};
 
 use ir::role::Role;
 
-// What element x is related to: kept::row for an element of 64 bits, as sets::least gives it. Each of nine calls would cast it, and
+// What element x is related to: kept::row for an element of 64 bits, as sets::least gives it. Each of ten calls would cast it, and
 // say again why it is small.
 pub fn row(scratch: &[u8], code: u32, x: u64) -> u64
     requires { (code < 2 * most_roles) × (x < most_elements) × (scratch_bytes ≤ length scratch.now) }

@@ -1,4 +1,5 @@
 // The set of an atom of one variable, and what an atom of two leaves to one of them.
+// Clauses that repeat stay clauses: `RowsThere` is about one moment of what is lent.
 ghost use Rattle.std.specs.Prelude.{◌≡◌, Bool, List, ℕ, ◌+◌, ◌<◌, ◌≤◌, leb, eqb};
 ghost use Rattle.words.specs.Words.{words};
 ghost use Rattle.ir.specs.Pick.{pick};
@@ -42,7 +43,6 @@ fn at_least(scratch: &[u8], code: u32, among: u64, n: u32, size: u32) -> u64
 
 // The elements that a number restriction counts.
 fn filler(state: &State, q: Qualifier) -> u64
-    requires { state.now.size ≤ 64 }
     ensures { (I : Interpretation) (roles : ℕ) (v : List ℕ) → Given I roles state.now.size state.now.text.now (words state.now.store.now) v → result ≡ mask_of I.size (qualifies I q) }
 {
     match q {

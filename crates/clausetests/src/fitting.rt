@@ -1,6 +1,7 @@
 // The tables of a clause: for each variable a set, for each pair of variables a set for each element of the first.
-// Clauses that repeat stay clauses: each function asks for the length that it reads; a type with a number's bound would be made at each
-// read and opened at each use. A run stays its first word and its count, as in the definitions.
+// Clauses that repeat stay clauses: each function asks for the length that it reads; `MeantThere` and `RunMeant` are about one moment of
+// what is lent; a type with a number's bound would be made at each read and opened at each use. A run stays its first word and its count,
+// as in the definitions.
 ghost use Rattle.std.specs.Prelude.{◌≡◌, Bool, true, ◌&&◌, List, [], ◌∷◌, ◌++◌, ℕ, ◌<◌, ◌≤◌, ◌+◌, ◌*◌, length, get_or};
 ghost use Rattle.words.specs.Words.{words};
 ghost use Rattle.ir.specs.Atoms.{atom_vars};

@@ -21,7 +21,7 @@ use sets::places::SHOWN;
 use sets::verdict::Broken;
 use tables::read;
 
-// The elements stand in scratch. (A range, since each one's word is told by its place too.)
+// The elements stand in scratch. (A range: `enumerate` would give each place and element, and the clause is of places alone.)
 fn put_shown(scratch: &mut [u8], found: [u32; 4])
     requires { scratch_bytes ≤ length scratch.old }
     ensures by_index { (k : ℕ) → k ≤ 4 → shown (words scratch.new) k ≡ take k found }

@@ -2,11 +2,8 @@ use mathlib.Core.Path.{subst}
 use native.Mathlib.Omega.{arith}
 use Rattle.words.specs.Words.{words}
 use Rattle.clausetests.specs.Given.{NamesRoles}
-use Rattle.clausetests.specs.SetLaws.{class_is, loops_is, some_is, most_is, least_is, equal_is, there_size, there_role, there_rows}
+use Rattle.clausetests.specs.SetLaws.{class_is, loops_is, some_is, most_is, least_is, equal_is, there_role, there_rows}
 use Rattle.clausetests.proofs.atom.atom_set.Goals as goal
-
-pub class_set-requires : goal.class_set-requires
-class_set-requires c = let a = c.args in there_size a.state.now.size a.a a.state.now.text.now a.state.now.store.now a.scratch.now c.requires
 
 pub code-requires : goal.code-requires
 code-requires c =
@@ -25,9 +22,6 @@ code-requires-in-Exists c =
     let h = there_role a.state.now.size a.a a.state.now.text.now a.state.now.store.now a.scratch.now c.requires c.in-Exists.r (λ roles N. subst (NamesRoles roles) c.in-Exists.is N) in
     omega (arith, h)
 
-pub class_set-requires-in-Exists : goal.class_set-requires-in-Exists
-class_set-requires-in-Exists c = let a = c.args in there_size a.state.now.size a.a a.state.now.text.now a.state.now.store.now a.scratch.now c.requires
-
 pub at_least-requires : goal.at_least-requires
 at_least-requires c =
     let a = c.args in
@@ -38,9 +32,6 @@ code-requires-in-AtMost c =
     let a = c.args in
     let h = there_role a.state.now.size a.a a.state.now.text.now a.state.now.store.now a.scratch.now c.requires c.in-AtMost.r (λ roles N. subst (NamesRoles roles) c.in-AtMost.is N) in
     omega (arith, h)
-
-pub filler-requires : goal.filler-requires
-filler-requires c = let a = c.args in there_size a.state.now.size a.a a.state.now.text.now a.state.now.store.now a.scratch.now c.requires
 
 pub at_most-requires : goal.at_most-requires
 at_most-requires c =
@@ -53,16 +44,10 @@ code-requires-in-AtLeast c =
     let h = there_role a.state.now.size a.a a.state.now.text.now a.state.now.store.now a.scratch.now c.requires c.in-AtLeast.r (λ roles N. subst (NamesRoles roles) c.in-AtLeast.is N) in
     omega (arith, h)
 
-pub filler-requires-in-AtLeast : goal.filler-requires-in-AtLeast
-filler-requires-in-AtLeast c = let a = c.args in there_size a.state.now.size a.a a.state.now.text.now a.state.now.store.now a.scratch.now c.requires
-
 pub at_least-requires-in-AtLeast : goal.at_least-requires-in-AtLeast
 at_least-requires-in-AtLeast c =
     let a = c.args in
     there_rows a.state.now.size a.a a.state.now.text.now a.state.now.store.now a.scratch.now c.requires c.in-AtLeast.r (λ roles N. subst (NamesRoles roles) c.in-AtLeast.is N) c.code-in-AtLeast.result c.code-in-AtLeast.ensures
-
-pub whole-requires : goal.whole-requires
-whole-requires c = let a = c.args in there_size a.state.now.size a.a a.state.now.text.now a.state.now.store.now a.scratch.now c.requires
 
 pub returns-in-Class : goal.returns-in-Class
 returns-in-Class c =

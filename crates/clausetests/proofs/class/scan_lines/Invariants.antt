@@ -5,7 +5,7 @@ use Rattle.clausetests.specs.ScanCode.{Left}
 use Rattle.clausetests.proofs.class.scan_lines.Given as goal
 
 abbrev pub invariant-loop-p : goal.invariant-loop-p
-invariant-loop-p l = Left l.text l.c l.p (scan_by (suc (length (drop l.from l.text))) (drop l.from l.text) l.c)
+invariant-loop-p l = Left l.state.text.now l.c l.p (scan_by (suc (length (drop l.from l.state.text.now))) (drop l.from l.state.text.now) l.c)
 
 abbrev pub decreases-loop-p : goal.decreases-loop-p
-decreases-loop-p l = length l.text - l.p
+decreases-loop-p l = length l.state.text.now - l.p

@@ -3,8 +3,8 @@ use Rattle.rules.specs.Base.{contains}
 use Rattle.clausetests.specs.ScanCode.{set_more, set_beyond}
 use Rattle.clausetests.proofs.class.with_below.Goals as goal
 
-pub returns-then-x-size : goal.returns-then-x-size
-returns-then-x-size c = let a = c.args in λ l e. c.with.ensures a.size (contains l) c.if-x-size.true e ∙ set_more a.size l a.x
+pub returns-then-x-state : goal.returns-then-x-state
+returns-then-x-state c = let a = c.args in λ l e. c.with.ensures a.state.now.size (contains l) c.if-x-state.true e ∙ set_more a.state.now.size l a.x
 
 pub returns : goal.returns
-returns c = let a = c.args in λ l e. e ∙ set_beyond a.size l a.x c.if-x-size.false
+returns c = let a = c.args in λ l e. e ∙ set_beyond a.state.now.size l a.x c.if-x-state.false
