@@ -91,7 +91,7 @@ pub fn put_under(a: Alternatives) -> Result<Alternatives, Refusal>
     })
 }
 
-// Of alternatives, up to 64; more are 65.
+// Of alternatives, up to 64; more are 65: the rules' own number for too many.
 pub fn join_size(joint: Joint, a: u32, n: u32) -> u32
     ensures { result ≡ join_size (is_conj joint) a n }
 {
@@ -101,21 +101,15 @@ pub fn join_size(joint: Joint, a: u32, n: u32) -> u32
     }
 }
 
-// By 0: 0, and all is left over. checked_div and checked_rem with unwrap_or are no plainer.
+// By 0: 0, and all is left over.
 pub fn quot(a: u32, b: u32) -> u32
     ensures { result ≡ a / b }
 {
-    if b == 0 {
-        return 0;
-    }
-    a / b
+    a.checked_div(b).unwrap_or(0)
 }
 
 pub fn rest(a: u32, b: u32) -> u32
     ensures { result ≡ a % b }
 {
-    if b == 0 {
-        return a;
-    }
-    a % b
+    a.checked_rem(b).unwrap_or(a)
 }

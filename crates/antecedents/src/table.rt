@@ -23,20 +23,14 @@ pub struct Row {
     pub vars: u32,
 }
 
-pub fn size_of(scratch: &[u8], c: u32) -> u32
+pub fn get_row(scratch: &[u8], c: u32) -> Row
     requires { (c < most_concepts) × (4 * axioms_at ≤ length scratch.now) }
-    ensures { result ≡ size_in (words scratch.now) c }
+    ensures { (result.size ≡ size_in (words scratch.now) c) × (result.vars ≡ vars_in (words scratch.now) c) }
 {
     let at = ALTERNATIVES + 2 * (c as usize);
-    words::get_word(scratch, at)
-}
-
-pub fn vars_of(scratch: &[u8], c: u32) -> u32
-    requires { (c < most_concepts) × (4 * axioms_at ≤ length scratch.now) }
-    ensures { result ≡ vars_in (words scratch.now) c }
-{
-    let at = ALTERNATIVES + 2 * (c as usize) + 1;
-    words::get_word(scratch, at)
+    let size = words::get_word(scratch, at);
+    let vars = words::get_word(scratch, at + 1);
+    Row { size, vars }
 }
 
 // The row of c's list.
@@ -49,8 +43,9 @@ fn list_row(scratch: &[u8], c: u32, joint: Joint) -> Row
     let mut vars: u32 = 0;
     for i in 0..record::number(scratch, c) {
         let x = record::member(scratch, start + i);
-        size = numbers::join_size(joint, size, size_of(scratch, x));
-        vars = vars.saturating_add(vars_of(scratch, x));
+        let row = get_row(scratch, x);
+        size = numbers::join_size(joint, size, row.size);
+        vars = vars.saturating_add(row.vars);
     }
     Row { size, vars }
 }
@@ -65,10 +60,11 @@ pub fn row_of(scratch: &[u8], c: u32) -> Row
         AND => list_row(scratch, c, Joint::And),
         OR => list_row(scratch, c, Joint::Or),
         SOME => {
-            let b = record::child(scratch, c);
-            let size = size_of(scratch, b);
-            let vars = vars_of(scratch, b).saturating_add(1);
-            Row { size, vars }
+            let row = get_row(scratch, record::child(scratch, c));
+            Row {
+                size: row.size,
+                vars: row.vars.saturating_add(1),
+            }
         }
         _ => Row { size: 0, vars: 0 },
     }

@@ -67,16 +67,16 @@ fn disjunct(scratch: &[u8], c: u32, y: u32, k: u32) -> Option<Chosen>
     let mut j = k;
     for i in 0..record::number(scratch, c) {
         let x = record::member(scratch, start + i);
-        let size = table::size_of(scratch, x);
-        if j < size {
+        let row = table::get_row(scratch, x);
+        if j < row.size {
             return Some(Chosen {
                 id: x,
                 var: w,
                 index: j,
             });
         }
-        j -= size;
-        w = w.saturating_add(table::vars_of(scratch, x));
+        j -= row.size;
+        w = w.saturating_add(row.vars);
     }
     None
 }
@@ -87,10 +87,11 @@ fn next_part(scratch: &[u8], i: u32, r: u32, j: u32, y: u32) -> Part
     ensures { PartIs (words scratch.now) i r j y result }
 {
     let id = record::member(scratch, i);
-    let left = numbers::quot(r, table::size_of(scratch, id));
+    let row = table::get_row(scratch, id);
+    let left = numbers::quot(r, row.size);
     let digit = numbers::quot(j, left);
     let rest = numbers::rest(j, left);
-    let next = y.saturating_add(table::vars_of(scratch, id));
+    let next = y.saturating_add(row.vars);
     Part {
         id,
         left,
@@ -109,7 +110,7 @@ fn write_parts(scratch: &mut [u8], base: u32, at: usize, c: u32, v: u32, y: u32,
     let start = record::child(scratch, c);
     let mut p = at;
     let mut w = y;
-    let mut r = table::size_of(scratch, c);
+    let mut r = table::get_row(scratch, c).size;
     let mut j = k;
     for i in 0..record::number(scratch, c) {
         let q = next_part(scratch, start + i, r, j, w);

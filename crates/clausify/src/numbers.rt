@@ -14,19 +14,32 @@ pub struct Numbers {
     pub visits: u32,
 }
 
-// The eight statistics in their order, fresh ids, visits: the table's first ten words.
+impl Numbers {
+    // The eight statistics in their order, fresh ids, visits.
+    pub fn words(self) -> [u32; 10]
+        ensures { result ≡ ten_of self.stats self.fresh_ids self.visits }
+    {
+        [
+            self.stats.total,
+            self.stats.horn,
+            self.stats.disjunctive,
+            self.stats.bottom_headed,
+            self.stats.with_exists_head,
+            self.stats.deferred,
+            self.stats.decomposed,
+            self.stats.refused,
+            self.fresh_ids,
+            self.visits,
+        ]
+    }
+}
+
+// The table's first ten words.
 pub fn put_ten(numbers: &mut [u8], n: Numbers)
     requires { 40 ≤ length numbers.old }
     ensures { words numbers.new ≡ sets (words numbers.old) 0 (ten_of n.stats n.fresh_ids n.visits) }
 {
-    words::put_word(numbers, 0, n.stats.total);
-    words::put_word(numbers, 1, n.stats.horn);
-    words::put_word(numbers, 2, n.stats.disjunctive);
-    words::put_word(numbers, 3, n.stats.bottom_headed);
-    words::put_word(numbers, 4, n.stats.with_exists_head);
-    words::put_word(numbers, 5, n.stats.deferred);
-    words::put_word(numbers, 6, n.stats.decomposed);
-    words::put_word(numbers, 7, n.stats.refused);
-    words::put_word(numbers, 8, n.fresh_ids);
-    words::put_word(numbers, 9, n.visits);
+    for (i, w) in n.words().iter().enumerate() {
+        words::put_word(numbers, i, *w);
+    }
 }

@@ -18,20 +18,8 @@ fn put_numbers(out: &mut [u8], at: usize, n: Numbers) -> usize
     requires { at + 122 ≤ length out.old }
     ensures { Put out.old at (fields_text (numbers_line n.stats n.fresh_ids n.visits)) out.new result }
 {
-    let numbers = [
-        43,
-        n.stats.total,
-        n.stats.horn,
-        n.stats.disjunctive,
-        n.stats.bottom_headed,
-        n.stats.with_exists_head,
-        n.stats.deferred,
-        n.stats.decomposed,
-        n.stats.refused,
-        n.fresh_ids,
-        n.visits,
-    ];
-    rows::put_line(out, at, &numbers)
+    let p = rows::put_field(out, at, 43);
+    rows::put_line(out, p, &n.words())
 }
 
 // The clauses, then the numbers. The tables by themselves: a reader has two of them, and no counters.

@@ -19,21 +19,15 @@ overflow_add-start c = omega (arith, c.requires.2.within, c.loop-i-test.true, c.
 pub member-x-requires : goal.member-x-requires
 member-x-requires c = (omega (arith, c.requires.2.within, c.loop-i-test.true, c.child-start.ensures, c.number-i-end.ensures), omega (arith, c.requires.1))
 
-pub size_of-requires : goal.size_of-requires
-size_of-requires c =
-    let L : Listed (words c.args.scratch.now) c.args.c c.child-start.result c.number-i-end.result = listed_is _ _ _ _ c.child-start.ensures c.number-i-end.ensures c.requires.2 in
-    let d = part_below _ _ _ _ _ _ L c.loop-i-test.true c.member-x.ensures in
-    (omega (arith, c.requires.0), c.requires.1)
-
-pub vars_of-requires : goal.vars_of-requires
-vars_of-requires c =
+pub get_row-row-requires : goal.get_row-row-requires
+get_row-row-requires c =
     let L : Listed (words c.args.scratch.now) c.args.c c.child-start.result c.number-i-end.result = listed_is _ _ _ _ c.child-start.ensures c.number-i-end.ensures c.requires.2 in
     let d = part_below _ _ _ _ _ _ L c.loop-i-test.true c.member-x.ensures in
     (omega (arith, c.requires.0), c.requires.1)
 
 pub loop-i-preserved : goal.loop-i-preserved
 loop-i-preserved c =
-    turn_next _ _ _ _ _ _ _ _ c.loop-i.invariant c.loop-i-test.true _ _ _ _ _ c.member-x.ensures c.size_of.ensures c.join_size-size.ensures c.vars_of.ensures c.saturating_add-vars.ensures
+    turn_next _ _ _ _ _ _ _ _ c.loop-i.invariant c.loop-i-test.true _ _ _ _ _ c.member-x.ensures c.get_row-row.ensures.0 c.join_size-size.ensures c.get_row-row.ensures.1 c.saturating_add-vars.ensures
 
 pub returns : goal.returns
 returns c =

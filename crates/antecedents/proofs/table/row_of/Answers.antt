@@ -16,16 +16,10 @@ list_row-requires-in-8 c =
     let S = c.requires.0 in
     (omega (arith, S.inside, S.held.few), c.requires.1, list_of_lem _ _ _ _ S c.kind.ensures refl _ refl (rw c.in-8.is refl))
 
-pub size_of-size-requires : goal.size_of-size-requires
-size_of-size-requires c =
+pub get_row-row-requires : goal.get_row-row-requires
+get_row-row-requires c =
     let S = c.requires.0 in
-    let d = down_of _ _ _ _ S c.kind.ensures c.child-b.ensures c.in-9.is in
-    (omega (arith, S.inside, S.held.few), c.requires.1)
-
-pub vars_of-requires : goal.vars_of-requires
-vars_of-requires c =
-    let S = c.requires.0 in
-    let d = down_of _ _ _ _ S c.kind.ensures c.child-b.ensures c.in-9.is in
+    let d = down_of _ _ _ _ S c.kind.ensures c.child.ensures c.in-9.is in
     (omega (arith, S.inside, S.held.few), c.requires.1)
 
 pub returns-in-1 : goal.returns-in-1
@@ -50,8 +44,8 @@ returns-in-8 c =
 
 pub returns-in-9 : goal.returns-in-9
 returns-in-9 c =
-    let h : Here (words c.args.scratch.now) c.args.c c.kind.result (field (words c.args.scratch.now) c.args.c 2) c.child-b.result = record { kind_is = c.kind.ensures; a_is = refl; b_is = c.child-b.ensures } in
-    row_some _ _ _ _ _ h c.in-9.is _ _ _ c.size_of-size.ensures c.vars_of.ensures c.saturating_add-vars.ensures
+    let h : Here (words c.args.scratch.now) c.args.c c.kind.result (field (words c.args.scratch.now) c.args.c 2) c.child.result = record { kind_is = c.kind.ensures; a_is = refl; b_is = c.child.ensures } in
+    row_some _ _ _ _ _ h c.in-9.is _ _ _ c.get_row-row.ensures.0 c.get_row-row.ensures.1 c.saturating_add.ensures
 
 pub returns-in_default : goal.returns-in_default
 returns-in_default c =

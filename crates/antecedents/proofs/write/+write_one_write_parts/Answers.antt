@@ -127,4 +127,4 @@ pub write_parts-overflow_add-start : goal.write_parts-overflow_add-start
 write_parts-overflow_add-start t c = omega (arith, c.requires.2.within, c.loop-i-test.true, c.child-start.ensures, c.number-i-end.ensures)
 
 pub write_parts-returns : goal.write_parts-returns
-write_parts-returns t c = turn_end _ _ _ _ _ _ _ _ _ _ _ _ _ _ _ _ c.loop-i.invariant c.loop-i-test.false c.size_of-r.ensures (list_is _ _ _ _ c.child-start.ensures c.number-i-end.ensures)
+write_parts-returns t c = turn_end _ _ _ _ _ _ _ _ _ _ _ _ _ _ _ _ c.loop-i.invariant c.loop-i-test.false c.get_row-r.ensures.0 (list_is _ _ _ _ c.child-start.ensures c.number-i-end.ensures)

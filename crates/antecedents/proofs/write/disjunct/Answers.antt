@@ -18,26 +18,20 @@ overflow_add-start c = omega (arith, c.requires.2.within, c.loop-i-test.true, c.
 pub member-x-requires : goal.member-x-requires
 member-x-requires c = (omega (arith, c.requires.2.within, c.loop-i-test.true, c.child-start.ensures, c.number-i-end.ensures), omega (arith, c.requires.1))
 
-pub size_of-size-requires : goal.size_of-size-requires
-size_of-size-requires c =
+pub get_row-row-requires : goal.get_row-row-requires
+get_row-row-requires c =
     let L : Listed (words c.args.scratch.now) c.args.c c.child-start.result c.number-i-end.result = listed_is _ _ _ _ c.child-start.ensures c.number-i-end.ensures c.requires.2 in
     let d = part_below _ _ _ _ _ _ L c.loop-i-test.true c.member-x.ensures in
     (omega (arith, c.requires.0), c.requires.1)
 
-pub returns-then-j-size : goal.returns-then-j-size
-returns-then-j-size c =
-    look_found _ _ _ _ _ _ _ _ c.loop-i.invariant _ _ c.member-x.ensures c.size_of-size.ensures c.loop-i-test.true c.if-j-size.true
+pub returns-then-j-row : goal.returns-then-j-row
+returns-then-j-row c =
+    look_found _ _ _ _ _ _ _ _ c.loop-i.invariant _ _ c.member-x.ensures c.get_row-row.ensures.0 c.loop-i-test.true c.if-j-row.true
     ∙ ap (λ (l : List ℕ). chosen_of (words c.args.scratch.now) l c.args.y c.args.k) (list_is _ _ _ _ c.child-start.ensures c.number-i-end.ensures)
-
-pub vars_of-requires : goal.vars_of-requires
-vars_of-requires c =
-    let L : Listed (words c.args.scratch.now) c.args.c c.child-start.result c.number-i-end.result = listed_is _ _ _ _ c.child-start.ensures c.number-i-end.ensures c.requires.2 in
-    let d = part_below _ _ _ _ _ _ L c.loop-i-test.true c.member-x.ensures in
-    (omega (arith, c.requires.0), c.requires.1)
 
 pub loop-i-preserved : goal.loop-i-preserved
 loop-i-preserved c =
-    look_next _ _ _ _ _ _ _ _ c.loop-i.invariant _ _ c.member-x.ensures c.size_of-size.ensures c.loop-i-test.true c.if-j-size.false _ _ c.vars_of.ensures c.saturating_add-w.ensures
+    look_next _ _ _ _ _ _ _ _ c.loop-i.invariant _ _ c.member-x.ensures c.get_row-row.ensures.0 c.loop-i-test.true c.if-j-row.false _ _ c.get_row-row.ensures.1 c.saturating_add-w.ensures
 
 pub returns : goal.returns
 returns c =
