@@ -13,7 +13,7 @@ use Rattle.rules.specs.Concept.{Top, Bot, Atomic, Nominal, SelfRestriction, Not,
 use Rattle.rules.specs.Pool.{at, members, most_concepts, most_members}
 use Rattle.rules.specs.Axioms.{conjuncts}
 use Rattle.rules.specs.TextLaws.{by_test}
-use Rattle.pool.specs.Layout.{pool_bytes, members_at, tab, run, field, is_list, concept_from, concept_at, pool_of, plain}
+use Rattle.pool.specs.Layout.{members_at, tab, run, field, is_list, concept_from, concept_at, pool_of, plain}
 use Rattle.pool.specs.Held.{Held}
 use Rattle.pool.specs.Tabs.{tab_same, tab_each}
 use Rattle.pool.specs.HeldLaws.{pool_at, members_next, members_rise, record_kind, list_count, list_within, list_below, concept_is}
@@ -43,11 +43,13 @@ module _ (w : List ℕ) (c kind : ℕ) (e : kind ≡ field w c 0) where
   pub count_one : (kind ≡ 7 → ⊥) → 1 ≡ count_in w c
   count_one a = rw (no_and a) refl
 
-  pub member_fits : (i d n : ℕ) → kind ≡ 7 → d ≡ field w c 3 → MemberIn w c i → pool_bytes ≤ n → 4 * (members_at + d + i) + 4 ≤ n
-  member_fits i d n a q M h = omega (arith, q, M (is_and a))
+  pub member_less : (i d : ℕ) → kind ≡ 7 → d ≡ field w c 3 → MemberIn w c i → d + i < most_members
+  member_less i d a q M = omega (arith, q, M (is_and a))
 
-  pub conjunct_and : (i d p : ℕ) → kind ≡ 7 → d ≡ field w c 3 → p ≡ get_or w (members_at + d + i) 0 → p ≡ conjunct_in w c i
-  conjunct_and i d p a q r = rw (is_and a, ← q) r
+  pub conjunct_and : (i d p : ℕ) → kind ≡ 7 → d ≡ field w c 3 → p ≡ get_or w (members_at + (d + i)) 0 → p ≡ conjunct_in w c i
+  conjunct_and i d p a q r =
+      let e : members_at + (d + i) ≡ members_at + d + i = omega arith in
+      rw (is_and a, ← q, ← e) r
 
   pub conjunct_self : (i : ℕ) → (kind ≡ 7 → ⊥) → c ≡ conjunct_in w c i
   conjunct_self i a = rw (no_and a) refl

@@ -22,7 +22,7 @@ use ir::counters::Counters;
 use ir::refusal::Refusal;
 use ir::scratch::{HANDS, MARKS, STACK};
 use normalize::nnf;
-use pool::layout::{AND, MEMBERS};
+use pool::layout::AND;
 use pool::{joint, record};
 
 // The soft conjuncts stand where atoms in hand will, the hard ones on the stack.
@@ -54,10 +54,7 @@ fn conjunct(scratch: &[u8], c: u32, i: u32) -> u32
     ensures { result ≡ conjunct_in (words scratch.now) c i }
 {
     if record::kind(scratch, c) == AND {
-        return words::get_word(
-            scratch,
-            MEMBERS + record::child(scratch, c) as usize + i as usize,
-        );
+        return record::member(scratch, record::child(scratch, c) + i);
     }
     c
 }
