@@ -35,8 +35,8 @@ fn concept_row<'a>(deck: &'a [u8], t: &[u8], concepts: usize, i: usize) -> Row<'
     }
 }
 
-// The greatest depth of the concepts that are numbers `from` and on. (A loop: as an iterator's `max` or `fold` it is as long, and its
-// closure is asked at each turn for a depth that the table has, which the loop's invariant says.)
+// The greatest depth of the concepts that are numbers `from` and on. (A loop: tried as `fold`, where it was not
+// proved that the table has the depth that each call reads, which is the loop's invariant.)
 pub fn deepest_of(row: &Row, t: &[u8], from: usize, concepts: usize) -> usize
     requires { ConceptsHeld row.now.deck.now t.now concepts × Each (λ c. c < concepts) (drop from (numbers row.now)) }
     ensures value { result ≡ deepest (depths_in (words t.now) concepts) 0 (drop from (numbers row.now)) }
