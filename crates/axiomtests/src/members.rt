@@ -56,7 +56,8 @@ fn member(scratch: &[u8], l: Sets, j: u32) -> u64
     sets::kept::get_set(scratch, l.first + l.step * m)
 }
 
-// The sets from the last number to the first, each joined to what is found behind it.
+// The sets from the last number to the first, each joined to what is found behind it. (A loop: the closure of a `fold` in a generic
+// function, tried here, needs clauses of its own, which repeat `there` and `callable`.)
 fn folded<F: Fn(u64, u64) -> u64>(scratch: &[u8], l: Sets, end: u64, join: F) -> u64
     requires there { SetsIn scratch.now l }
     requires callable { (a b : ℕ) → F.pre join a b }
@@ -127,7 +128,7 @@ fn clash_behind<F: Fn(u32, u32) -> bool>(scratch: &[u8], l: Sets, clashing: &F, 
     found
 }
 
-// What two of them have whose numbers clash.
+// What two of them have whose numbers clash. (A loop as in `folded`.)
 pub fn clashes<F: Fn(u32, u32) -> bool>(scratch: &[u8], l: Sets, clashing: F) -> u64
     requires there { SetsIn scratch.now l }
     requires callable { (a b : ℕ) → F.pre clashing a b }

@@ -27,7 +27,10 @@ fn line_set(state: &State, p: usize, n: usize) -> u64
     requires { p + 11 * n ≤ length state.now.text.now }
     ensures { result ≡ set_of state.now.size (drop 2 (row_at state.now.text.now p n)) }
 {
-    (2..n).fold(0, |m, k| with_below(state, m, text::field(state.text, p, n, k)))
+    (2..n).fold(
+        0,
+        |m, k| with_below(state, m, text::field(state.text, p, n, k)),
+    )
 }
 
 // The line is class c's.

@@ -37,12 +37,12 @@ module _ {F C : Type 0} (g : Mut F (C × (ℕ × Unit {0})) C) (f : F) (J : ℕ 
     pub fold_from : (s : Range ℕ) (a r : C) → s ≡ record { start = m; end = n } → J m a → FoldsItems nat_range_steps g s f a r → (t : ℕ) × (n ≤ t) × (m ≤ n → t ≡ n) × J t r
     fold_from s a r e j ran =
         let K = kept nat_range_steps g f (λ (t : Range ℕ) (v : C). (t.end ≡ n) × (m ≤ t.start) × (m ≤ n → t.start ≤ n) × J t.start v)
-            (λ k x t v w f' p q h.
-            let z : x < n = omega (arith, p.1, q.0) in
-            let N = step x v w f' (omega (arith, p.1, q.1)) z (subst (λ (i : ℕ). J i v) (sym p.1.1) q.3) h in
-            let y : x + 1 ≡ t.start = omega (arith, p.1) in
-            ((omega (arith, p.0, q.0), omega (arith, p.1, q.1), λ _. omega (arith, p.1, q.0), subst (λ (i : ℕ). J i w) y N.0), N.1))
-            s a r ran (subst (λ (t : Range ℕ). (t.end ≡ n) × (m ≤ t.start) × (m ≤ n → t.start ≤ n) × J t.start a) (sym e) (refl, omega arith, (λ h. h), j)) in
+        (λ k x t v w f' p q h.
+        let z : x < n = omega (arith, p.1, q.0) in
+        let N = step x v w f' (omega (arith, p.1, q.1)) z (subst (λ (i : ℕ). J i v) (sym p.1.1) q.3) h in
+        let y : x + 1 ≡ t.start = omega (arith, p.1) in
+        ((omega (arith, p.0, q.0), omega (arith, p.1, q.1), λ _. omega (arith, p.1, q.0), subst (λ (i : ℕ). J i w) y N.0), N.1))
+        s a r ran (subst (λ (t : Range ℕ). (t.end ≡ n) × (m ≤ t.start) × (m ≤ n → t.start ≤ n) × J t.start a) (sym e) (refl, omega arith, (λ h. h), j)) in
         (K.0.start, omega (arith, K.2, K.3.0), (λ h. let b = K.3.2 h in omega (arith, b, K.2, K.3.0)), K.3.3)
 
   module _ (n : ℕ) where
@@ -66,11 +66,11 @@ module _ {F C : Type 0} (g : Mut F (C × (ℕ × Unit {0})) C) (f : F) (J : ℕ 
         → (s : Rev (Range ℕ)) (a r : C) → rev_source s ≡ record { start = 0; end = n } → J n a → FoldsItems (rev_steps down) g s f a r → J 0 r
     fold_down step s a r e j ran =
         let K = kept (rev_steps down) g f (λ (t : Rev (Range ℕ)) (v : C). ((rev_source t).start ≡ 0) × ((rev_source t).end ≤ n) × J (rev_source t).end v)
-            (λ k x t v w f' p q h.
-            let z : x < n = omega (arith, p.1, q.1) in
-            let y : (rev_source k).end ≡ x + 1 = omega (arith, p.1) in
-            let N = step x v w f' z (subst (λ (i : ℕ). J i v) y q.2) h in
-            ((omega (arith, p.0, q.0), omega (arith, p.1, q.1), subst (λ (i : ℕ). J i w) p.1.1 N.0), N.1))
-            s a r ran (subst (λ (t : Range ℕ). (t.start ≡ 0) × (t.end ≤ n) × J t.end a) (sym e) (refl, omega arith, j)) in
+        (λ k x t v w f' p q h.
+        let z : x < n = omega (arith, p.1, q.1) in
+        let y : (rev_source k).end ≡ x + 1 = omega (arith, p.1) in
+        let N = step x v w f' z (subst (λ (i : ℕ). J i v) y q.2) h in
+        ((omega (arith, p.0, q.0), omega (arith, p.1, q.1), subst (λ (i : ℕ). J i w) p.1.1 N.0), N.1))
+        s a r ran (subst (λ (t : Range ℕ). (t.start ≡ 0) × (t.end ≤ n) × J t.end a) (sym e) (refl, omega arith, j)) in
         let z : (rev_source K.0).end ≡ 0 = omega (arith, K.2, K.3.0) in
         subst (λ (i : ℕ). J i r) z K.3.2

@@ -86,7 +86,8 @@ pub fn grown(m: u64, x: u64, b: bool) -> u64
     m
 }
 
-// The elements of the first n that pass the test. (A loop: the closure of a `fold` would need clauses that repeat `few` and `callable`.)
+// The elements of the first n that pass the test. (A loop: the closure of a `fold` in a generic function, tried here, needs clauses of
+// its own, which repeat `few` and `callable`.)
 pub fn filtered<F: Fn(u32) -> bool>(n: u32, test: F) -> u64
     requires few { n ≤ 64 }
     requires callable { (x : ℕ) → x < n → F.pre test x }

@@ -14,9 +14,8 @@ ghost use Rattle.tables.specs.Tabled.{Tabled, TableThere, Run};
 ghost use Rattle.statistics.specs.Counted.{stats_of};
 ghost use Rattle.statistics.specs.Counting.{counted, Within};
 
-use branches::atom;
 use branches::atom::EXISTS;
-use branches::vars;
+use branches::{atom, vars};
 use tables::read;
 
 // In the Rust's order.

@@ -17,11 +17,11 @@ returns c =
     let r = row_at a.state.now.text.now a.p a.n in
     let long = length_row a.state.now.text.now a.p a.n in
     let K = fold_from _ _ (λ k m. m ≡ set_of a.state.now.size (drop 2 (take k r))) 2 a.n
-        (λ k m b f' lo hi e q. (
-          (let given : (x : ℕ) → x ≡ get_or r k 0 → ((l : List ℕ) → m ≡ set_of a.state.now.size l → b ≡ set_of a.state.now.size (l ++ (x ∷ []))) → b ≡ set_of a.state.now.size (drop 2 (take (k + 1) r)) =
-              λ x d g. g (drop 2 (take k r)) e ∙ ap (set_of a.state.now.size) (numbers_more a.state.now.size r k x lo (omega (arith, hi, long)) d) in
+    (λ k m b f' lo hi e q. (
+      (let given : (x : ℕ) → x ≡ get_or r k 0 → ((l : List ℕ) → m ≡ set_of a.state.now.size l → b ≡ set_of a.state.now.size (l ++ (x ∷ []))) → b ≡ set_of a.state.now.size (drop 2 (take (k + 1) r)) =
+          λ x d g. g (drop 2 (take k r)) e ∙ ap (set_of a.state.now.size) (numbers_more a.state.now.size r k x lo (omega (arith, hi, long)) d) in
           search (rules, tests, given)),
-          search (rules, tests)
-        ))
-        _ _ c.fold.result refl (numbers_none a.state.now.size r) c.fold.ensures.ran in
+      search (rules, tests),
+    ))
+    _ _ c.fold.result refl (numbers_none a.state.now.size r) c.fold.ensures.ran in
     numbers_all a.state.now.size r K.0 c.fold.result (omega (arith, K.1, long)) K.3
