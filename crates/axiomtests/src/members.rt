@@ -63,9 +63,11 @@ fn folded<F: Fn(u64, u64) -> u64>(scratch: &[u8], l: Sets, end: u64, join: F) ->
     requires callable { (a b : ℕ) → F.pre join a b }
     ensures { (g : ℕ → ℕ) → end ≡ g l.count → ((j found r : ℕ) → j < l.count → found ≡ g (j + 1) → F.post join (member_set (words scratch.now) l j) found r → r ≡ g j) → result ≡ g 0 }
 {
-    (0..l.count)
-        .rev()
-        .fold(end, |found, j| join(member(scratch, l, j), found))
+    let mut found = end;
+    for j in (0..l.count).rev() {
+        found = join(member(scratch, l, j), found);
+    }
+    found
 }
 
 // What some of them have.

@@ -33,7 +33,7 @@ fn at_most(scratch: &[u8], code: u32, among: u64, n: u32, size: u32) -> u64
     sets::filtered(size, |x| count_in(scratch, code, x, among) <= n)
 }
 
-// To at least n. (Of an atom Exists to at least 1, as its law has it; `some` of extents is of a layer that is not named here.)
+// To at least n. (Of an atom Exists to at least 1: `some` is in extents, which this crate does not name.)
 fn at_least(scratch: &[u8], code: u32, among: u64, n: u32, size: u32) -> u64
     requires { RowsThere code size scratch.now }
     ensures { (R : ℕ → ℕ → Bool) (f : ℕ → Bool) → Rows (words scratch.now) code size R → among ≡ mask_of size f → result ≡ mask_of size (λ x. leb n (count_in size R f x)) }

@@ -100,7 +100,7 @@ fn composed_set(scratch: &[u8], c: u32, t: Trial) -> u64
     }
 }
 
-// Some, All, Min or Max.
+// Some, All, Min or Max. (An arm for each test: a function of the test would ask again what `filtered` asks of it.)
 fn filled_set(scratch: &[u8], c: u32, t: Trial) -> u64
     requires { ConceptThere scratch.now t c × (9 ≤ field (words scratch.now) c 0) }
     ensures { (w : List ℕ) → IsSet w (words scratch.now) t c result }

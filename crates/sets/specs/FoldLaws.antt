@@ -1,8 +1,8 @@
 -- What a `fold` over a range keeps, said of the number that is next, or was last. Assumes nothing.
 use Rattle.std.specs.Prelude.{Option, Some, None, ◌≡◌, refl, List, [], ◌∷◌, ℕ, ◌+◌, ◌-◌, ◌<◌, ◌≤◌}
 use Rattle.std.proofs.Common.{subst, sym, arith}
-use Rattle.std.specs.Fn.{Called, Takes}
-use Rattle.std.specs.Iterator.{Yields, FoldTurn, FoldsItems, CallableInFold}
+use Rattle.std.specs.Fn.{Called}
+use Rattle.std.specs.Iterator.{Yields, FoldTurn, FoldsItems}
 use Rattle.std.specs.Iterator.Adapters.{rev_source, rev_steps}
 use Rattle.std.specs.List.{FoldsTo}
 use Rattle.std.specs.Option.{MatchOption}
@@ -17,19 +17,15 @@ down s r t = (t.start ≡ s.start) × MatchOption r ((s.end - s.start ≡ 0) × 
 
 module _ {S A F C : Type 0} (steps : S → Option A → S → Type 0) (g : Mut F (C × (A × Unit {0})) C) (f : F) (J : S → C → Type 0)
     (step : (s : S) (x : A) (t : S) (a b : C) (f' : F) → steps s (Some x) t → J s a → Called g f (a, (x, tt)) b f' → J t b × (f' ≡ f)) where
-  turns : (xs : List A) (s t : S) (p q : F × C) → p.0 ≡ f → J s p.1 → Yields steps s xs t → FoldsTo {P = F × C} (FoldTurn g) p xs q → J t q.1 × (q.0 ≡ f)
-  turns [] s t p q e j y k = (subst (λ (v : S). J v q.1) y (subst (λ (v : F × C). J s v.1) k j), subst (λ (v : F × C). v.0 ≡ f) k e)
+  turns : (xs : List A) (s t : S) (p q : F × C) → p.0 ≡ f → J s p.1 → Yields steps s xs t → FoldsTo {P = F × C} (FoldTurn g) p xs q → J t q.1
+  turns [] s t p q e j y k = subst (λ (v : S). J v q.1) y (subst (λ (v : F × C). J s v.1) k j)
   turns (x ∷ xs) s t p q e j y k =
       let n = step s x y.0 p.1 k.0.1 k.0.0 y.1 j (subst (λ (z : F). Called g z (p.1, (x, tt)) k.0.1 k.0.0) e k.1) in
       turns xs y.0 t k.0 q n.1 n.0 y.2 k.2
 
   -- the moment after the last turn, when no item is left
   kept : (s : S) (a r : C) → FoldsItems steps g s f a r → J s a → (t : S) × (u : S) × steps t None u × J t r
-  kept s a r ran j = let D = ran.2 in (D.1.0, D.0, D.1.2, (turns ran.0 s D.1.0 (f, a) (ran.1, r) refl j D.1.1 ran.3).0)
-
-  -- each turn may be made
-  served : (s : S) (a : C) → ((s : S) (x : A) (t : S) (a : C) → steps s (Some x) t → J s a → Takes g f (a, (x, tt))) → J s a → CallableInFold steps g s f a
-  served s a takes j = record { at = λ xs t q x u y k z. let n = turns xs s t (f, a) q refl j y k in subst (λ (v : F). Takes g v (q.1, (x, tt))) (sym n.1) (takes t x u q.1 z n.0) }
+  kept s a r ran j = let D = ran.2 in (D.1.0, D.0, D.1.2, turns ran.0 s D.1.0 (f, a) (ran.1, r) refl j D.1.1 ran.3)
 
 module _ {F C : Type 0} (g : Mut F (C × (ℕ × Unit {0})) C) (f : F) (J : ℕ → C → Type 0) where
   -- from m on, and before n, which may be below m
@@ -45,23 +41,8 @@ module _ {F C : Type 0} (g : Mut F (C × (ℕ × Unit {0})) C) (f : F) (J : ℕ 
         s a r ran (subst (λ (t : Range ℕ). (t.end ≡ n) × (m ≤ t.start) × (m ≤ n → t.start ≤ n) × J t.start a) (sym e) (refl, omega arith, (λ h. h), j)) in
         (K.0.start, omega (arith, K.2, K.3.0), (λ h. let b = K.3.2 h in omega (arith, b, K.2, K.3.0)), K.3.3)
 
+  -- from the last before n to 0
   module _ (n : ℕ) where
-    pub serves_up : ((x : ℕ) (a b : C) (f' : F) → x < n → J x a → Called g f (a, (x, tt)) b f' → J (x + 1) b × (f' ≡ f)) → ((x : ℕ) (a : C) → x < n → J x a → Takes g f (a, (x, tt)))
-        → (a : C) → J 0 a → CallableInFold nat_range_steps g (record { start = 0; end = n }) f a
-    serves_up step takes a j =
-        served nat_range_steps g f (λ (t : Range ℕ) (v : C). (t.end ≡ n) × J t.start v)
-        (λ k x t v w f' p q h.
-        let N = step x v w f' (omega (arith, p.1, q.0)) (subst (λ (i : ℕ). J i v) (sym p.1.1) q.1) h in
-        let y : x + 1 ≡ t.start = omega (arith, p.1) in
-        ((omega (arith, p.0, q.0), subst (λ (i : ℕ). J i w) y N.0), N.1))
-        _ a (λ k x t v p q. takes x v (omega (arith, p.1, q.0)) (subst (λ (i : ℕ). J i v) (sym p.1.1) q.1)) (refl, j)
-
-    pub fold_up : ((x : ℕ) (a b : C) (f' : F) → x < n → J x a → Called g f (a, (x, tt)) b f' → J (x + 1) b × (f' ≡ f))
-        → (s : Range ℕ) (a r : C) → s ≡ record { start = 0; end = n } → J 0 a → FoldsItems nat_range_steps g s f a r → J n r
-    fold_up step s a r e j ran =
-        let K = fold_from 0 n (λ x v w f' _. step x v w f') s a r e j ran in
-        subst (λ (i : ℕ). J i r) (K.2 (omega arith)) K.3
-
     pub fold_down : ((x : ℕ) (a b : C) (f' : F) → x < n → J (x + 1) a → Called g f (a, (x, tt)) b f' → J x b × (f' ≡ f))
         → (s : Rev (Range ℕ)) (a r : C) → rev_source s ≡ record { start = 0; end = n } → J n a → FoldsItems (rev_steps down) g s f a r → J 0 r
     fold_down step s a r e j ran =

@@ -1,16 +1,17 @@
-use Rattle.std.proofs.Common.{rules, ◌≡◌, Bool, ℕ, ◌+◌, ◌<◌, ◌≤◌, ◌-◌, ◌*◌, length, ◌/◌, ◌%◌, true, false, nat_eq, nat_lt, List, [], ◌∷◌, ◌++◌, slice_index_or, slice_set, bit_and, bit_or, Fits, w8, w32, w64, Bor, MutBor}
-use Rattle.words.specs.Words.{words}
-use Rattle.rules.specs.Base.{all, any}
-use Rattle.states.specs.State.{most_elements}
-use Rattle.states.specs.Masks.{mask_of}
-use Rattle.sets.specs.Places.{concepts_at, rows_at}
-use Rattle.axiomtests.specs.Lists.{number_of, numbers_from, numbers_of, member_set, unlike_at, clash_at, clashes_at, Clashing, Members, SetsIn}
+use Rattle.std.proofs.Common.{◌≡◌, ◌+◌, ◌-◌, ap, ◌∙◌, arith}
 use Rattle.axiomtests.proofs.members.folded.Goals as goal
 
--- src/members.rt:65:5
-pub fold-requires-clause-callable : goal.fold-requires-clause-callable
-fold-requires-clause-callable g c = ?
+pub loop-j-init : goal.loop-j-init
+loop-j-init g c = λ h e s. e
 
--- src/members.rt:60:1
+pub loop-j-preserved : goal.loop-j-preserved
+loop-j-preserved g c =
+    let L = c.loop-j in
+    let q : L.j ≡ L.j - 1 + 1 = omega arith in
+    λ h e s. s (L.j - 1) L.found c.join-found.result (omega arith) (L.invariant h e s ∙ ap h q) (rw (← c.member.ensures) c.join-found.ensures)
+
 pub returns : goal.returns
-returns g c = ?
+returns g c =
+    let L = c.loop-j in
+    let q : L.j ≡ 0 = omega arith in
+    λ h e s. L.invariant h e s ∙ ap h q
