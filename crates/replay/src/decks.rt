@@ -1,15 +1,9 @@
 // The text of a deck.
-ghost use Rattle.std.specs.Prelude.{◌≤◌, length};
+ghost use Rattle.std.specs.Prelude.{unwrap_or, ◌≤◌, length};
 
-use crate::data;
+use crate::data::Reader;
 
-// How far the data is read, and where the text ends.
-#[derive(Clone, Copy)]
-pub struct Place {
-    pub at: usize,
-    pub end: usize,
-}
-
+// The cases' `end` is its twin: one of both in `rows` would need a contract there, longer than its body.
 fn put_byte(out: &mut [u8], end: usize, b: u8) -> usize {
     if out.len() <= end {
         return end;
@@ -18,69 +12,49 @@ fn put_byte(out: &mut [u8], end: usize, b: u8) -> usize {
     end + 1
 }
 
-// The next number.
-fn put_number(data: &[u8], out: &mut [u8], p: Place) -> Place {
-    let x = data::number(data, p.at);
-    Place {
-        at: x.at,
-        end: rows::put_field_if_room(out, p.end, x.value),
-    }
-}
-
 // The next byte, as it stands.
-fn put_raw(data: &[u8], out: &mut [u8], p: Place) -> Place {
-    Place {
-        at: p.at.saturating_add(1),
-        end: put_byte(out, p.end, data::raw(data, p.at)),
-    }
+fn put_raw(data: &mut Reader, out: &mut [u8], end: usize) -> Option<usize> {
+    let b = data.byte()?;
+    Some(put_byte(out, end, b))
 }
 
-// n steps, as far as there is data.
-fn each<F: Fn(&[u8], &mut [u8], Place) -> Place>(
-    data: &[u8],
+// The next number.
+fn put_number(data: &mut Reader, out: &mut [u8], end: usize) -> Option<usize> {
+    let x = data.number()?;
+    Some(rows::put_field_if_room(out, end, x))
+}
+
+// n steps. A loop: with try_fold the proof that its closure, which calls `step`, may be called at each turn didn't close.
+fn each<F: Fn(&mut Reader, &mut [u8], usize) -> Option<usize>>(
+    data: &mut Reader,
     n: u32,
     out: &mut [u8],
-    from: Place,
+    from: usize,
     step: F,
-) -> Place
+) -> Option<usize>
     requires { F.IsAlwaysCallable step }
 {
-    let mut p = from;
+    let mut end = from;
     for _ in 0..n {
-        if data.len() <= p.at {
-            break;
-        }
-        p = step(data, out, p);
+        end = step(data, out, end)?;
     }
-    p
+    Some(end)
 }
 
-fn put_line(data: &[u8], out: &mut [u8], p: Place) -> Place {
-    let x = data::number(data, p.at);
-    let n = x.value / 2;
-    let q = Place {
-        at: x.at,
-        end: p.end,
-    };
-    if x.value % 2 == 1 {
-        return each(data, n, out, q, put_raw);
+fn put_line(data: &mut Reader, out: &mut [u8], from: usize) -> Option<usize> {
+    let x = data.number()?;
+    if x % 2 == 1 {
+        return each(data, x / 2, out, from, put_raw);
     }
-    let r = each(data, n, out, q, put_number);
-    Place {
-        at: r.at,
-        end: put_byte(out, r.end, b'\n'),
-    }
+    let end = each(data, x / 2, out, from, put_number)?;
+    Some(put_byte(out, end, b'\n'))
 }
 
-// The deck whose lines begin at byte `at`, from byte 0 of `out` on; the text's end lies in `out`.
-pub fn put_deck(data: &[u8], at: usize, out: &mut [u8]) -> Place
-    ensures { result.end ≤ length out.new }
+// Where the text of the next deck ends, in `out`; none where the data has no whole deck.
+pub fn put_deck(data: &mut Reader, out: &mut [u8]) -> Option<usize>
+    ensures { unwrap_or result 0 ≤ length out.new }
 {
-    let x = data::number(data, at);
-    let from = Place { at: x.at, end: 0 };
-    let p = each(data, x.value, out, from, put_line);
-    Place {
-        at: p.at,
-        end: p.end.min(out.len()),
-    }
+    let n = data.number()?;
+    let end = each(data, n, out, 0, put_line)?;
+    Some(end.min(out.len()))
 }
