@@ -54,7 +54,7 @@ pub fn row_of(scratch: &[u8], c: u32) -> Row
     requires { Stands scratch.now c × (4 * axioms_at ≤ length scratch.now) }
     ensures { (result.size ≡ size_of (words scratch.now) (concept_at (words scratch.now) c)) × (result.vars ≡ vars_of (words scratch.now) (concept_at (words scratch.now) c)) }
 {
-    // By number, as the rules' concept_at goes: an enum would be made by a match over the same numbers.
+    // By the record's number, as pool's concept_at goes: read as an enum, a word that is none of the twelve would need an arm of its own here.
     match record::kind(scratch, c) {
         TOP | ATOMIC | NOMINAL => Row { size: 1, vars: 0 },
         AND => list_row(scratch, c, Joint::And),

@@ -128,7 +128,7 @@ pub fn write_one(scratch: &mut [u8], base: u32, at: usize, c: u32, v: u32, y: u3
     requires { Writable scratch.old base c × (hands_at ≤ 6 * at) }
     ensures { Wrote base (words scratch.old) c v y k at (words scratch.new) result }
 {
-    // By number, as the rules' concept_at goes: an enum would be made by a match over the same numbers.
+    // By the record's number, as pool's concept_at goes: read as an enum, a word that is none of the twelve would need an arm of its own here.
     match record::kind(scratch, c) {
         TOP => at,
         ATOMIC => {

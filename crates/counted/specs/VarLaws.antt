@@ -1,7 +1,8 @@
 -- The greatest variable of a run of atoms, by the last two words of each record. Assumes nothing.
-use Rattle.std.specs.Prelude.{◌≡◌, refl, Bool, true, false, max, ℕ, suc, ◌+◌, ◌*◌, ◌/◌, ◌<◌, ◌≤◌, ◌^◌, ltb, length, get_or, drop}
+use Rattle.std.specs.Prelude.{◌≡◌, refl, Bool, true, false, max, ℕ, zero, suc, ◌+◌, ◌*◌, ◌/◌, ◌<◌, ◌≤◌, ◌^◌, ltb, length, get_or, drop}
 use Rattle.std.proofs.Common.{sym, ◌∙◌, arith, ltb-true, ltb-false, le-ltb, drop_of_length-le, drop-cons}
 use Rattle.std.proofs.Math.Path.{ap}
+use Rattle.std.specs.List.{fold, range_with_len}
 use mathlib.Core.List.{List, ◌∷◌, ◌++◌}
 use Rattle.words.specs.Words.{words}
 use Rattle.ir.specs.Pick.{pick}
@@ -79,3 +80,14 @@ module _ (s : List ℕ) where
   -- the sum does not pass the last number
   pub vars_small : (i g : ℕ) → VarsAt s i g → length s / 24 ≤ i → VarsThere s → g + 1 < 2 ^ 32
   vars_small i g A h T = let e = vars_end i g A h T.atoms T.run in omega (arith, T.small, e)
+
+-- the greater of g and of the two last words of record i
+abbrev pub greater : List ℕ → ℕ → ℕ → ℕ
+greater w g i = max (max g (get_or w (6 * i + 4) 0)) (get_or w (6 * i + 5) 0)
+
+-- over n records from i on
+pub vars_fold : (s : List ℕ) (n i g : ℕ) → VarsAt s i g → i + n ≤ length s / 24 → VarsAt s (i + n) (fold (greater (words s)) g (range_with_len i n))
+vars_fold s zero i g A h = let e : i + 0 ≡ i = omega arith in rw e A
+vars_fold s (suc n) i g A h =
+    let e : i + suc n ≡ (i + 1) + n = omega arith in
+    rw e (vars_fold s n (i + 1) (greater (words s) g i) (vars_next s i g _ _ (greater (words s) g i) A (omega arith) refl refl refl) (omega arith))

@@ -35,12 +35,10 @@ fn next_var_of(run: &[u8]) -> u32
     ensures { (l : List Atom) → Run run.now l → result ≡ max_var 0 (atoms_vars l) + 1 }
 {
     // two words of each, whatever its kind
-    let mut greatest: u32 = 0;
-    for i in 0..run.len() / 24 {
-        let u = words::get_word(run, 6 * i + 4);
-        let v = words::get_word(run, 6 * i + 5);
-        greatest = greatest.max(u).max(v);
-    }
+    let greatest = (0..run.len() / 24).fold(0, |g: u32, i| {
+        g.max(words::get_word(run, 6 * i + 4))
+            .max(words::get_word(run, 6 * i + 5))
+    });
     greatest + 1
 }
 

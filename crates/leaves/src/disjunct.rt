@@ -107,7 +107,7 @@ pub fn disjunct_of(scratch: &[u8], k: Counters, c: u32, v: u32) -> Disjunct
     ensures value { (env : Env) → EnvIn env k (words scratch.now) → result ≡ disjunct_of env (pool_of (words scratch.now) k.concepts) v (concept_at (words scratch.now) c) }
     ensures disjunct_fits { DisjunctFits (concept_at (words scratch.now) c) result }
 {
-    // By number, as the rules' concept_at goes: an enum would be made by a match over the same numbers.
+    // By the record's number, as pool's concept_at goes: read as an enum, a word that is none of the twelve would need an arm of its own here.
     match concept::kind(scratch, c) {
         ATOMIC => Disjunct::Ready(Atom::Class(concept::number(scratch, c), v)),
         NOMINAL => Disjunct::Ready(Atom::Class(k.nominal_base + concept::number(scratch, c), v)),

@@ -86,7 +86,7 @@ pub fn leaf_of(scratch: &[u8], k: Counters, c: u32, v: u32) -> Leaf
     ensures value { (env : Env) → EnvIn env k (words scratch.now) → result ≡ leaf_of env (pool_of (words scratch.now) k.concepts) v (concept_at (words scratch.now) c) }
     ensures leaf_fits { LeafFits result }
 {
-    // By number, as the rules' concept_at goes: an enum would be made by a match over the same numbers.
+    // By the record's number, as pool's concept_at goes: read as an enum, a word that is none of the twelve would need an arm of its own here.
     match concept::kind(scratch, c) {
         BOT => Leaf::Empty,
         ATOMIC => Leaf::Head(Atom::Class(concept::number(scratch, c), v)),
