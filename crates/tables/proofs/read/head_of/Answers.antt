@@ -14,7 +14,7 @@ head_count-m-requires c = omega (arith, c.requires.is.row, length_words c.args.c
 
 pub part-requires : goal.part-requires
 part-requires c =
-    head_in_lem c.args.clauses.now c.args.atoms.now c.args.i c.requires.clause c.requires.is _ _ c.first_atom-first.ensures c.body_count-n.ensures _ c.head_count-m.ensures
+    omega (arith, head_in_lem c.args.clauses.now c.args.atoms.now c.args.i c.requires.clause c.requires.is _ _ c.first_atom-first.ensures c.body_count-n.ensures _ c.head_count-m.ensures)
 
 pub returns : goal.returns
 returns c =
