@@ -1,6 +1,8 @@
 // The cases' decks. Concept i is class i, as far as there are classes; the last class is the consequent.
 ghost use Rattle.std.specs.Prelude.{◌≤◌, length};
 
+// A line feed, where there is room. Replay's `put_byte` is its twin: one of both in `rows` would need a contract there, longer than
+// its body.
 fn end(out: &mut [u8], at: usize) -> usize {
     if out.len() <= at {
         return at;
@@ -122,6 +124,7 @@ fn unfolding(out: &mut [u8], before: u32, more: u32) -> usize
     lines(out, s, n + 13, n + 13 + more, |o, at, i| below(o, at, i, n))
 }
 
+// A case is its number, as document 01 numbers them: an enum would repeat the numbers as names.
 fn write(out: &mut [u8], case: u32) -> usize {
     match case {
         1 => or_of(out, 64),

@@ -133,7 +133,7 @@ fn unfolded(atoms: &[u8], k: Record, b: u32) -> Option<u32> {
     (12..15).find_map(|i| single(atoms, k, i, b))
 }
 
-// Clause c is what is due there.
+// Clause c is what is due there. (A case is its number, as in document 01.)
 fn is_due(atoms: &[u8], k: Record, case: u32, c: u32) -> bool
     requires { c ≤ 65536 }
 {

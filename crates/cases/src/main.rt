@@ -19,6 +19,7 @@ ghost use Rattle.std.specs.Prelude.{◌≤◌, length};
 use clausify::numbers::Numbers;
 use std::io;
 
+// What is printed, so that no refusal is 0 here too.
 #[derive(Clone, Copy, Default)]
 struct Row {
     refused: u32,
@@ -38,30 +39,32 @@ fn refused(number: u32) -> Row {
     }
 }
 
-fn accepted(clauses: &[u8], atoms: &[u8], deferrals: &[u8], case: u32, n: Numbers) -> Row {
+// What a run is lent, beside the deck.
+#[derive(Drop)]
+struct Space<'a> {
+    clauses: &'a mut [u8],
+    atoms: &'a mut [u8],
+    deferrals: &'a mut [u8],
+    scratch: &'a mut [u8],
+}
+
+fn accepted(s: &Space, case: u32, n: Numbers) -> Row {
     let mut met = [false; 5000];
     Row {
         refused: 0,
         clauses: n.stats.total,
-        due: forms::count(clauses, atoms, case, n.stats.total, &mut met),
+        due: forms::count(s.clauses, s.atoms, case, n.stats.total, &mut met),
         fresh: n.fresh_ids,
         deferrals: n.stats.deferred,
-        line: words::word_or_zero(deferrals, 0),
-        kind: words::word_or_zero(deferrals, 1),
+        line: words::word_or_zero(s.deferrals, 0),
+        kind: words::word_or_zero(s.deferrals, 1),
         decomposed: n.stats.decomposed,
     }
 }
 
-fn run_case(
-    case: u32,
-    deck: &[u8],
-    clauses: &mut [u8],
-    atoms: &mut [u8],
-    deferrals: &mut [u8],
-    scratch: &mut [u8],
-) -> Row {
-    match clausify::clausify_with_stats(deck, clauses, atoms, deferrals, scratch) {
-        Ok(n) => accepted(clauses, atoms, deferrals, case, n),
+fn run_case(case: u32, deck: &[u8], s: &mut Space) -> Row {
+    match clausify::clausify_with_stats(deck, s.clauses, s.atoms, s.deferrals, s.scratch) {
+        Ok(n) => accepted(s, case, n),
         Err(e) => refused(e.refusal.number()),
     }
 }
@@ -83,20 +86,13 @@ fn put_row(out: &mut [u8], at: usize, case: u32, w: Row) -> usize {
 }
 
 // The rows' bytes.
-fn run_cases(
-    deck: &mut [u8],
-    clauses: &mut [u8],
-    atoms: &mut [u8],
-    deferrals: &mut [u8],
-    scratch: &mut [u8],
-    out: &mut [u8],
-) -> usize
+fn run_cases(deck: &mut [u8], s: &mut Space, out: &mut [u8]) -> usize
     ensures { result ≤ length out.new }
 {
     let mut p: usize = 0;
     for case in 1..10 {
         let n = decks::deck(deck, case);
-        let w = run_case(case, &deck[..n], clauses, atoms, deferrals, scratch);
+        let w = run_case(case, &deck[..n], s);
         p = put_row(out, p, case, w);
     }
     p.min(out.len())
@@ -110,13 +106,12 @@ fn main(rt: HostRuntime) -> io::Result<()> {
     let mut deferrals = streams::zeros::<128>();
     let mut scratch = streams::zeros::<1572864>();
     let mut out = streams::zeros::<1200>();
-    let n = run_cases(
-        &mut deck,
-        &mut clauses,
-        &mut atoms,
-        &mut deferrals,
-        &mut scratch,
-        &mut out,
-    );
+    let mut space = Space {
+        clauses: &mut clauses,
+        atoms: &mut atoms,
+        deferrals: &mut deferrals,
+        scratch: &mut scratch,
+    };
+    let n = run_cases(&mut deck, &mut space, &mut out);
     rt.write_all(&out[..n])
 }
