@@ -65,7 +65,8 @@ pub fn encode_antecedent(
     ensures { Counts (words scratch.now) k.old c (encoded k.new result) }
 {
     k.visit()?;
-    // By the record's number, as pool's concept_at goes: read as an enum, a word that is none of the twelve would need an arm of its own here.
+    // By the record's number, as pool's concept_at goes: read as an enum, a word that is none of the twelve would need an arm of its own
+    // here.
     match record::kind(scratch, c) {
         layout::TOP => Ok(Some(TOP)),
         layout::ATOMIC | layout::NOMINAL => Ok(Some(CLASS)),

@@ -1,4 +1,5 @@
 // clause.rs: encode_antecedent, without lists of lists.
+// A concept and a variable stay two numbers, as the rules have them; so do the variable, the next one and an alternative's number.
 // Clauses that repeat stay clauses: each function asks for the length that it reads; `Good` and `Ready` are about one moment of what is
 // lent; a type with a number's bound would be made at each read and opened at each use.
 #![tactic(auto)]

@@ -91,7 +91,7 @@ pub fn put_under(a: Alternatives) -> Result<Alternatives, Refusal>
     })
 }
 
-// Of alternatives, up to 64; more are 65: the rules' own number for too many.
+// Of alternatives, up to 64, the rules' cap; more are 65, and no None: the table keeps a number, which the next join takes again.
 pub fn join_size(joint: Joint, a: u32, n: u32) -> u32
     ensures { result ≡ join_size (is_conj joint) a n }
 {

@@ -33,7 +33,7 @@ pub fn get_row(scratch: &[u8], c: u32) -> Row
     Row { size, vars }
 }
 
-// The row of c's list.
+// The row of c's list. A loop: a fold would make a row at each turn and open it at the next.
 fn list_row(scratch: &[u8], c: u32, joint: Joint) -> Row
     requires { (c < most_concepts) × (4 * axioms_at ≤ length scratch.now) × HasList (words scratch.now) c }
     ensures { (result.size ≡ size_all (words scratch.now) (is_conj joint) (list_in (words scratch.now) c) (first_of (is_conj joint))) × (result.vars ≡ vars_all (words scratch.now) (list_in (words scratch.now) c) 0) }
@@ -54,7 +54,8 @@ pub fn row_of(scratch: &[u8], c: u32) -> Row
     requires { Stands scratch.now c × (4 * axioms_at ≤ length scratch.now) }
     ensures { (result.size ≡ size_of (words scratch.now) (concept_at (words scratch.now) c)) × (result.vars ≡ vars_of (words scratch.now) (concept_at (words scratch.now) c)) }
 {
-    // By the record's number, as pool's concept_at goes: read as an enum, a word that is none of the twelve would need an arm of its own here.
+    // By the record's number, as pool's concept_at goes: read as an enum, a word that is none of the twelve would need an arm of its own
+    // here.
     match record::kind(scratch, c) {
         TOP | ATOMIC | NOMINAL => Row { size: 1, vars: 0 },
         AND => list_row(scratch, c, Joint::And),

@@ -1,5 +1,7 @@
 // One alternative of an antecedent, written as records of atoms.
 // The bound of a number that is read from a word stays a clause: a type with it would be made at each read, to be taken apart again.
+// `Fits` of an atom stays a clause: an enum holds no ghost field.
+// A concept and a variable stay two numbers, as the rules have them; so do the variable, the next one and an alternative's number.
 // Clauses that repeat stay clauses: each function asks for the length that it reads; `HasList` is about one moment of what is lent.
 ghost use Rattle.std.specs.Prelude.{◌≡◌, ◌+◌, ◌*◌, ◌≤◌, ◌<◌, length, get_or};
 ghost use Rattle.words.specs.Words.{words};
@@ -128,7 +130,8 @@ pub fn write_one(scratch: &mut [u8], base: u32, at: usize, c: u32, v: u32, y: u3
     requires { Writable scratch.old base c × (hands_at ≤ 6 * at) }
     ensures { Wrote base (words scratch.old) c v y k at (words scratch.new) result }
 {
-    // By the record's number, as pool's concept_at goes: read as an enum, a word that is none of the twelve would need an arm of its own here.
+    // By the record's number, as pool's concept_at goes: read as an enum, a word that is none of the twelve would need an arm of its own
+    // here.
     match record::kind(scratch, c) {
         TOP => at,
         ATOMIC => {

@@ -1,6 +1,8 @@
 // What is emitted for each alternative of an antecedent, one alternative in hand at a time.
 // What never defers has two of the tables and the counters: with all of them it would say again what it leaves alone.
 // The bound of a number that is read from a word stays a clause: a type with it would be made at each read, to be taken apart again.
+// A concept, the number of its alternatives and their first variable stay three numbers, as `Sourced` has them: a struct would be made at each
+// call and opened at each use.
 // Clauses that repeat stay clauses: each function asks for the length that it reads; `Encoding` and `Good` are about one moment of what is
 // lent.
 ghost use Rattle.std.specs.Prelude.{◌≡◌, List, ℕ, ◌+◌, ◌*◌, ◌<◌, ◌≤◌, ◌^◌, length};

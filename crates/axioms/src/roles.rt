@@ -23,7 +23,8 @@ use ir::record;
 use ir::refusal::Refusal;
 use ir::role::Role;
 
-// The canonical form of a role's code.
+// The canonical form of a role's code. Beside canon_role, whose one call it is: it says so in the rules' `canon` of an environment, for all
+// the calls of this crate.
 pub fn canon(scratch: &[u8], code: u32) -> Role
     requires { (code < 2 * most_roles) × (in_hand_bytes ≤ length scratch.now) }
     ensures value { (env : Env) (k : Counters) → EnvIn env k (words scratch.now) → result ≡ canon env (role_of code) }

@@ -30,7 +30,7 @@ struct Line {
     count: u32,
 }
 
-// The arms over classes, 21 to 26: by number, as the rules' row_axiom goes; an enum would be made by a match over the same numbers.
+// The arms over classes, 21 to 26: by number, as ontology's row_axiom goes; an enum would be made by a match over the same numbers.
 fn clausify_classes(lent: &mut Tables<'_>, scratch: &mut [u8], line: Line) -> Result<(), Refusal>
     requires { Clausifying scratch.old lent.old.counters × Row (words scratch.old) lent.old.counters line.kind line.at line.count × (line.kind < 27) }
     ensures references { SameReferences lent.old lent.new }

@@ -27,7 +27,7 @@ fn names_limits(scratch: &[u8], k: Counters, i: u32) -> bool
     if !options::equal_names(k.options) {
         return false;
     }
-    // By number, as the rules' row_axiom goes: an enum would be made by a match over the same numbers.
+    // By number, as ontology's row_axiom goes: an enum would be made by a match over the same numbers.
     match numbers::number(scratch, i, 0) {
         21 | 22 | 25 | 26 => true,
         _ => false,

@@ -1,6 +1,6 @@
 // The body of one clause, named where it is wide.
-// Clauses that repeat stay clauses: each function asks for the length that it reads; `NamedThere` is about one moment of what is lent; a
-// type with a number's bound would be made at each read and opened at each use.
+// Clauses that repeat stay clauses: each function asks for the length that it reads; `NamedThere` is about one moment of what is lent; the
+// bounds of `Naming`, which is handed on whole, stay clauses: a ghost field would ask more of functions that have no such clause.
 ghost use Rattle.std.specs.Prelude.{◌≡◌, not, List, ℕ, ◌+◌, ◌*◌, ◌<◌, ◌≤◌, length};
 ghost use Rattle.words.specs.Words.{words};
 ghost use Rattle.ir.specs.declared.atom.Atom.{Atom};

@@ -1,9 +1,9 @@
 // Clauses at their new places in the tables, and the named branches behind them. Atoms that move within the atom table are told
 // by number: no part of it can be lent while it is written. (The tables stay apart: each function has two of them at most, and with all
 // four it would say again what it leaves alone.)
-// Clauses that repeat stay clauses: each function asks for the length that it reads; `NamedThere` is about one moment of what is lent; a
-// type with a number's bound would be made at each read and opened at each use; tables that are read are no `Tables`. A run stays its
-// first word and its count, as in the definitions.
+// Clauses that repeat stay clauses: each function asks for the length that it reads; `NamedThere` is about one moment of what is lent; the
+// bounds of `Naming`, which is handed on whole, stay clauses: a ghost field would ask more of functions that have no such clause; tables that
+// are read are no `Tables`. A run stays its first word and its count, as in the definitions.
 ghost use Rattle.std.specs.Prelude.{◌≡◌, List, [], ◌∷◌, ◌++◌, map, ◌+◌, ◌*◌, ◌<◌, ◌≤◌, length, take, drop};
 ghost use Rattle.std.proofs.lemmas.List.Edits.{sets};
 ghost use Rattle.words.specs.Words.{words};

@@ -1,7 +1,8 @@
 // Bodies and heads in hand: atoms of scratch, one after the other; a clause is one run of them.
 // They are told by their first record and their number, two numbers, as `Did` has them.
-// Who never defers takes two tables and the counters: `Tables` asks that the deferrals fit too, and a struct of the three inside it
-// cannot be lent beside `deferrals`.
+// Who never defers takes two tables and the counters: `Tables` asks that the deferrals fit too, and a struct of the two tables would leave the
+// counters beside it, so that one parameter of three goes and each clause says one name more.
+// `Fits` of an atom stays a clause: an enum holds no ghost field.
 // Clauses that repeat stay clauses: each function asks for the length that it reads; `Good` is about one moment of what is lent; a type
 // with a number's bound would be made at each read and opened at each use.
 #![tactic(auto)]

@@ -1,5 +1,6 @@
 // emit_head, head_atom_for and atomic_name_of, which call each other: the pair of a concept's id and a rank falls.
 // Atoms in hand are told by their first record and their number, two numbers, as `Did` has them.
+// A concept and a variable stay two numbers, as the rules have them.
 // Clauses that repeat stay clauses: `Emitting` and `Restricts` are about one moment of what is lent.
 ghost use Rattle.std.specs.Prelude.{◌≡◌, List, ℕ, suc, ◌+◌, ◌≤◌, length};
 ghost use Rattle.std.proofs.Math.Option.{Option, none};

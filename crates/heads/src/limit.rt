@@ -21,7 +21,8 @@ fn named_anew(scratch: &[u8], k: Counters, d: u32) -> bool
     requires { Reading scratch.now k × (d < k.concepts) }
     ensures { result ≡ anew (concept_at (words scratch.now) d) }
 {
-    // By the record's number, as pool's concept_at goes: read as an enum, a word that is none of the twelve would need an arm of its own here.
+    // By the record's number, as pool's concept_at goes: read as an enum, a word that is none of the twelve would need an arm of its own
+    // here.
     match concept::kind(scratch, d) {
         TOP | ATOMIC | NOMINAL => false,
         _ => true,

@@ -1,5 +1,6 @@
 // clausify_gci: sub is below sup.
 // The bound of a number that is read from a word stays a clause: a type with it would be made at each read, to be taken apart again.
+// `sub` and `sup` stay two numbers: the Rust's own two names, and absorb changes the one and keeps the other.
 // Clauses that repeat stay clauses: `Clausifying` is about one moment of what is lent.
 ghost use Rattle.std.specs.Prelude.{◌≡◌, ◌<◌, length};
 ghost use Rattle.words.specs.Words.{words};

@@ -1,5 +1,6 @@
 // The conjuncts of a hard antecedent, and the concepts that are made of them.
 // The bound of a number that is read from a word stays a clause: a type with it would be made at each read, to be taken apart again.
+// `sub` and `sup` stay two numbers: the Rust's own two names, and absorb changes the one and keeps the other.
 // Clauses that repeat stay clauses: each function asks for the length that it reads; `Good` and `Reading` are about one moment of what is
 // lent.
 ghost use Rattle.std.specs.Prelude.{◌≡◌, [], ◌+◌, ◌≤◌, ◌<◌, length, take};

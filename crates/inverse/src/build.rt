@@ -15,7 +15,8 @@ use ir::role::Role;
 use ir::scratch::ROLES;
 use ontology::axiom;
 
-// The deck's number of an axiom of two inverse roles.
+// The deck's number of an axiom of two inverse roles: a constant, as ontology's row_axiom goes by number; an enum would be made by a match over
+// all the numbers, to tell the one.
 const INVERSE: u32 = 32;
 
 // Whether role r is a key: it is mapped to an inverse.

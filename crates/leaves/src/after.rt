@@ -2,6 +2,7 @@
 // Atoms in hand are told by their first record and their number, two numbers, as `Did` has them.
 // What never defers has two of the tables and the counters: with all of them it would say again what it leaves alone.
 // The bound of a number that is read from a word stays a clause: a type with it would be made at each read, to be taken apart again.
+// A concept and a variable stay two numbers, as the rules have them.
 // Clauses that repeat stay clauses: each function asks for the length that it reads; `Good`, `Reading` and `Restricts` are about one
 // moment of what is lent.
 ghost use Rattle.std.specs.Prelude.{◌≡◌, List, ℕ, ◌+◌, ◌*◌, ◌<◌, ◌≤◌, ◌^◌, length};

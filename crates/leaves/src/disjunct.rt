@@ -1,6 +1,8 @@
 // head_atom_for before anything is named.
 // What never defers has two of the tables and the counters: with all of them it would say again what it leaves alone.
 // The bound of a number that is read from a word stays a clause: a type with it would be made at each read, to be taken apart again.
+// `Fits` of an atom stays a clause: an enum holds no ghost field.
+// A concept and a variable stay two numbers, as the rules have them.
 // Clauses that repeat stay clauses: `Good`, `Reading` and `Restricts` are about one moment of what is lent.
 ghost use Rattle.std.specs.Prelude.{◌≡◌, [], List, ℕ, ◌+◌, ◌*◌, ◌<◌, ◌≤◌, ◌^◌, length, IfSome};
 ghost use Rattle.words.specs.Words.{words};
@@ -107,7 +109,8 @@ pub fn disjunct_of(scratch: &[u8], k: Counters, c: u32, v: u32) -> Disjunct
     ensures value { (env : Env) → EnvIn env k (words scratch.now) → result ≡ disjunct_of env (pool_of (words scratch.now) k.concepts) v (concept_at (words scratch.now) c) }
     ensures disjunct_fits { DisjunctFits (concept_at (words scratch.now) c) result }
 {
-    // By the record's number, as pool's concept_at goes: read as an enum, a word that is none of the twelve would need an arm of its own here.
+    // By the record's number, as pool's concept_at goes: read as an enum, a word that is none of the twelve would need an arm of its own
+    // here.
     match concept::kind(scratch, c) {
         ATOMIC => Disjunct::Ready(Atom::Class(concept::number(scratch, c), v)),
         NOMINAL => Disjunct::Ready(Atom::Class(k.nominal_base + concept::number(scratch, c), v)),

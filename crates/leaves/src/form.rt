@@ -25,7 +25,8 @@ pub fn form_of(scratch: &[u8], k: Counters, c: u32) -> Form
     requires { Reading scratch.now k × (c < k.concepts) }
     ensures { result ≡ form_of (pool_of (words scratch.now) k.concepts) (concept_at (words scratch.now) c) }
 {
-    // By the record's number, as pool's concept_at goes: read as an enum, a word that is none of the twelve would need an arm of its own here.
+    // By the record's number, as pool's concept_at goes: read as an enum, a word that is none of the twelve would need an arm of its own
+    // here.
     match record::kind(scratch, c) {
         0..=NOT => Form::Leaf,
         AND => Form::And,

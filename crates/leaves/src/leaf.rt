@@ -1,6 +1,8 @@
 // emit_head where nothing is named.
 // Atoms in hand are told by their first record and their number, two numbers, as `Did` has them.
 // The bound of a number that is read from a word stays a clause: a type with it would be made at each read, to be taken apart again.
+// `Fits` of an atom stays a clause: an enum holds no ghost field.
+// A concept and a variable stay two numbers, as the rules have them.
 // Clauses that repeat stay clauses: each function asks for the length that it reads; `Good` and `Reading` are about one moment of what is
 // lent.
 ghost use Rattle.std.specs.Prelude.{◌≡◌, [], ◌+◌, ◌*◌, ◌<◌, ◌≤◌, length, IfSome};
@@ -86,7 +88,8 @@ pub fn leaf_of(scratch: &[u8], k: Counters, c: u32, v: u32) -> Leaf
     ensures value { (env : Env) → EnvIn env k (words scratch.now) → result ≡ leaf_of env (pool_of (words scratch.now) k.concepts) v (concept_at (words scratch.now) c) }
     ensures leaf_fits { LeafFits result }
 {
-    // By the record's number, as pool's concept_at goes: read as an enum, a word that is none of the twelve would need an arm of its own here.
+    // By the record's number, as pool's concept_at goes: read as an enum, a word that is none of the twelve would need an arm of its own
+    // here.
     match concept::kind(scratch, c) {
         BOT => Leaf::Empty,
         ATOMIC => Leaf::Head(Atom::Class(concept::number(scratch, c), v)),

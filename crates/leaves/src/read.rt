@@ -38,7 +38,8 @@ pub fn class_id_of(scratch: &[u8], k: Counters, c: u32) -> Option<u32>
     ensures result_value { (env : Env) → EnvIn env k (words scratch.now) → option_in result ≡ class_id_of env (concept_at (words scratch.now) c) }
     ensures small_class { IfSome result (λ a. a < most_names) }
 {
-    // By the record's number, as pool's concept_at goes: read as an enum, a word that is none of the twelve would need an arm of its own here.
+    // By the record's number, as pool's concept_at goes: read as an enum, a word that is none of the twelve would need an arm of its own
+    // here.
     match record::kind(scratch, c) {
         ATOMIC => Some(record::number(scratch, c)),
         NOMINAL => Some(k.nominal_base + record::number(scratch, c)),

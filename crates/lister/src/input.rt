@@ -10,7 +10,8 @@ ghost use Rattle.lister.specs.Text.{most_text};
 
 use crate::lines;
 
-// The first n bytes of the space were read. The space takes more than a deck may have, so they decide the whole input's listing.
+// The first n bytes of the space were read. The space takes more than a deck may have, so they decide the whole input's listing. Both, and no
+// slice of these bytes: that the input ended is told by the space's length.
 pub fn list_input(
     space: &[u8],
     n: usize,

@@ -44,8 +44,8 @@ fn equivalent_to(
     Ok(())
 }
 
-// Of the `count` words from `at` on. It and disjoint_roles differ in what they call and say: one function would take that as a closure over the
-// lent tables, with a contract of its own.
+// Of the `count` words from `at` on. It, disjoint and disjoint_roles differ in what they call and say, and so do disjoint_with and
+// disjoint_roles_with: one function would take that as a closure over the lent tables, with a contract of its own.
 pub fn equivalent(
     lent: &mut Tables<'_>,
     scratch: &mut [u8],

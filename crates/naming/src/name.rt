@@ -1,7 +1,8 @@
 // name_branches: each child of the root, with what is below it, becomes one class atom on the root. (`root`, `t` and `keep` stay apart:
 // each step of the recursion takes other ones of them, and changes one.)
 // Clauses that repeat stay clauses: each function asks for the length that it reads; `NamedThere` and `TameThere` are about one moment of
-// what is lent; a type with a number's bound would be made at each read and opened at each use.
+// what is lent; the bounds of `Atoms` and `Naming`, which are handed on whole, stay clauses: a ghost field would ask more of functions that have
+// no such clause.
 ghost use Rattle.std.specs.Prelude.{List, ◌++◌, ℕ, ◌+◌, ◌*◌, ◌<◌, ◌≤◌, length};
 ghost use Rattle.words.specs.Words.{words};
 ghost use Rattle.ir.specs.declared.atom.Atom.{Atom};
@@ -165,6 +166,7 @@ pub fn name_branches(
     let Some(n) = tree::tree(scratch, atoms, root) else {
         return Ok(None);
     };
+    // lent, not handed back: it would stand twice in each turn of the recursion, whose stack is what ENTRIES promises
     let mut children = Children {
         each: [Child { top: 0, count: 0 }; 256],
         len: 0,

@@ -18,7 +18,8 @@ use ontology::axiom;
 
 pub const FLAGS: usize = ROLES + 1024;
 
-// The deck's numbers of three kinds of axioms: a role below another, equivalent roles, a reflexive role.
+// The deck's numbers of three kinds of axioms: a role below another, equivalent roles, a reflexive role. Constants, as ontology's row_axiom
+// goes by number: an enum would be made by a match over all the numbers, to tell the three.
 const SUB_ROLE: u32 = 33;
 
 const EQUIVALENT: u32 = 34;
