@@ -65,7 +65,7 @@ pub fn put_state(
     put_sums(out, q, k)
 }
 
-// A refusal, in this program's own text: one line, as in normalforms.
+// A refusal, in three programs, as in normalforms and lister: one line, whose length each bounds by its own longest text.
 pub fn put_refusal(out: &mut [u8], e: Refused) -> usize
     requires { most_text ≤ length out.old }
     ensures put { Put out.old 0 (refusal_text (refusal_number e.refusal) e.line) out.new result }

@@ -1,4 +1,6 @@
 // The text of a deck's normal form.
+// Both functions match: one between, with `?`, would say in its contract what scratch holds and what the text will be, of an Ok and of an Err, which
+// each has now as its one promise.
 // Clauses that repeat stay clauses: each function asks for the length that it reads; `NormalizingAxioms` is about one moment of what is
 // lent.
 ghost use Rattle.std.specs.Prelude.{◌*◌, ◌≤◌, length};

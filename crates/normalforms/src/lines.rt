@@ -100,7 +100,7 @@ pub fn put_normal(scratch: &[u8], k: Counters, n: u32, out: &mut [u8]) -> usize
     rows::put_line(out, q, &[44, k.visits, k.concepts, k.members])
 }
 
-// A refusal, in this program's own text: one line, as in clauses.
+// A refusal, in three programs, as in clauses and lister: one line, whose length each bounds by its own longest text.
 pub fn put_refusal(out: &mut [u8], e: Refused) -> usize
     requires { most_text ≤ length out.old }
     ensures put { Put out.old 0 (refusal_text (refusal_number e.refusal) e.line) out.new result }
