@@ -17,13 +17,12 @@ use Rattle.rules.specs.Deck.{most_classes, most_individuals, most_roles}
 use Rattle.rules.specs.Inverse.{InverseCanon, canon_role}
 use Rattle.rules.specs.Invariants.{Bounds, Wf}
 use Rattle.rules.specs.Pool.{Pool}
-use Rattle.pool.specs.Layout.{members_at, field, pool_of}
+use Rattle.pool.specs.Layout.{members_at, field, pool_of, run}
 use Rattle.pool.specs.Held.{Held}
 use Rattle.inverse.specs.Layout.{RolesHeld}
 use Rattle.tables.specs.Good.{most_names}
 use Rattle.antecedents.specs.declared.write.Chosen.{Chosen}
 use Rattle.antecedents.specs.declared.write.Part.{Part}
-use Rattle.antecedents.specs.Stands.{list_in}
 use Rattle.antecedents.specs.States.{Fine}
 use Rattle.antecedents.specs.Table.{size_in, vars_in, plus_vars}
 use Rattle.antecedents.specs.Picks.{pick_and, pick_alt, put_at, write_on}
