@@ -51,25 +51,25 @@ fn run_deck(deck: &[u8], data: &mut Reader, sums: Sums, s: &mut Space) -> Sums {
 }
 
 // The next deck and its answer.
-fn run_part(data: &mut Reader, sums: Sums, deck: &mut [u8], s: &mut Space) -> Option<Sums> {
+fn run_part(data: &mut Reader, sums: &mut Sums, deck: &mut [u8], s: &mut Space) -> Option<()> {
     let bytes = data.number()?;
     let mut part = data.part(bytes as usize)?;
     let n = decks::put_deck(&mut part, deck)?;
-    Some(run_deck(&deck[..n], &mut part, sums, s))
+    *sums = run_deck(&deck[..n], &mut part, *sums, s);
+    Some(())
 }
 
-fn run_decks(data: &mut Reader, deck: &mut [u8], s: &mut Space) -> Option<Sums> {
+fn run_decks(data: &mut Reader, sums: &mut Sums, deck: &mut [u8], s: &mut Space) -> Option<()> {
     let n = data.number()?;
-    (0..n).try_fold(Sums::default(), |sums, _| run_part(data, sums, deck, s))
+    (0..n).try_for_each(|_| run_part(data, sums, deck, s))
 }
 
-// Data that is no such decks makes a difference.
+// It ends at data that is no deck, which makes a difference.
 fn run_data(data: &[u8], deck: &mut [u8], s: &mut Space) -> Sums {
     let mut reader = Reader::new(data);
-    match run_decks(&mut reader, deck, s) {
-        Some(sums) => sums.end(reader.is_at_end() && answer::is_clear(s.scratch, 0)),
-        None => Sums::default().end(false),
-    }
+    let mut sums = Sums::default();
+    let is_whole = run_decks(&mut reader, &mut sums, deck, s).is_some();
+    sums.end(is_whole && reader.is_at_end() && answer::is_clear(s.scratch, 0))
 }
 
 fn main(rt: HostRuntime) -> io::Result<()> {
