@@ -1,124 +1,157 @@
-// A reply and its tables beside what the data has.
-use crate::data::Reader;
+// A reply and its tables beside what the data has. The tables stay each by itself, as clausify's entries take them: a struct would be
+// taken apart at its one call.
+use crate::data;
 use clausify::numbers::Numbers;
 use ir::answer::Refused;
 use std::num;
 use tables::read;
-
-// What a run is lent, beside the deck.
-#[derive(Drop)]
-pub struct Space<'a> {
-    pub clauses: &'a mut [u8],
-    pub atoms: &'a mut [u8],
-    pub deferrals: &'a mut [u8],
-    pub scratch: &'a mut [u8],
-}
 
 // Zeros from word `from` on.
 pub fn is_clear(t: &[u8], from: usize) -> bool {
     (from..t.len() / 4).all(|i| words::get_word(t, i) == 0)
 }
 
-// The ten numbers of line 43.
-fn meet_numbers(data: &mut Reader, n: Numbers) -> Option<()> {
-    let numbers = [
-        n.stats.total,
-        n.stats.horn,
-        n.stats.disjunctive,
-        n.stats.bottom_headed,
-        n.stats.with_exists_head,
-        n.stats.deferred,
-        n.stats.decomposed,
-        n.stats.refused,
-        n.fresh_ids,
-        n.visits,
-    ];
-    data.meet_all(&numbers)
+// Where the next number ends, if it is w.
+fn meet(data: &[u8], at: usize, w: u32) -> Option<usize> {
+    let x = data::number(data, at);
+    (x.value == w).then_some(x.at)
 }
 
-// Clause i's record, whose run begins at atom `first`, and where the next one's does; it is not met where the table has none.
-fn meet_clause(data: &mut Reader, clauses: &[u8], i: u32, first: u32) -> Option<u32> {
-    if read::clause_room(clauses) <= i as usize || read::first_atom(clauses, i) != first {
+// Where the next numbers end, if they are these.
+fn meet_all(data: &[u8], from: usize, numbers: &[u32]) -> Option<usize> {
+    numbers.iter().try_fold(from, |at, w| meet(data, at, *w))
+}
+
+// The ten numbers of line 43.
+fn meet_numbers(data: &[u8], at: usize, n: Numbers) -> Option<usize> {
+    meet_all(data, at, &n.words())
+}
+
+// How far the data is met, and the atom where the next clause's run begins.
+#[derive(Clone, Copy)]
+struct Walk {
+    at: usize,
+    first: u32,
+}
+
+// Clause i's record, which is not met where the table has none.
+fn meet_clause(data: &[u8], clauses: &[u8], i: u32, w: Walk) -> Option<Walk> {
+    if read::clause_room(clauses) <= i as usize || read::first_atom(clauses, i) != w.first {
         return None;
     }
     let body = read::body_count(clauses, i);
     let head = read::head_count(clauses, i);
-    data.meet_all(&[body, head])?;
-    Some(num::wrapping_add_u32(num::wrapping_add_u32(first, body), head))
+    let at = meet_all(data, w.at, &[body, head])?;
+    let first = num::wrapping_add_u32(num::wrapping_add_u32(w.first, body), head);
+    Some(Walk { at, first })
 }
 
-// How many atoms n clauses have.
-fn meet_clauses(data: &mut Reader, clauses: &[u8], n: u32) -> Option<u32> {
-    (0..n).try_fold(0, |first, i| meet_clause(data, clauses, i, first))
-}
-
-// A word of an atom: it is not stored where it is 0.
-fn meet_word(data: &mut Reader, stored: bool, w: u32) -> Option<()> {
-    if stored {
-        return data.meet(w);
-    }
-    (w == 0).then_some(())
-}
-
-// Atom k's record: its kind, and a bit for each other word that is stored.
-fn meet_atom(data: &mut Reader, atoms: &[u8], k: u32) -> Option<()> {
-    let x = data.number()?;
-    let start = 6 * (k as usize);
-    if x / 32 != words::word_or_zero(atoms, start) {
-        return None;
-    }
-    (0..5).try_for_each(|j| {
-        let stored = (x >> j) % 2 == 1;
-        meet_word(data, stored, words::word_or_zero(atoms, start + 1 + j))
+fn meet_clauses(data: &[u8], clauses: &[u8], n: u32, at: usize) -> Option<Walk> {
+    (0..n).try_fold(Walk { at, first: 0 }, |w, i| {
+        meet_clause(data, clauses, i, w)
     })
 }
 
-fn meet_atoms(data: &mut Reader, atoms: &[u8], n: u32) -> Option<()> {
-    (0..n).try_for_each(|k| meet_atom(data, atoms, k))
+// A word of an atom: it is not stored where it is 0.
+fn meet_word(data: &[u8], at: usize, stored: bool, w: u32) -> Option<usize> {
+    if stored {
+        return meet(data, at, w);
+    }
+    (w == 0).then_some(at)
+}
+
+// Atom k's record: its kind, and a bit for each other word that is stored.
+fn meet_atom(data: &[u8], atoms: &[u8], k: u32, from: usize) -> Option<usize> {
+    let x = data::number(data, from);
+    let start = 6 * (k as usize);
+    if x.value / 32 != words::word_or_zero(atoms, start) {
+        return None;
+    }
+    let mut at = x.at;
+    let mut bits = x.value % 32;
+    for j in 1..6 {
+        at = meet_word(
+            data,
+            at,
+            bits % 2 == 1,
+            words::word_or_zero(atoms, start + j),
+        )?;
+        bits /= 2;
+    }
+    Some(at)
+}
+
+fn meet_atoms(data: &[u8], atoms: &[u8], n: u32, from: usize) -> Option<usize> {
+    (0..n).try_fold(from, |at, k| meet_atom(data, atoms, k, at))
 }
 
 // Deferral i's record, likewise.
-fn meet_deferral(data: &mut Reader, deferrals: &[u8], i: u32) -> Option<()> {
+fn meet_deferral(data: &[u8], deferrals: &[u8], i: u32, at: usize) -> Option<usize> {
     if read::deferral_room(deferrals) <= i as usize {
         return None;
     }
     let line = read::deferral_line(deferrals, i);
     let kind = read::deferral_kind(deferrals, i);
-    data.meet_all(&[line, kind])
+    meet_all(data, at, &[line, kind])
 }
 
-fn meet_deferrals(data: &mut Reader, deferrals: &[u8], n: u32) -> Option<()> {
-    (0..n).try_for_each(|i| meet_deferral(data, deferrals, i))
+fn meet_deferrals(data: &[u8], deferrals: &[u8], n: u32, from: usize) -> Option<usize> {
+    (0..n).try_fold(from, |at, i| meet_deferral(data, deferrals, i, at))
 }
 
-// The numbers and records of an accepted deck; how many atoms there are.
-fn meet_accepted(data: &mut Reader, n: Numbers, s: &Space) -> Option<u32> {
-    data.meet(0)?;
-    meet_numbers(data, n)?;
-    let atoms = meet_clauses(data, s.clauses, n.stats.total)?;
-    meet_atoms(data, s.atoms, atoms)?;
-    meet_deferrals(data, s.deferrals, n.stats.deferred)?;
-    Some(atoms)
+// The numbers and records of an accepted deck: where they end, and how many atoms there are.
+fn meet_accepted(
+    data: &[u8],
+    at: usize,
+    n: Numbers,
+    clauses: &[u8],
+    atoms: &[u8],
+    deferrals: &[u8],
+) -> Option<Walk> {
+    let a = meet(data, at, 0)?;
+    let b = meet_numbers(data, a, n)?;
+    let w = meet_clauses(data, clauses, n.stats.total, b)?;
+    let c = meet_atoms(data, atoms, w.first, w.at)?;
+    let d = meet_deferrals(data, deferrals, n.stats.deferred, c)?;
+    Some(Walk {
+        at: d,
+        first: w.first,
+    })
 }
 
-// The rest of the data says that the deck is accepted with these numbers and records; behind them the tables are zeros.
-pub fn is_accepted(data: &mut Reader, n: Numbers, s: &Space) -> bool {
-    match meet_accepted(data, n, s) {
-        Some(atoms) => {
-            data.is_at_end()
-                && is_clear(s.clauses, read::CLAUSE * (n.stats.total as usize))
-                && is_clear(s.atoms, 6 * (atoms as usize))
-                && is_clear(s.deferrals, read::DEFERRAL * (n.stats.deferred as usize))
+// The data from `at` to `end` says that the deck is accepted with these numbers and records; behind them the tables are zeros.
+pub fn is_accepted(
+    data: &[u8],
+    at: usize,
+    end: usize,
+    n: Numbers,
+    clauses: &[u8],
+    atoms: &[u8],
+    deferrals: &[u8],
+) -> bool {
+    match meet_accepted(data, at, n, clauses, atoms, deferrals) {
+        Some(w) => {
+            w.at == end
+                && is_clear(clauses, read::CLAUSE * (n.stats.total as usize))
+                && is_clear(atoms, 6 * (w.first as usize))
+                && is_clear(deferrals, read::DEFERRAL * (n.stats.deferred as usize))
         }
         None => false,
     }
 }
 
 // It says that the deck is refused so; the tables are zeros.
-pub fn is_refused(data: &mut Reader, e: Refused, s: &Space) -> bool {
-    data.meet_all(&[e.refusal.number(), e.line]).is_some()
-        && data.is_at_end()
-        && is_clear(s.clauses, 0)
-        && is_clear(s.atoms, 0)
-        && is_clear(s.deferrals, 0)
+pub fn is_refused(
+    data: &[u8],
+    at: usize,
+    end: usize,
+    e: Refused,
+    clauses: &[u8],
+    atoms: &[u8],
+    deferrals: &[u8],
+) -> bool {
+    meet_all(data, at, &[e.refusal.number(), e.line]) == Some(end)
+        && is_clear(clauses, 0)
+        && is_clear(atoms, 0)
+        && is_clear(deferrals, 0)
 }

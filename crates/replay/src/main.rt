@@ -13,8 +13,6 @@ mod answer;
 mod data;
 mod decks;
 
-use answer::Space;
-use data::Reader;
 use std::{io, num};
 
 #[derive(Clone, Copy, Default)]
@@ -41,35 +39,84 @@ impl Sums {
     }
 }
 
-// A deck whose answer is the rest of the data.
-fn run_deck(deck: &[u8], data: &mut Reader, sums: Sums, s: &mut Space) -> Sums {
-    let reply = clausify::clausify_with_stats(deck, s.clauses, s.atoms, s.deferrals, s.scratch);
-    match reply {
-        Ok(n) => sums.add(true, answer::is_accepted(data, n, s)),
-        Err(e) => sums.add(false, answer::is_refused(data, e, s)),
+// A deck whose answer stands from byte `at` to `end` of the data.
+fn run_deck(
+    deck: &[u8],
+    data: &[u8],
+    at: usize,
+    end: usize,
+    sums: Sums,
+    clauses: &mut [u8],
+    atoms: &mut [u8],
+    deferrals: &mut [u8],
+    scratch: &mut [u8],
+) -> Sums {
+    match clausify::clausify_with_stats(deck, clauses, atoms, deferrals, scratch) {
+        Ok(n) => {
+            let same = answer::is_accepted(data, at, end, n, clauses, atoms, deferrals);
+            sums.add(true, same)
+        }
+        Err(e) => {
+            let same = answer::is_refused(data, at, end, e, clauses, atoms, deferrals);
+            sums.add(false, same)
+        }
     }
 }
 
-// The next deck and its answer.
-fn run_part(data: &mut Reader, sums: &mut Sums, deck: &mut [u8], s: &mut Space) -> Option<()> {
-    let bytes = data.number()?;
-    let mut part = data.part(bytes as usize)?;
-    let n = decks::put_deck(&mut part, deck)?;
-    *sums = run_deck(&deck[..n], &mut part, *sums, s);
-    Some(())
+// Where something of so many bytes ends.
+fn end_of(at: usize, bytes: u32) -> usize {
+    at.saturating_add(bytes as usize)
 }
 
-fn run_decks(data: &mut Reader, sums: &mut Sums, deck: &mut [u8], s: &mut Space) -> Option<()> {
-    let n = data.number()?;
-    (0..n).try_for_each(|_| run_part(data, sums, deck, s))
-}
-
-// It ends at data that is no deck, which makes a difference.
-fn run_data(data: &[u8], deck: &mut [u8], s: &mut Space) -> Sums {
-    let mut reader = Reader::new(data);
+// n decks from byte `from` of the data on.
+fn run_decks(
+    data: &[u8],
+    from: usize,
+    n: u32,
+    deck: &mut [u8],
+    clauses: &mut [u8],
+    atoms: &mut [u8],
+    deferrals: &mut [u8],
+    scratch: &mut [u8],
+) -> Sums {
     let mut sums = Sums::default();
-    let is_whole = run_decks(&mut reader, &mut sums, deck, s).is_some();
-    sums.end(is_whole && reader.is_at_end() && answer::is_clear(s.scratch, 0))
+    let mut at = from;
+    for _ in 0..n {
+        if data.len() <= at {
+            break;
+        }
+        let x = data::number(data, at);
+        let end = end_of(x.at, x.value);
+        let p = decks::put_deck(data, x.at, deck);
+        let m = p.end;
+        sums = run_deck(
+            &deck[..m],
+            data,
+            p.at,
+            end,
+            sums,
+            clauses,
+            atoms,
+            deferrals,
+            scratch,
+        );
+        at = end;
+    }
+    sums.end(at == data.len() && answer::is_clear(scratch, 0))
+}
+
+fn run_data(
+    data: &[u8],
+    deck: &mut [u8],
+    clauses: &mut [u8],
+    atoms: &mut [u8],
+    deferrals: &mut [u8],
+    scratch: &mut [u8],
+) -> Sums {
+    let x = data::number(data, 0);
+    run_decks(
+        data, x.at, x.value, deck, clauses, atoms, deferrals, scratch,
+    )
 }
 
 fn main(rt: HostRuntime) -> io::Result<()> {
@@ -82,13 +129,14 @@ fn main(rt: HostRuntime) -> io::Result<()> {
     let mut atoms = streams::zeros::<49152>();
     let mut deferrals = streams::zeros::<2048>();
     let mut scratch = streams::zeros::<1572864>();
-    let mut space = Space {
-        clauses: &mut clauses,
-        atoms: &mut atoms,
-        deferrals: &mut deferrals,
-        scratch: &mut scratch,
-    };
-    let s = run_data(&input[..n], &mut deck, &mut space);
+    let s = run_data(
+        &input[..n],
+        &mut deck,
+        &mut clauses,
+        &mut atoms,
+        &mut deferrals,
+        &mut scratch,
+    );
     let mut out = [0u8; 45];
     rows::put_line(
         &mut out,
