@@ -13,9 +13,6 @@ stored w l i h =
     ∙ sets_snoc (take i l) w 0 (get_or l i 0)
     ∙ ap (λ (m : List ℕ). sets w 0 m) (sym (ap (λ (j : ℕ). take j l) (add-one i) ∙ take-suc l i 0 h))
 
-pub loop-i-init : goal.loop-i-init
-loop-i-init c = refl
-
 pub loop-i-preserved : goal.loop-i-preserved
 loop-i-preserved c =
     let a = c.args in
