@@ -60,7 +60,6 @@ module _ (w : List ℕ) (c s m : ℕ) (es : s ≡ field w c 3) (em : m ≡ field
   pub list_is : run w (members_at + s) m ≡ list_in w c
   list_is = rw (es, em) refl
 
-
 pub record Here (w : List ℕ) (k v : Counters) (c kind a b : ℕ) : Type 0 where
   pub go : visited k ≡ Begun v
   pub kind_is : kind ≡ field w c 0
