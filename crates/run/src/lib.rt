@@ -27,14 +27,18 @@ pub struct Ran {
     pub decomposed: u32,
 }
 
-// The passes after the last axiom; their refusals have line 0.
+// The passes after the last axiom; their refusals have line 0. (Tried with `?` by the From of `Refused`: it proves, but the wrong program of
+// another line is then refused at no fact of its own.)
 fn run_late(lent: &mut Tables<'_>, scratch: &mut [u8], n: u32, first: u32) -> Result<Ran, Refused>
     requires { Before scratch.old lent.old.counters n first (words lent.old.clauses.now) (words lent.old.atoms.now) (words lent.old.deferrals.now) }
     ensures references { SameReferences lent.old lent.new }
     ensures did { (B : Before scratch.old lent.old.counters n first (words lent.old.clauses.now) (words lent.old.atoms.now) (words lent.old.deferrals.now)) → RanAs B.rooms (run_deck B.limit B.rooms B.known) (words lent.new.clauses.now) (words lent.new.atoms.now) (words lent.new.deferrals.now) result }
 {
     lent.counters.at_line(0);
-    let decomposed = late::late_passes(lent, scratch, n)?;
+    let decomposed = late::late_passes(lent, scratch, n).map_err(|refusal| Refused {
+        refusal,
+        line: 0,
+    })?;
     Ok(Ran {
         counters: lent.counters,
         first,
