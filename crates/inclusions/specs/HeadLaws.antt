@@ -13,7 +13,7 @@ use Rattle.ir.specs.Answer.{Answer}
 use Rattle.ir.specs.Answer.{Done, Refused}
 use Rattle.rules.specs.Base.{Res, each}
 use Rattle.rules.specs.Pool.{mk_and, mk_or, members, most_members}
-use Rattle.rules.specs.Normalize.{St, N, in_pool, push_negation_in, nnf_complement}
+use Rattle.rules.specs.Normalize.{St, N, in_pool, push_negation_in, nnf_complement, nnf_by}
 use Rattle.rules.specs.Invariants.{Each}
 use Rattle.rules.specs.EachLaws.{each_snoc}
 use Rattle.rules.specs.PoolLaws.{grown_length, below_more}
@@ -25,7 +25,6 @@ use Rattle.pool.specs.HeldLaws.{pool_length, members_rise}
 use Rattle.pool.specs.Answers as Pools
 use Rattle.pool.specs.Answers.{after, HeldAfter}
 use Rattle.pool.specs.Marks.{Beside, Operands}
-use Rattle.rebuilding.specs.Steps.{nnf_by}
 use Rattle.rebuilding.specs.States.{state_of, told, after_run, HeldRun, Kept, Normalizing, NormalizingRun}
 use Rattle.normalize.specs.StateLaws.{counted_same, Stated, stated, stated_post, shown_told, each_by_done}
 use Rattle.normalize.specs.KeptLaws.{Under, under_set, run_next}

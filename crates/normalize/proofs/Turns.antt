@@ -14,7 +14,7 @@ use Rattle.ir.specs.Answer.{Answer}
 use Rattle.ir.specs.Answer.{Done, Refused}
 use Rattle.rules.specs.Base.{Res, ok, refused, then, return, each}
 use Rattle.rules.specs.Pool.{members}
-use Rattle.rules.specs.Normalize.{St, N}
+use Rattle.rules.specs.Normalize.{St, N, nnf_by}
 use Rattle.rules.specs.Invariants.{Each, Bounds, Wf, Grown}
 use Rattle.rules.specs.PoolLaws.{grown_refl, grown_trans}
 use Rattle.rules.specs.DepthLaws.{depth}
@@ -24,7 +24,6 @@ use Rattle.pool.specs.Held.{Held}
 use Rattle.pool.specs.Answers.{after, HeldAfter}
 use Rattle.pool.specs.Tabs.{tab_next, tab_end}
 use Rattle.pool.specs.HeldLaws.{pool_length, members_rise}
-use Rattle.rebuilding.specs.Steps.{nnf_by}
 use Rattle.rebuilding.specs.States.{state_of, told, after_run, Kept, Normalizing, NormalizingRun}
 use Rattle.normalize.specs.StateLaws.{counted_same, Stated, stated, stated_post, told_on, told_refused, grown_count, same_pool, by_done}
 use Rattle.normalize.specs.Known.{KnownIf, KnownAfter}

@@ -22,7 +22,7 @@ use Rattle.rules.specs.Concept.{Concept}
 use Rattle.rules.specs.Concept.{Top, Bot, Atomic, Nominal, SelfRestriction, Not, And, Or, Some, All, Min, Max}
 use Rattle.rules.specs.Pool.{Pool, width, members}
 use Rattle.rules.specs.Post.{Post, gives, post_map}
-use Rattle.rules.specs.Normalize.{St, visit, in_pool}
+use Rattle.rules.specs.Normalize.{St, visit, in_pool, nnf_by}
 use Rattle.rules.specs.Invariants.{Wf, Grown}
 use Rattle.rules.specs.PoolLaws.{grown_refl, below_more}
 use Rattle.rules.specs.DepthLaws.{deepest_of, depth}
@@ -33,7 +33,7 @@ use Rattle.pool.specs.Held.{Ready}
 use Rattle.pool.specs.Answers.{after, shown}
 use Rattle.pool.specs.HeldLaws.{pool_length, pool_at, members_next, word_above}
 use Rattle.words.specs.Runs.{get_d_sets_after}
-use Rattle.rebuilding.specs.Steps.{nnf_by, visited_parts, part_negated, rebuilt}
+use Rattle.rebuilding.specs.Steps.{visited_parts, part_negated, rebuilt}
 use Rattle.rebuilding.specs.States.{state_of, told, after_run, HeldRun, Kept, Normalizing, NormalizingRun, RebuildingAfter, RebuiltAfter}
 use Rattle.normalize.specs.StepLaws.{step_by, nnf_by_lem}
 use Rattle.normalize.specs.StateLaws.{Stated, stated, stated_post, told_on, told_refused, shown_told, grown_count, same_concept_lem, same_pool, each_by_done}

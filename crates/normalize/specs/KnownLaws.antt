@@ -19,7 +19,7 @@ use Rattle.pool.specs.Layout.{pool_words, pool_of}
 use Rattle.pool.specs.Held.{Held}
 use Rattle.pool.specs.Answers.{drawn, after, HeldAfter}
 use Rattle.pool.specs.HeldLaws.{pool_length}
-use Rattle.rebuilding.specs.Steps.{nnf_by}
+use Rattle.rules.specs.Normalize.{nnf_by}
 use Rattle.rebuilding.specs.States.{state_of, told, Kept}
 use Rattle.normalize.specs.StateLaws.{stated, by_done}
 use Rattle.normalize.specs.Settled.{later, paid, Settled}

@@ -3,9 +3,8 @@
 use Rattle.std.specs.Prelude.{◌≡◌, Bool, true, false, ℕ, ◌+◌, ◌<◌, leb}
 use Rattle.rules.specs.Base.{Res, ok, refused}
 use Rattle.rules.specs.Pool.{Pool}
-use Rattle.rules.specs.Normalize.{St, N}
+use Rattle.rules.specs.Normalize.{St, N, nnf_by}
 use Rattle.rules.specs.Invariants.{Grown}
-use Rattle.rebuilding.specs.Steps.{nnf_by}
 
 -- a state after v visits more
 abbrev pub later : St → ℕ → St

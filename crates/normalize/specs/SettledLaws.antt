@@ -9,12 +9,12 @@ use Rattle.rules.specs.Concept.{Concept}
 use Rattle.rules.specs.Concept.{Top, Bot, Atomic, Nominal, SelfRestriction, Not, And, Or, Some, All, Min, Max}
 use Rattle.rules.specs.Pool.{Pool, at}
 use Rattle.rules.specs.Deck.{parts_of}
-use Rattle.rules.specs.Normalize.{St, N, begun, visit, back_in, in_pool}
+use Rattle.rules.specs.Normalize.{St, N, begun, visit, back_in, in_pool, nnf_by}
 use Rattle.rules.specs.Post.{Post, gives, refuses, give, post_then}
 use Rattle.rules.specs.Invariants.{Each, Bounds, Wf, Grown}
 use Rattle.rules.specs.PoolLaws.{post_both, grown_trans, grown_length, grown_at, below_more}
 use Rattle.rules.specs.DepthLaws.{parts_below}
-use Rattle.rebuilding.specs.Steps.{nnf_by, visited_parts, part_negated, rebuilt}
+use Rattle.rebuilding.specs.Steps.{visited_parts, part_negated, rebuilt}
 use Rattle.normalize.specs.Settled.{later, paid_if, paid, Settled}
 use Rattle.normalize.specs.StepLaws.{step_by, nnf_by_lem}
 use Rattle.normalize.specs.StateLaws.{by_done, each_by_done}

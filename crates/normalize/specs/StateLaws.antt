@@ -5,7 +5,7 @@ use Rattle.std.proofs.Common.{sym, ap, subst, ◌∙◌, arith, zero-add}
 use Rattle.ir.specs.declared.counters.Counters.{Counters}
 use Rattle.rules.specs.Base.{Res, ok, refused, M, then, each}
 use Rattle.rules.specs.Pool.{Pool}
-use Rattle.rules.specs.Normalize.{St, N, back_in, in_pool}
+use Rattle.rules.specs.Normalize.{St, N, back_in, in_pool, nnf_by}
 use Rattle.rules.specs.Post.{Post, gives, post_map}
 use Rattle.rules.specs.Invariants.{Each, Bounds, Wf, Grown}
 use Rattle.rules.specs.PoolLaws.{grown_length, grown_at}
@@ -16,7 +16,6 @@ use Rattle.pool.specs.Held.{Held}
 use Rattle.pool.specs.Answers.{drawn, shown}
 use Rattle.pool.specs.Tabs.{tab_same}
 use Rattle.pool.specs.HeldLaws.{pool_length, pool_at}
-use Rattle.rebuilding.specs.Steps.{nnf_by}
 use Rattle.rebuilding.specs.States.{state_of, counted, told}
 
 -- the counters of a held pool are the ones of its state

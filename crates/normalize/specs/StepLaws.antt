@@ -9,8 +9,8 @@ use Rattle.rules.specs.Base.{Res, ok, refused, then, return, each}
 use Rattle.rules.specs.Concept.{Concept}
 use Rattle.rules.specs.Concept.{Top, Bot, Atomic, Nominal, SelfRestriction, Not, And, Or, Some, All, Min, Max}
 use Rattle.rules.specs.Pool.{at}
-use Rattle.rules.specs.Normalize.{St, N, visit, in_pool, nnf_step, negation_step, to_nnf, push_negation_in}
-use Rattle.rebuilding.specs.Steps.{nnf_by, visited_parts, part_negated, rebuilt}
+use Rattle.rules.specs.Normalize.{St, N, visit, in_pool, nnf_step, to_nnf, push_negation_in, nnf_by}
+use Rattle.rebuilding.specs.Steps.{visited_parts, part_negated, rebuilt}
 
 -- the same rest after the same answer
 then_same : {A C : Type 0} (r : Res St A) (f g : A → N C) → ((a : A) (t : St) → f a t ≡ g a t) → then r f ≡ then r g
@@ -39,7 +39,7 @@ module _ (f c : ℕ) (t : St) where
   abbrev by : Bool → Concept → Res St ℕ
   by b e = then (each (λ d. nnf_by (part_negated b e) f d) (visited_parts b e) t) (λ l. in_pool (rebuilt b c e l))
 
-  nnf_parts : (e : Concept) → nnf_step (λ d. to_nnf f d) (λ d. push_negation_in f d) c e t ≡ by false e
+  nnf_parts : (e : Concept) → nnf_step false (λ d. to_nnf f d) (λ d. push_negation_in f d) c e t ≡ by false e
   unfolding nnf_step each
   nnf_parts Top = refl
   nnf_parts Bot = refl
@@ -54,8 +54,8 @@ module _ (f c : ℕ) (t : St) where
   nnf_parts (Min n r d) = one_part (λ d. to_nnf f d) d t (λ l. in_pool (rebuilt false c (Min n r d) l))
   nnf_parts (Max n r d) = one_part (λ d. to_nnf f d) d t (λ l. in_pool (rebuilt false c (Max n r d) l))
 
-  negation_parts : (e : Concept) → negation_step (λ d. to_nnf f d) (λ d. push_negation_in f d) c e t ≡ by true e
-  unfolding negation_step each
+  negation_parts : (e : Concept) → nnf_step true (λ d. to_nnf f d) (λ d. push_negation_in f d) c e t ≡ by true e
+  unfolding nnf_step each
   negation_parts Top = refl
   negation_parts Bot = refl
   negation_parts (Atomic _) = refl
@@ -76,5 +76,5 @@ step_by b f c t = then (each (λ d. nnf_by (part_negated b (at t.pool c)) f d) (
 
 pub nnf_by_lem : (b : Bool) (f c : ℕ) (s : St) → nnf_by b (suc f) c s ≡ then (visit s) (λ _. step_by b f c)
 unfolding to_nnf
-nnf_by_lem false f c s = then_same (visit s) (λ _ t. nnf_step (λ d. to_nnf f d) (λ d. push_negation_in f d) c (at t.pool c) t) (λ _. step_by false f c) (λ _ t. nnf_parts f c t (at t.pool c))
-nnf_by_lem true f c s = then_same (visit s) (λ _ t. negation_step (λ d. to_nnf f d) (λ d. push_negation_in f d) c (at t.pool c) t) (λ _. step_by true f c) (λ _ t. negation_parts f c t (at t.pool c))
+nnf_by_lem false f c s = then_same (visit s) (λ _ t. nnf_step false (λ d. to_nnf f d) (λ d. push_negation_in f d) c (at t.pool c) t) (λ _. step_by false f c) (λ _ t. nnf_parts f c t (at t.pool c))
+nnf_by_lem true f c s = then_same (visit s) (λ _ t. nnf_step true (λ d. to_nnf f d) (λ d. push_negation_in f d) c (at t.pool c) t) (λ _. step_by true f c) (λ _ t. negation_parts f c t (at t.pool c))

@@ -64,7 +64,7 @@ pub record NormalizingRun (s : List ℕ) (k : Counters) (i n top c : ℕ) : Type
   pub room : top + members (pool_of (words s) c) + c ≤ normal_forms_at
   pub space : 4 * hands_at ≤ length s
 
--- to make concept c again of the normal forms in the n words from top on
+-- to make concept c again of the normal forms in the n words from top on; the first of them is read of any concept
 pub record Rebuilding (s : List ℕ) (k : Counters) (top c n : ℕ) (b : Bool) : Type 0 where
   pub bounds : Bounds
   pub ready : Ready s k
@@ -73,15 +73,7 @@ pub record Rebuilding (s : List ℕ) (k : Counters) (top c n : ℕ) (b : Bool) :
   pub count : n ≡ length (visited_parts b (concept_at (words s) c))
   pub below : Each (λ d. d < k.concepts) (run (words s) top n)
   pub above : keys_at ≤ top
-  pub within : 4 * (top + n) ≤ length s
-
--- to make a restriction like concept c over another part
-pub record Restricting (s : List ℕ) (k : Counters) (c part : ℕ) : Type 0 where
-  pub bounds : Bounds
-  pub ready : Ready s k
-  pub wf : Wf bounds (pool_of (words s) k.concepts)
-  pub held : c < k.concepts
-  pub below : part < k.concepts
+  pub within : 4 * (top + suc n) ≤ length s
 
 abbrev pub RebuildingAfter : List ℕ → Answer → (top c n : ℕ) → Bool → Type 0
 RebuildingAfter s (Done k i) top c n b = Rebuilding s k top c n b

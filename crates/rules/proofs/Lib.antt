@@ -7,6 +7,8 @@ pub mod HeadLaws
 pub mod AxiomLaws
 pub mod BoundLaws
 pub mod NnfEnds
+pub mod NormalBounds
+pub mod NormalRows
 pub mod ReflexiveLaws
 pub mod BranchLaws
 pub mod LateLaws

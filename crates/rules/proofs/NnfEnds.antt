@@ -13,7 +13,7 @@ use Rattle.rules.specs.Concept.{Concept, Axiom}
 use Rattle.rules.specs.Concept.{Top, Bot, Atomic, Nominal, SelfRestriction, Not, And, Or, Some, All, Min, Max}
 use Rattle.rules.specs.Concept.{SubClassOf, EquivalentClasses, DisjointClasses, DisjointUnion, ObjectPropertyDomain, ObjectPropertyRange, SubChain, TransitiveRole, IrreflexiveRole, AsymmetricRole, DisjointObjectProperties, InverseObjectProperties, SubObjectPropertyOf, EquivalentObjectProperties, ReflexiveRole, ClassAssertion}
 use Rattle.rules.specs.Pool.{Pool, at, most_concepts, most_members, find, width, members, room, interned, intern_raw, mk_min, flattened, any_annihilates, and_operand, or_operand, sort_dedup, collapsed, and_of, or_of, mk_and, mk_or}
-use Rattle.rules.specs.Normalize.{St, N, begun, visit, back_in, in_pool, nnf_step, negation_step, to_nnf, push_negation_in, nnf_axiom}
+use Rattle.rules.specs.Normalize.{St, N, begun, visit, back_in, in_pool, nnf_step, to_nnf, push_negation_in, nnf_axiom}
 use Rattle.rules.specs.Run.{nnf_axioms}
 use Rattle.rules.specs.Post.{Post, gives, refuses}
 use Rattle.rules.specs.Ends.{NotZero, Ends, ends, stops, end, stop, ends_then, ends_map, ends_not_zero}
@@ -116,7 +116,7 @@ module _ (B : Bounds) where
     stays : (c : ℕ) → c < length s.pool → Ends (MadeIn B s) (ok c s)
     stays c h = end (record { grows = grown_refl s.pool; wf = w; held = h })
 
-    nnf_step_lem : (c : ℕ) → c < length s.pool → (e : Concept) → Bounded B n e → Ends (MadeIn B s) (nnf_step nnf neg c e s)
+    nnf_step_lem : (c : ℕ) → c < length s.pool → (e : Concept) → Bounded B n e → Ends (MadeIn B s) (nnf_step false nnf neg c e s)
     unfolding nnf_step
     nnf_step_lem c h Top b = stays c h
     nnf_step_lem c h Bot b = stays c h
@@ -131,8 +131,8 @@ module _ (B : Bounds) where
     nnf_step_lem c h (Min x r a) b = part keep a b.2 (λ i t w₁ k. min_ends t w₁ x r i b.0 b.1 k)
     nnf_step_lem c h (Max x r a) b = part keep a b.2 (λ i t w₁ k. intern_ends t w₁ (Max x r i) (b.0, b.1, k))
 
-    negation_step_lem : (c : ℕ) → c < length s.pool → (e : Concept) → Bounded B n e → Ends (MadeIn B s) (negation_step nnf neg c e s)
-    unfolding negation_step
+    negation_step_lem : (c : ℕ) → c < length s.pool → (e : Concept) → Bounded B n e → Ends (MadeIn B s) (nnf_step true nnf neg c e s)
+    unfolding nnf_step
     negation_step_lem c h Top b = intern_ends s w Bot tt
     negation_step_lem c h Bot b = intern_ends s w Top tt
     negation_step_lem c h (Atomic _) b = intern_ends s w (Not c) h
@@ -164,10 +164,10 @@ module _ (B : Bounds) where
     where
       go : Acts (to_nnf f) f × Acts (push_negation_in f) f → Acts (to_nnf (suc f)) (suc f) × Acts (push_negation_in (suc f)) (suc f)
       go ih = (
-        λ c h s w k. visit_ends s (λ _ t. nnf_step (to_nnf f) (push_negation_in f) c (at t.pool c) t)
+        λ c h s w k. visit_ends s (λ _ t. nnf_step false (to_nnf f) (push_negation_in f) c (at t.pool c) t)
             (nnf_step_lem (to_nnf f) (push_negation_in f) c (λ d i. ih.0 d (omega arith)) (λ d i. ih.1 d (omega arith)) (record { pool = s.pool; visits = s.visits + 1; limit = s.limit }) w (omega arith)
             c k (at s.pool c) (w c k)),
-        λ c h s w k. visit_ends s (λ _ t. negation_step (to_nnf f) (push_negation_in f) c (at t.pool c) t)
+        λ c h s w k. visit_ends s (λ _ t. nnf_step true (to_nnf f) (push_negation_in f) c (at t.pool c) t)
             (negation_step_lem (to_nnf f) (push_negation_in f) c (λ d i. ih.0 d (omega arith)) (λ d i. ih.1 d (omega arith)) (record { pool = s.pool; visits = s.visits + 1; limit = s.limit }) w (omega arith)
             c k (at s.pool c) (w c k)),
       )

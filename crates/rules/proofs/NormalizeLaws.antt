@@ -14,7 +14,7 @@ use Rattle.rules.specs.Concept.{SubClassOf, EquivalentClasses, DisjointClasses, 
 use Rattle.rules.specs.Concept.{Top, Bot, Atomic, Nominal, SelfRestriction, Not, And, Or, Some, All, Min, Max}
 use Rattle.rules.specs.Pool.{Pool, at, intern_raw, mk_min}
 use Rattle.rules.specs.Deck.{parts_of}
-use Rattle.rules.specs.Normalize.{St, N, begun, visit, back_in, in_pool, nnf_step, negation_step, to_nnf, push_negation_in, nnf_axiom}
+use Rattle.rules.specs.Normalize.{St, N, begun, visit, back_in, in_pool, nnf_step, to_nnf, push_negation_in, nnf_axiom}
 use Rattle.rules.specs.Run.{nnf_axioms}
 use Rattle.rules.specs.Post.{Post, gives, refuses, give, post_then, post_map}
 use Rattle.rules.specs.Invariants.{Each, Bounds, RoleIn, Bounded, Wf, Grown, Made, NormalStep, Normal, AxiomIn}
@@ -153,7 +153,7 @@ module _ (B : Bounds) where
     stays m c h k d = give (record { ran = ran_refl s w; held = h; normal = record_normal B s.pool c w h k; shallow = d })
 
     nnf_step_lem : (m c : ℕ) → c < length s.pool → depth s.pool c ≤ m → (e : Concept) → at s.pool c ≡ e → Bounded B n e → suc (deepest_of (depth s.pool) (parts_of e)) ≤ m
-        → Post (Done B m s) (nnf_step nnf neg c e s)
+        → Post (Done B m s) (nnf_step false nnf neg c e s)
     unfolding nnf_step
     nnf_step_lem m c h k Top q b d = stays m c h (rw q tt) k
     nnf_step_lem m c h k Bot q b d = stays m c h (rw q tt) k
@@ -169,8 +169,8 @@ module _ (B : Bounds) where
     nnf_step_lem m c h k (Max x r a) q b d = part m 0 keep a b.2 (λ i t w₁ l z y. intern_done B m t w₁ (Max x r i) (b.0, b.1, l) z (omega arith))
 
     negation_step_lem : (m c : ℕ) → c < length s.pool → (e : Concept) → at s.pool c ≡ e → Bounded B n e → suc (suc (deepest_of (depth s.pool) (parts_of e))) ≤ m → depth s.pool c < m
-        → Post (Done B m s) (negation_step nnf neg c e s)
-    unfolding negation_step
+        → Post (Done B m s) (nnf_step true nnf neg c e s)
+    unfolding nnf_step
     negation_step_lem m c h Top q b d k = intern_done B m s w Bot tt tt (omega arith)
     negation_step_lem m c h Bot q b d k = intern_done B m s w Top tt tt (omega arith)
     negation_step_lem m c h (Atomic _) q b d k = intern_done B m s w (Not c) h (rw q tt) (omega arith)
@@ -193,10 +193,10 @@ module _ (B : Bounds) where
     where
       go : Acts 0 (to_nnf f) f × Acts 1 (push_negation_in f) f → Acts 0 (to_nnf (suc f)) (suc f) × Acts 1 (push_negation_in (suc f)) (suc f)
       go ih = (
-        λ c h s w k. visit_then (Done B (0 + depth s.pool c) s) s (λ _ t. nnf_step (to_nnf f) (push_negation_in f) c (at t.pool c) t) (λ l. after (visit_ran s w l)
+        λ c h s w k. visit_then (Done B (0 + depth s.pool c) s) s (λ _ t. nnf_step false (to_nnf f) (push_negation_in f) c (at t.pool c) t) (λ l. after (visit_ran s w l)
             (nnf_step_lem (to_nnf f) (push_negation_in f) c (λ d i. ih.0 d (omega arith)) (λ d i. ih.1 d (omega arith)) (visited s) w (omega arith)
             (0 + depth s.pool c) c k (omega arith) (at s.pool c) refl (w c k) (omega (arith, depth_record B s.pool c w k)))),
-        λ c h s w k. visit_then (Done B (1 + depth s.pool c) s) s (λ _ t. negation_step (to_nnf f) (push_negation_in f) c (at t.pool c) t) (λ l. after (visit_ran s w l)
+        λ c h s w k. visit_then (Done B (1 + depth s.pool c) s) s (λ _ t. nnf_step true (to_nnf f) (push_negation_in f) c (at t.pool c) t) (λ l. after (visit_ran s w l)
             (negation_step_lem (to_nnf f) (push_negation_in f) c (λ d i. ih.0 d (omega arith)) (λ d i. ih.1 d (omega arith)) (visited s) w (omega arith)
             (1 + depth s.pool c) c k (at s.pool c) refl (w c k) (omega (arith, depth_record B s.pool c w k)) (omega arith))),
       )

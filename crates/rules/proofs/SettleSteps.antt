@@ -5,18 +5,13 @@ use Rattle.std.proofs.Math.Path.{refl, ap}
 use Rattle.std.proofs.Common.{◌∙◌, arith}
 use mathlib.Core.List.{List, [], ◌∷◌}
 use Prim.Native.Nat.{ℕ, zero, suc, ◌+◌, ◌≤◌, ◌<◌}
-use Rattle.rules.specs.Base.{Res, M, then}
+use Rattle.rules.specs.Base.{then}
 use Rattle.rules.specs.State.{Limit, Env, leave_limits}
 use Rattle.rules.specs.Axioms.{Clausifier, other_half, settle_next, settle_by, settle}
 use Rattle.rules.specs.Invariants.{Bounds}
-use Rattle.rules.specs.Post.{Post, gives, refuses}
+use Rattle.rules.specs.Post.{then_same}
 use Rattle.rules.specs.Handed.{RolesKept, Settling}
 use Rattle.rules.proofs.SettleLaws.{waits_for, half_settles}
-
--- the rest, where it is the same after every answer that there is
-then_same : {S A D : Type 0} {P : A → S → Type 0} {r : Res S A} {f g : A → M S D} → Post P r → ((a : A) (s : S) → P a s → f a s ≡ g a s) → then r f ≡ then r g
-then_same (gives {a = a} {s = s} h) k = k a s h
-then_same refuses k = refl
 
 module _ (B : Bounds) (env : Env) (roles : RolesKept B env) where
   -- every bound above the visits that may begin

@@ -31,69 +31,83 @@ back_in s (refused k) = refused k
 abbrev pub in_pool : {A : Type 0} → M Pool A → N A
 in_pool f s = back_in s (f s.pool)
 
--- One step of to_nnf, and one of push_negation_in, given what to call for the parts.
-unfoldable pub nnf_step : (nnf neg : ℕ → N ℕ) → ℕ → Concept → N ℕ
-nnf_step nnf neg c Top = return c
-nnf_step nnf neg c Bot = return c
-nnf_step nnf neg c (Atomic _) = return c
-nnf_step nnf neg c (Nominal _) = return c
-nnf_step nnf neg c (SelfRestriction _) = return c
-nnf_step nnf neg c (Not d) = neg d
-nnf_step nnf neg c (And l) = do
+-- One step of to_nnf, or where the concept is negated of push_negation_in, given what to call for the parts: by the rows of the
+-- class-expression table of OWL 2 Direct Semantics, in its order, and in each the concept before its complement.
+unfoldable pub nnf_step : Bool → (nnf neg : ℕ → N ℕ) → ℕ → Concept → N ℕ
+-- intersection
+nnf_step false nnf neg c (And l) = do
   k ← each nnf l
   in_pool (mk_and k)
-nnf_step nnf neg c (Or l) = do
+nnf_step true nnf neg c (And l) = do
+  k ← each neg l
+  in_pool (mk_or k)
+-- union
+nnf_step false nnf neg c (Or l) = do
   k ← each nnf l
   in_pool (mk_or k)
-nnf_step nnf neg c (Some r d) = do
+nnf_step true nnf neg c (Or l) = do
+  k ← each neg l
+  in_pool (mk_and k)
+-- complement
+nnf_step false nnf neg c (Not d) = neg d
+nnf_step true nnf neg c (Not d) = nnf d
+-- individuals
+nnf_step false nnf neg c (Nominal _) = return c
+nnf_step true nnf neg c (Nominal _) = in_pool (mk_not c)
+-- Some
+nnf_step false nnf neg c (Some r d) = do
   e ← nnf d
   in_pool (mk_some r e)
-nnf_step nnf neg c (All r d) = do
+nnf_step true nnf neg c (Some r d) = do
+  e ← neg d
+  in_pool (mk_all r e)
+-- All
+nnf_step false nnf neg c (All r d) = do
   e ← nnf d
   in_pool (mk_all r e)
-nnf_step nnf neg c (Min n r d) = do
+nnf_step true nnf neg c (All r d) = do
+  e ← neg d
+  in_pool (mk_some r e)
+-- Self
+nnf_step false nnf neg c (SelfRestriction _) = return c
+nnf_step true nnf neg c (SelfRestriction _) = in_pool (mk_not c)
+-- Min: the complement of at least 0 is Bot, and its part is not visited
+nnf_step false nnf neg c (Min n r d) = do
   e ← nnf d
   in_pool (mk_min n r e)
-nnf_step nnf neg c (Max n r d) = do
+nnf_step true nnf neg c (Min zero r d) = in_pool mk_bot
+nnf_step true nnf neg c (Min (suc n) r d) = do
   e ← nnf d
   in_pool (mk_max n r e)
-
-unfoldable pub negation_step : (nnf neg : ℕ → N ℕ) → ℕ → Concept → N ℕ
-negation_step nnf neg c Top = in_pool mk_bot
-negation_step nnf neg c Bot = in_pool mk_top
-negation_step nnf neg c (Atomic _) = in_pool (mk_not c)
-negation_step nnf neg c (Nominal _) = in_pool (mk_not c)
-negation_step nnf neg c (SelfRestriction _) = in_pool (mk_not c)
-negation_step nnf neg c (Not d) = nnf d
-negation_step nnf neg c (And l) = do
-  k ← each neg l
-  in_pool (mk_or k)
-negation_step nnf neg c (Or l) = do
-  k ← each neg l
-  in_pool (mk_and k)
-negation_step nnf neg c (Some r d) = do
-  e ← neg d
-  in_pool (mk_all r e)
-negation_step nnf neg c (All r d) = do
-  e ← neg d
-  in_pool (mk_some r e)
-negation_step nnf neg c (Min zero r d) = in_pool mk_bot
-negation_step nnf neg c (Min (suc n) r d) = do
+-- Max
+nnf_step false nnf neg c (Max n r d) = do
   e ← nnf d
   in_pool (mk_max n r e)
-negation_step nnf neg c (Max n r d) = do
+nnf_step true nnf neg c (Max n r d) = do
   e ← nnf d
   in_pool (mk_min (suc n) r e)
+-- Top, Bot and classes, which are no rows of that table
+nnf_step false nnf neg c Top = return c
+nnf_step true nnf neg c Top = in_pool mk_bot
+nnf_step false nnf neg c Bot = return c
+nnf_step true nnf neg c Bot = in_pool mk_top
+nnf_step false nnf neg c (Atomic _) = return c
+nnf_step true nnf neg c (Atomic _) = in_pool (mk_not c)
 
 -- The two, by a bound above the id: a concept's parts have smaller ids.
 unfoldable mutual
   pub to_nnf : ℕ → ℕ → N ℕ
   to_nnf zero c = refuse 0
-  to_nnf (suc f) c = λ s. then (visit s) (λ _ s₁. nnf_step (λ d. to_nnf f d) (λ d. push_negation_in f d) c (at s₁.pool c) s₁)
+  to_nnf (suc f) c = λ s. then (visit s) (λ _ s₁. nnf_step false (λ d. to_nnf f d) (λ d. push_negation_in f d) c (at s₁.pool c) s₁)
 
   pub push_negation_in : ℕ → ℕ → N ℕ
   push_negation_in zero c = refuse 0
-  push_negation_in (suc f) c = λ s. then (visit s) (λ _ s₁. negation_step (λ d. to_nnf f d) (λ d. push_negation_in f d) c (at s₁.pool c) s₁)
+  push_negation_in (suc f) c = λ s. then (visit s) (λ _ s₁. nnf_step true (λ d. to_nnf f d) (λ d. push_negation_in f d) c (at s₁.pool c) s₁)
+
+-- to_nnf, or push_negation_in where the concept is negated
+abbrev pub nnf_by : Bool → ℕ → ℕ → N ℕ
+nnf_by false f c = to_nnf f c
+nnf_by true f c = push_negation_in f c
 
 -- a concept's normal form, and nnf_complement
 abbrev pub nnf : ℕ → N ℕ

@@ -1,5 +1,6 @@
 -- What holds of a rule's answer, if it is one: the way in which laws of a run are stated and proved.
-use Rattle.std.specs.Prelude.{ℕ}
+use Rattle.std.specs.Prelude.{◌≡◌, ℕ}
+use Rattle.std.proofs.Math.Path.{refl}
 use Rattle.rules.specs.Base.{Res, ok, refused, M, then}
 
 pub data Post {S A : Type 0} (Q : A → S → Type 0) : Res S A → Type 0 where
@@ -14,6 +15,11 @@ post_then refuses k = refuses
 pub post_map : {S A : Type 0} {P Q : A → S → Type 0} {r : Res S A} → Post P r → ((a : A) (s : S) → P a s → Q a s) → Post Q r
 post_map (gives {a = a} {s = s} h) k = gives (k a s h)
 post_map refuses k = refuses
+
+-- the rest, where it is the same after every answer that there is
+pub then_same : {S A B : Type 0} {P : A → S → Type 0} {r : Res S A} {f g : A → M S B} → Post P r → ((a : A) (s : S) → P a s → f a s ≡ g a s) → then r f ≡ then r g
+then_same (gives {a = a} {s = s} h) k = k a s h
+then_same refuses k = refl
 
 -- `gives` as a function: the expected type of a function's call is read before its arguments, and of a constructor's after
 pub give : {S A : Type 0} {Q : A → S → Type 0} {a : A} {s : S} → Q a s → Post Q (ok a s)
