@@ -1,5 +1,5 @@
 -- The visited parts of a list, by its record. Assumes nothing.
-use mathlib.Core.Path.{◌≡◌, refl, sym, ap, ◌∙◌}
+use mathlib.Core.Path.{◌≡◌, sym, ap, ◌∙◌}
 use mathlib.Core.Bool.{Bool, true}
 use mathlib.Core.List.{List}
 use Prim.Native.Nat.{ℕ, ◌+◌, ◌*◌, ◌<◌, ◌≤◌}
@@ -13,7 +13,6 @@ use Rattle.pool.specs.Layout.{members_at, run, field, is_list, concept_from, con
 use Rattle.pool.specs.Shapes.{list_kinds_lem}
 use Rattle.pool.specs.Tabs.{run_part}
 use Rattle.pool.specs.HeldLaws.{members_next, list_count, list_within, concept_is}
-use Rattle.rules.specs.TextLaws.{by_test}
 use Rattle.rebuilding.specs.Steps.{visited_parts}
 use Rattle.rebuilding.specs.States.{Normalizing}
 

@@ -2,8 +2,7 @@
 use mathlib.Core.Path.{◌≡◌, refl, sym, ap, subst, ◌∙◌}
 use mathlib.Core.Bool.{Bool, true, false}
 use mathlib.Core.List.{List, [], ◌∷◌}
-use Prim.Native.Nat.{ℕ, suc, ◌+◌, ◌<◌, ◌≤◌}
-use native.Mathlib.Omega.{arith}
+use Prim.Native.Nat.{ℕ, ◌+◌, ◌<◌, ◌≤◌}
 use lib.ListN.{length, get_or, drop}
 use lib.Seq.{drop-drop}
 use Rattle.words.specs.Words.{words}
@@ -16,7 +15,7 @@ use Rattle.rules.specs.Base.{ok, return}
 use Rattle.rules.specs.Concept.{Concept}
 use Rattle.rules.specs.Concept.{Top, Bot, Atomic, Nominal, SelfRestriction, Not, And, Or, Some, All, Min, Max}
 use Rattle.rules.specs.Text.{most_number}
-use Rattle.rules.specs.Pool.{Pool, at}
+use Rattle.rules.specs.Pool.{at}
 use Rattle.rules.specs.Invariants.{Each, Bounded}
 use Rattle.pool.specs.Layout.{pool_words, members_at, tab, run, field, concept_from, concept_at, pool_of}
 use Rattle.pool.specs.Held.{Held}
