@@ -1,4 +1,5 @@
-// The least elements that break a clause, by its tables. The last variable is one set; each one before it is a loop.
+// The least elements that break a clause, by its tables. The last variable is one set; each one before it is a loop, of which the last has
+// a function of its own, without an array: it is what a test of many clauses does most.
 // Clauses that repeat stay clauses: each function asks for the length that it reads; a type with a number's bound would be made at each
 // read and opened at each use.
 ghost use Rattle.std.specs.Prelude.{◌≡◌, Bool, ℕ, ◌<◌, ◌≤◌, ◌+◌, ◌-◌, length};
@@ -26,6 +27,23 @@ fn search_one(m: u64, j: u32) -> Option<[u32; 4]>
     Some(found)
 }
 
+// The last two, at places j and j + 1, of the sets `here` and `last`.
+fn search_two(scratch: &[u8], here: u64, last: u64, j: u32, size: u32) -> Option<[u32; 4]>
+    requires { (j < 3) × (size ≤ 64) × (scratch_bytes ≤ length scratch.now) }
+    ensures { (two : ℕ → ℕ → ℕ → ℕ → Bool) (F : ℕ → ℕ → Bool) → Twos size (j + 2) two (words scratch.now) → here ≡ mask_of size (F j) → last ≡ mask_of size (F (j + 1)) → found_from j 2 result ≡ search_by size two 2 j F }
+{
+    for x in 0..size {
+        if sets::has(here, x as u64) {
+            let rest = sets::both(last, fitting::row(scratch, j, j + 1, x));
+            if let Some(mut found) = search_one(rest, j + 1) {
+                found[j as usize] = x;
+                return Some(found);
+            }
+        }
+    }
+    None
+}
+
 // The sets of the places behind j and before `end`, with x at place j.
 fn narrowed(scratch: &[u8], mut fits: [u64; 4], j: u32, end: u32, x: u32) -> [u64; 4]
     requires { (j < end) × (end ≤ 4) × (x < 64) × (scratch_bytes ≤ length scratch.now) }
@@ -46,6 +64,9 @@ fn search_from(scratch: &[u8], fits: [u64; 4], j: u32, end: u32, size: u32) -> O
     let here = fits[j as usize];
     if j + 1 == end {
         return search_one(here, j);
+    }
+    if j + 2 == end {
+        return search_two(scratch, here, fits[(j + 1) as usize], j, size);
     }
     for x in 0..size {
         if sets::has(here, x as u64) {
