@@ -4,7 +4,7 @@ use Rattle.std.proofs.Common.{sym, ap, ◌∙◌}
 use Rattle.ir.specs.Refusals.{refusal_number}
 use Rattle.ir.specs.declared.answer.Refused.{Refused as Refusing}
 use Rattle.ir.specs.declared.refusal.Refusal.{Refusal}
-use Rattle.ir.specs.declared.refusal.Refusal.TheVariants.{WrongSize, BadColumns, BadLine, PastLimit, Undeclared, BadNesting, BadList, Repeated, LargestBound, VisitsSpent, PoolFull, NoRoom, BadState, WideClause}
+use Rattle.ir.specs.declared.refusal.Refusal.TheVariants.{WrongSize, BadColumns, BadLine, PastLimit, Undeclared, BadNesting, BadList, Repeated, LargestBound, VisitsSpent, PoolFull, NoRoom, BadState, WideClause, NotLive}
 use Rattle.clausify.specs.declared.numbers.Numbers.{Numbers}
 use Rattle.clausify.specs.Reply as Replies
 use Rattle.clausify.specs.Reply.{Reply, told_reply}
@@ -13,7 +13,7 @@ use Rattle.clausify.specs.Clausified.{Clausified, told_count}
 
 -- the refusal of a number
 abbrev pub refusals : List Refusal
-refusals = WrongSize ∷ BadColumns ∷ BadLine ∷ PastLimit ∷ Undeclared ∷ BadNesting ∷ BadList ∷ Repeated ∷ LargestBound ∷ VisitsSpent ∷ PoolFull ∷ NoRoom ∷ BadState ∷ WideClause ∷ []
+refusals = WrongSize ∷ BadColumns ∷ BadLine ∷ PastLimit ∷ Undeclared ∷ BadNesting ∷ BadList ∷ Repeated ∷ LargestBound ∷ VisitsSpent ∷ PoolFull ∷ NoRoom ∷ BadState ∷ WideClause ∷ NotLive ∷ []
 
 abbrev pub refusal_of : ℕ → Refusal
 refusal_of n = get_or refusals (n - 1) WrongSize
@@ -33,6 +33,7 @@ refusal_back PoolFull = refl
 refusal_back NoRoom = refl
 refusal_back BadState = refl
 refusal_back WideClause = refl
+refusal_back NotLive = refl
 
 -- a refusal of a number and a line
 abbrev pub refused_of : ℕ → ℕ → Refusing

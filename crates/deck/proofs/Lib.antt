@@ -1,7 +1,7 @@
-mod ConceptLaws
+pub mod ConceptLaws
 mod EnterLaws
 pub mod KindLaws
-mod LineLaws
+pub mod LineLaws
 mod NameLaws
 mod RowLaws
 mod TableLaws

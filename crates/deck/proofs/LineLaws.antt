@@ -21,7 +21,7 @@ use Rattle.deck.specs.declared.state.State.{State}
 use Rattle.ir.specs.declared.answer.Refused.{Refused}
 use Rattle.ir.specs.Refusals.{refusal_number}
 use Rattle.ir.specs.declared.refusal.Refusal.{Refusal}
-use Rattle.ir.specs.declared.refusal.Refusal.TheVariants.{WrongSize, BadColumns, BadLine, PastLimit, Undeclared, BadNesting, BadList, Repeated, LargestBound, VisitsSpent, PoolFull, NoRoom, BadState, WideClause}
+use Rattle.ir.specs.declared.refusal.Refusal.TheVariants.{WrongSize, BadColumns, BadLine, PastLimit, Undeclared, BadNesting, BadList, Repeated, LargestBound, VisitsSpent, PoolFull, NoRoom, BadState, WideClause, NotLive}
 use Rattle.std.specs.Prelude.{Option, None, Result, Ok, Err, is_ok, MatchResult, IsErrAnd}
 use Prim.{Unit}
 
@@ -41,6 +41,7 @@ refusal_some PoolFull e = absurd (omega arith)
 refusal_some NoRoom e = absurd (omega arith)
 refusal_some BadState e = absurd (omega arith)
 refusal_some WideClause e = absurd (omega arith)
+refusal_some NotLive e = absurd (omega arith)
 
 pub good_number : (v : Result (Unit {0}) Refusal) → is_ok v ≡ true → verdict_number v ≡ 0
 good_number (Ok _) e = refl

@@ -1,7 +1,7 @@
 -- The numbers of the refusals.
 use Rattle.std.specs.Prelude.{ℕ}
 use Rattle.ir.specs.declared.refusal.Refusal.{Refusal}
-use Rattle.ir.specs.declared.refusal.Refusal.TheVariants.{WrongSize, BadColumns, BadLine, PastLimit, Undeclared, BadNesting, BadList, Repeated, LargestBound, VisitsSpent, PoolFull, NoRoom, BadState, WideClause}
+use Rattle.ir.specs.declared.refusal.Refusal.TheVariants.{WrongSize, BadColumns, BadLine, PastLimit, Undeclared, BadNesting, BadList, Repeated, LargestBound, VisitsSpent, PoolFull, NoRoom, BadState, WideClause, NotLive}
 
 abbrev pub refusal_number : Refusal → ℕ
 refusal_number WrongSize = 1
@@ -18,3 +18,4 @@ refusal_number PoolFull = 11
 refusal_number NoRoom = 12
 refusal_number BadState = 13
 refusal_number WideClause = 14
+refusal_number NotLive = 15

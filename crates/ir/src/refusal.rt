@@ -1,4 +1,4 @@
-// Why a deck, a state or a lent table is refused, by its number.
+// Why a deck, a state, a lent table or a call of a session is refused, by its number.
 ghost use Rattle.std.specs.Prelude.{◌≡◌};
 ghost use Rattle.ir.specs.Refusals.{refusal_number};
 
@@ -32,6 +32,8 @@ pub enum Refusal {
     BadState = 13,
     // a clause with more than four variables
     WideClause = 14,
+    // an axiom to be struck that is not live
+    NotLive = 15,
 }
 
 impl Refusal {
