@@ -1,0 +1,3 @@
+// What a deck's text is, line by line; there is no code here. See specs/.
+
+#![tactic(auto)]
