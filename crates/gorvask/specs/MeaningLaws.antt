@@ -21,7 +21,7 @@ pub numbers_of_lem : (n : ℕ) (o : Outcome) → numbers_of n (reply_of o) ≡ n
 numbers_of_lem n (accepted x) = refl
 numbers_of_lem n (refused k line) = refl
 
-fit_if : (n : ℕ) (b : Bool) (o : Outcome) → eqb n numbers_bytes ≡ b → NumbersFit n (reply_of (run_if b o))
+pub fit_if : (n : ℕ) (b : Bool) (o : Outcome) → eqb n numbers_bytes ≡ b → NumbersFit n (reply_of (run_if b o))
 fit_if n false o e = tt
 fit_if n true (accepted x) e = eqb-true n numbers_bytes e
 fit_if n true (refused k line) e = tt
@@ -34,7 +34,7 @@ module _ (deck : List ℕ) (t : Lengths) (c a d : List ℕ) (r : Reply) (numbers
   abbrev Numbered : ℕ → Type 0
   Numbered s = s ≡ 0 → Meaning deck c a (get_or (words numbers) 0 0) (get_or (words numbers) 8 0) (get_or (words numbers) 5 0)
 
-  numbered_as : (o : Outcome) → Run deck t ≡ o → Answered o t r c a d → Numbered (code_of o)
+  pub numbered_as : (o : Outcome) → Run deck t ≡ o → Answered o t r c a d → Numbered (code_of o)
   numbered_as (accepted x) q A z =
       let e : words numbers ≡ ten_of _ _ _ = subst (TenWords (words numbers)) A.reply T in
       rw e (run_meaning deck t x c a q A.clauses A.atoms)

@@ -3,5 +3,6 @@
 #![tactic(auto)]
 
 mod reply;
+pub mod sessions;
 pub mod trial;
 pub mod with_stats;

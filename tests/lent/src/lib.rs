@@ -7,7 +7,9 @@ mod table;
 mod tables;
 
 pub use library::{
-    Clausify, Try, gorvask_clausify_with_stats, gorvask_try_axioms, gorvask_try_clauses,
+    Clausify, SessionNumber, SessionTake, SessionText, Try, gorvask_clausify_with_stats,
+    gorvask_session_add, gorvask_session_options, gorvask_session_start, gorvask_session_strike,
+    gorvask_session_take, gorvask_try_axioms, gorvask_try_clauses,
 };
 pub use link::link;
 pub use table::Lent;
@@ -24,6 +26,9 @@ pub const SCRATCH: usize = 1_572_864;
 
 /// The least bytes of the store of a state's test.
 pub const STORE: usize = 65_536;
+
+/// The bytes of a session: a word, and a deck of any length.
+pub const SESSION: usize = 65_540;
 
 /// A word's four bytes, low byte first.
 #[must_use]

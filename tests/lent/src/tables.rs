@@ -44,6 +44,12 @@ impl Tables {
             .map(|table| (table.pointer(), table.len()))
     }
 
+    /// Each table's name and bytes.
+    #[must_use]
+    pub fn contents(&self) -> [(&'static str, &[u8]); 5] {
+        [0, 1, 2, 3, 4].map(|place| (self.names[place], self.tables[place].bytes()))
+    }
+
     /// The words of the entry's own table.
     #[must_use]
     pub fn own(&self) -> Vec<u32> {
@@ -83,10 +89,14 @@ impl Tables {
     #[must_use]
     pub fn difference(&self, expected: &[Vec<u32>; 5]) -> Option<String> {
         let mut differences = (0..5).filter_map(|place| self.table_difference(place, expected));
-        differences.next().or_else(|| {
-            let mut tables = self.names.iter().zip(&self.tables);
-            tables.find_map(|(name, table)| table.beside(name))
-        })
+        differences.next().or_else(|| self.beside())
+    }
+
+    /// Where a byte beside one of the tables was written, if one was.
+    #[must_use]
+    pub fn beside(&self) -> Option<String> {
+        let mut tables = self.names.iter().zip(&self.tables);
+        tables.find_map(|(name, table)| table.beside(name))
     }
 
     fn table_difference(&self, place: usize, expected: &[Vec<u32>; 5]) -> Option<String> {

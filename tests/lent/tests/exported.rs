@@ -106,6 +106,11 @@ fn no_exported_function_asks_for_anything() {
         names,
         [
             "gorvask_clausify_with_stats",
+            "gorvask_session_add",
+            "gorvask_session_options",
+            "gorvask_session_start",
+            "gorvask_session_strike",
+            "gorvask_session_take",
             "gorvask_try_axioms",
             "gorvask_try_clauses"
         ]
