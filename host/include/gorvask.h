@@ -1,8 +1,9 @@
-/* Gorvask: from a deck of axioms to DL-clauses, and a state of the layout tested against both.
+/* Gorvask: from a deck of axioms to DL-clauses, a state of the layout tested against both, and a session in which the axioms of
+ * a deck are added and struck one by one.
  *
- * Three functions. They keep nothing between calls, allocate nothing and read no environment, so threads may call them side by
- * side, each with tables of its own. A call always ends, and every byte that it was lent is decided by the deck, the state and
- * the lent sizes. */
+ * Eight functions. They keep nothing between calls, allocate nothing and read no environment, so threads may call them side by
+ * side, each with tables of its own. A call always ends, and every byte that it was lent is decided by what it was given to
+ * read (a deck, a state, a session, a line, a number) and the lent sizes. */
 #ifndef GORVASK_H
 #define GORVASK_H
 
@@ -93,6 +94,58 @@ enum gorvask_store_word {
     GORVASK_STORE_ELEMENTS = 12
 };
 
+/* ---- A session
+ *
+ * A session holds the live deck: its counts, key marks and concepts stay, its axioms are added and struck, its options change.
+ * It is lent by the caller and has exactly so many bytes: the length n of the deck's text as a word, the n bytes of the text,
+ * and zeros to the end. So it may be copied, kept in a file and handed in again; nothing else belongs to it.
+ *
+ * Each function but the first is refused by 1 unless the session is just that, of a deck that passes the line checks (2 to 9);
+ * so a session of zeros is none. A refused call leaves the session as it was. Scratch is all zeros after each call. WHAT IS
+ * READ, THE SESSION AND THE OTHER TABLES MUST BE DISJOINT. */
+#define GORVASK_SESSION_BYTES 65540u
+
+/* Each reply is 0 where it is done, or a refusal's number times 2^32 plus a line of the live deck, 0 where none is named.
+ *
+ * A start puts a deck that passes the line checks in the place of whatever the session held. Otherwise the reply is the deck's
+ * refusal, 2 to 9 with its line, and the session is all zeros. */
+uint64_t gorvask_session_start(
+    const uint8_t *deck, size_t deck_len,
+    uint8_t *session, size_t session_len,
+    uint8_t *scratch, size_t scratch_len);
+
+/* Adds one line of the kinds 21 to 36, its line feed with it, behind the live deck, and checks it there as the last line. 2 at
+ * line 0 where both together are over 65,536 bytes. Any other refusal has the line that would be the last: 3 for an empty text;
+ * 2 where the columns of its first line are wrong; 3 where more stands behind the line feed, for any other kind, and for too
+ * few or too many numbers; 4 for a list of over 128 or the 1,025th axiom; 5 for a name that is not there. */
+uint64_t gorvask_session_add(
+    const uint8_t *line, size_t line_len,
+    uint8_t *session, size_t session_len,
+    uint8_t *scratch, size_t scratch_len);
+
+/* Strikes the axiom on a line of the live deck, counted from 1, the header's. The lines behind it move up. 15 at line 0 where
+ * no axiom stands there. */
+uint64_t gorvask_session_strike(
+    uint32_t line,
+    uint8_t *session, size_t session_len,
+    uint8_t *scratch, size_t scratch_len);
+
+/* Changes the options of the live deck. 4 at line 1 above 7. */
+uint64_t gorvask_session_options(
+    uint32_t options,
+    uint8_t *session, size_t session_len,
+    uint8_t *scratch, size_t scratch_len);
+
+/* The clauses of the live deck: the reply and every byte of the tables are those of gorvask_clausify_with_stats of that deck,
+ * refusals 10 to 12 with its lines. The session is only read. */
+uint64_t gorvask_session_take(
+    const uint8_t *session, size_t session_len,
+    uint8_t *clauses, size_t clauses_len,
+    uint8_t *atoms, size_t atoms_len,
+    uint8_t *deferrals, size_t deferrals_len,
+    uint8_t *numbers, size_t numbers_len,
+    uint8_t *scratch, size_t scratch_len);
+
 /* ---- Records
  *
  * Clause: first atom, body count, head count. Its atoms are one run of the atom table, body first. There are
@@ -161,9 +214,10 @@ enum gorvask_number {
  *
  * Lines are checked from the first, each for 2 to 9 in turn. 10 to 12 come with the axiom's line, or 0 after the last
  * axiom. 12 may go away with larger tables: lend twice the records and call again, up to the most. It stays where a single
- * body or head passes 256 atoms. 13 and 14 are of the tests alone, and follow 12. */
+ * body or head passes 256 atoms. 13 and 14 are of the tests alone, and follow 12. 15 is of a session alone, and comes straight
+ * after 1. */
 enum gorvask_refusal {
-    GORVASK_WRONG_SIZE = 1,     /* a lent table has the wrong size: see above (line 0) */
+    GORVASK_WRONG_SIZE = 1,     /* a lent table has the wrong size, or a session holds no good deck: see above (line 0) */
     GORVASK_BAD_COLUMNS = 2,    /* the deck exceeds 65,536 bytes (line 0), or the line breaks the column layout */
     GORVASK_BAD_LINE = 3,       /* unknown kind, too few or too many fields, out of section order; or an empty deck */
     GORVASK_PAST_LIMIT = 4,     /* over 4,096 classes, 4,096 individuals, 1,024 roles, options 7, lists of 128,
@@ -178,7 +232,8 @@ enum gorvask_refusal {
     GORVASK_POOL_FULL = 11,     /* more than 2,048 concepts or 16,384 list members in normal form */
     GORVASK_NO_ROOM = 12,       /* a body or head of more than 256 atoms, or a table's end */
     GORVASK_BAD_STATE = 13,     /* the state's first bad line, 1 if it is empty; 0 where only a line 53 is missing */
-    GORVASK_WIDE_CLAUSE = 14    /* a clause that is to be tested has over four distinct variables (line 0) */
+    GORVASK_WIDE_CLAUSE = 14,   /* a clause that is to be tested has over four distinct variables (line 0) */
+    GORVASK_NOT_LIVE = 15       /* the line that is to be struck is no axiom's in the live deck (line 0) */
 };
 
 /* ---- Reading */

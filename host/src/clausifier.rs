@@ -108,6 +108,11 @@ impl Clausifier {
         Ok(self.accepted(deck))
     }
 
+    /// Scratch, for calls that are lent no other table.
+    pub(crate) fn scratch(&mut self) -> &mut [u8] {
+        self.tables.scratch()
+    }
+
     /// What the accepted call of this deck left in the tables.
     fn accepted(&mut self, deck: &[u8]) -> Clauses<'_> {
         self.keys = keys::of(deck);

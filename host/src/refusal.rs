@@ -1,4 +1,4 @@
-//! Why a deck or a state is refused.
+//! Why a deck, a state or a call of a session is refused.
 
 mod wording;
 
@@ -7,7 +7,8 @@ use std::fmt;
 
 use crate::words;
 
-/// A refusal: its number, and the line that it names, the state's of [`RefusalKind::BadState`] and the deck's of all others.
+/// A refusal: its number, and the line that it names, the state's of [`RefusalKind::BadState`] and the deck's of all others; a
+/// session's deck is the live one.
 #[derive(Clone, Copy, Debug, PartialEq, Eq, Hash)]
 pub struct Refusal {
     number: u32,
@@ -15,7 +16,8 @@ pub struct Refusal {
 }
 
 impl Refusal {
-    /// The refusal that a reply of the C interface tells; none where the deck is accepted, or a test has its verdict.
+    /// The refusal that a reply of the C interface tells; none where the deck is accepted, a test has its verdict, or what a
+    /// session was asked for is done.
     #[must_use]
     pub fn of_reply(reply: u64) -> Option<Self> {
         let [line, number] = words::of(&reply.to_le_bytes());
@@ -30,7 +32,7 @@ impl Refusal {
         known.unwrap_or(RefusalKind::Unknown)
     }
 
-    /// The number, 1 to 14.
+    /// The number, 1 to 15.
     #[must_use]
     pub fn number(self) -> u32 {
         self.number
@@ -84,14 +86,15 @@ impl fmt::Display for Refusal {
 impl Error for Refusal {}
 
 /// The kinds of refusal, each with its number. Lines are checked from the first, each for 2 to 9 in turn; 10 to 12 come where
-/// the run meets them; 13 and 14, of a state's test, follow them.
+/// the run meets them; 13 and 14, of a state's test, follow them; 15, of a session, comes straight after 1.
 #[derive(Clone, Copy, Debug, PartialEq, Eq, PartialOrd, Ord, Hash)]
 #[repr(u8)]
 #[non_exhaustive]
 pub enum RefusalKind {
     /// A number that this wrapper does not know: it may be older than the library.
     Unknown = 0,
-    /// A lent table has the wrong size. A [`Clausifier`](crate::Clausifier) lends none such.
+    /// A lent table has the wrong size, which a [`Clausifier`](crate::Clausifier) never lends; or a session holds no deck that
+    /// passes the line checks.
     WrongSize = 1,
     /// The deck is too long, or the line breaks the columns.
     BadColumns = 2,
@@ -119,11 +122,13 @@ pub enum RefusalKind {
     BadState = 13,
     /// A clause that is to be tested has over four variables.
     WideClause = 14,
+    /// The line that is to be struck is no axiom's in the session's deck.
+    NotLive = 15,
 }
 
 impl RefusalKind {
     /// All that have a number, in the order of their numbers.
-    pub const ALL: [Self; 14] = [
+    pub const ALL: [Self; 15] = [
         Self::WrongSize,
         Self::BadColumns,
         Self::BadLine,
@@ -138,6 +143,7 @@ impl RefusalKind {
         Self::NoRoom,
         Self::BadState,
         Self::WideClause,
+        Self::NotLive,
     ];
 
     /// The kind's number; none where it is unknown.

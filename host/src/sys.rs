@@ -1,5 +1,12 @@
 //! The C interface as `include/gorvask.h` declares it, and the sizes that go with it.
 
+mod session;
+
+pub use session::{
+    gorvask_session_add, gorvask_session_options, gorvask_session_start, gorvask_session_strike,
+    gorvask_session_take,
+};
+
 /// Bytes of a clause's record.
 pub const CLAUSE_BYTES: usize = 12;
 /// Bytes of an atom's record.
@@ -12,6 +19,8 @@ pub const NUMBERS_BYTES: usize = 40;
 pub const SCRATCH_BYTES: usize = 1_572_864;
 /// The least that the store of a test has.
 pub const STORE_BYTES: usize = 65_536;
+/// The bytes of a session: the length of the live deck, its text, and zeros.
+pub const SESSION_BYTES: usize = 65_540;
 
 #[cfg(any(gorvask_linked, not(test)))]
 unsafe extern "C" {

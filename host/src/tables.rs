@@ -4,6 +4,22 @@ use crate::sizes::Sizes;
 use crate::sys::{self, ATOM_BYTES, CLAUSE_BYTES, DEFERRAL_BYTES, NUMBERS_BYTES, SCRATCH_BYTES};
 use crate::tried::Test;
 
+/// The calls that read a deck or a session and write the five tables.
+type Clausify = unsafe extern "C" fn(
+    *const u8,
+    usize,
+    *mut u8,
+    usize,
+    *mut u8,
+    usize,
+    *mut u8,
+    usize,
+    *mut u8,
+    usize,
+    *mut u8,
+    usize,
+) -> u64;
+
 /// The five tables of a call.
 #[derive(Clone)]
 pub(crate) struct Tables {
@@ -83,8 +99,22 @@ impl Tables {
         }
     }
 
+    /// Scratch, for calls that are lent no other table.
+    pub fn scratch(&mut self) -> &mut [u8] {
+        &mut self.scratch
+    }
+
     /// One call with the tables as they are.
     pub fn call(&mut self, deck: &[u8]) -> u64 {
+        self.call_by(sys::gorvask_clausify_with_stats, deck)
+    }
+
+    /// One taking of a session's clauses, likewise.
+    pub fn call_take(&mut self, session: &[u8]) -> u64 {
+        self.call_by(sys::gorvask_session_take, session)
+    }
+
+    fn call_by(&mut self, entry: Clausify, read: &[u8]) -> u64 {
         let Self {
             clauses,
             atoms,
@@ -93,11 +123,11 @@ impl Tables {
             scratch,
         } = self;
         // SAFETY: each pointer comes with its slice's length; the tables are borrowed as mutable, so that they overlap
-        // neither one another nor the deck, and nothing else uses them.
+        // neither one another nor what is read, and nothing else uses them.
         unsafe {
-            sys::gorvask_clausify_with_stats(
-                deck.as_ptr(),
-                deck.len(),
+            entry(
+                read.as_ptr(),
+                read.len(),
                 clauses.as_mut_ptr(),
                 clauses.len(),
                 atoms.as_mut_ptr(),

@@ -203,7 +203,7 @@ fn from_small_tables_a_refusal_takes_four_calls() {
 
 #[test]
 fn other_refusals_take_one_call() {
-    for number in (1..12).chain(13..15) {
+    for number in (1..12).chain(13..16) {
         let mut calls = 0;
         let refused = Clausifier::new()
             .clausify_by(&deck(60_000), |_, _| {

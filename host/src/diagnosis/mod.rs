@@ -1,5 +1,5 @@
-//! What is wrong with a deck that the line checks refuse (refusals 2 to 9), as far as it can be told; [`state`] has the same of a
-//! state (refusal 13).
+//! What is wrong with a deck that the line checks refuse (refusals 2 to 9), as far as it can be told; [`state`] has the same of
+//! a state (refusal 13), and [`session`] of what a session is asked for (refusals 2 to 5 and 15).
 //!
 //! Nothing here is proved. The answer is the library's number and line; a diagnosis only helps to find the cause. Where it
 //! has another number or line than the library, or there is none, the library's words are all there is to say. Tests hold
@@ -14,6 +14,7 @@ mod members;
 mod names;
 mod nesting;
 mod row;
+pub mod session;
 mod shape;
 pub mod state;
 #[cfg(test)]
@@ -23,12 +24,14 @@ use std::fmt;
 
 use known::Known;
 
-/// What is wrong with a deck or a state that the line checks refuse. Unproved: the library's number and line are the answer.
+/// What is wrong with a deck or a state that the line checks refuse, or with a change of a session's deck. Unproved: the
+/// library's number and line are the answer.
 #[derive(Clone, Debug, PartialEq, Eq)]
 pub struct Diagnosis {
-    /// The refusal's number, 2 to 9 of a deck, 13 of a state.
+    /// The refusal's number, 2 to 9 of a deck, 13 of a state, 15 where a session has no such axiom.
     pub number: u32,
-    /// The first bad line, from 1; 0 where the deck is too long, or where only an individual's line is missing in a state.
+    /// The first bad line, from 1; 0 of 15, where the deck is too long, or where only an individual's line is missing in a
+    /// state.
     pub line: u32,
     /// The byte of the line, from 1, at which the cause is met; none where it is no one place.
     pub column: Option<u32>,

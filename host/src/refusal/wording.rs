@@ -1,11 +1,12 @@
-//! Words for whoever wrote the deck or the state: the table of refusals in `docs/ENTRIES.md`.
+//! Words for whoever wrote the deck or the state, or changes a session's deck: the table of refusals in `docs/ENTRIES.md`.
 
-/// What is wrong and what to do, of the numbers 1 to 14. Of 2 and 13 it is what is wrong with a line.
-pub const OF_NUMBERS: [[&str; 2]; 14] = [
+/// What is wrong and what to do, of the numbers 1 to 15. Of 2 and 13 it is what is wrong with a line.
+pub const OF_NUMBERS: [[&str; 2]; 15] = [
     [
         "the calling program has lent a table of a wrong size: scratch too small, a table that is not whole records \
-         or too large, `numbers` other than 40 bytes, or a store under 65,536 bytes. The deck was not looked at",
-        "have the program corrected",
+         or too large, `numbers` other than 40 bytes, a store under 65,536 bytes, or a session other than 65,540; or it has \
+         handed in a session that holds no deck that passes the line checks. Nothing else was looked at",
+        "have the program corrected, or start the session anew",
     ],
     [
         "the line's columns are wrong: every number is decimal, right-justified in 11 columns with at least one space \
@@ -71,6 +72,11 @@ pub const OF_NUMBERS: [[&str; 2]; 14] = [
     [
         "a clause has over four distinct variables. The state is laid out well, and the axioms can be tested in it",
         "test the axioms alone; or give a part of the rule a class of its own",
+    ],
+    [
+        "the line that is to be struck is no axiom's in the session's deck",
+        "look up the axiom's line in that deck as it is now: it counts from 1, the header first, and behind a struck line \
+         the others have moved up",
     ],
 ];
 

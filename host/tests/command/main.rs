@@ -9,6 +9,8 @@ mod names;
 mod process;
 mod promise;
 mod refusals;
+mod session_ends;
+mod sessions;
 mod states;
 mod tries;
 mod usage;

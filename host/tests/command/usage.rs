@@ -70,11 +70,11 @@ fn version_commit_and_toolchain() {
 const WRONG: &[(&[&str], &str)] = &[
     (
         &[""],
-        "the subcommand's name is empty; there are list, text, check, try",
+        "the subcommand's name is empty; there are list, text, check, try, session",
     ),
     (
         &["lst"],
-        "there is no subcommand lst; there are list, text, check, try",
+        "there is no subcommand lst; there are list, text, check, try, session",
     ),
     (
         &["examples/junction.deck"],
@@ -114,6 +114,22 @@ const WRONG: &[(&[&str], &str)] = &[
         "there is no option -q (known here: --axioms, --clauses, --rows, --names); a file of that name is given behind --",
     ),
     (&["try", "--rows=1", "a", "b"], "--rows takes no value"),
+    (
+        &["session", ""],
+        "the deck's name is empty: name a file, or leave it out",
+    ),
+    (
+        &["session", "-"],
+        "the deck cannot be on standard input, where the commands are",
+    ),
+    (
+        &["session", "a", "b"],
+        "one deck at a time, and not both a and b",
+    ),
+    (
+        &["session", "--names", "n"],
+        "there is no option --names (known here: --rows); a deck of that name is given behind --",
+    ),
     (&["--version", "x"], "--version stands alone"),
 ];
 

@@ -106,7 +106,7 @@ pub fn refused() -> Vec<(u32, Option<u32>, Vec<u8>)> {
 }
 
 /// Each level names the one below twice.
-fn many_visits() -> (u32, Option<u32>, Vec<u8>) {
+pub fn many_visits() -> (u32, Option<u32>, Vec<u8>) {
     let mut rows = vec![vec![0, 1, 0, 2, 0], vec![3, 0]];
     for level in 0..20 {
         let below = 3 * level;

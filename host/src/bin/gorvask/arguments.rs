@@ -20,13 +20,15 @@ pub enum Files {
     Deck,
     /// A deck and a state, both of them named.
     DeckAndState,
+    /// A deck or none; standard input has something else.
+    DeckOrNone,
 }
 
 impl Files {
     /// What the file at a place is, and each one behind the last.
     fn at(self, place: usize) -> &'static str {
         match (self, place) {
-            (Self::Deck, _) | (_, 0) => "deck",
+            (Self::Deck | Self::DeckOrNone, _) | (_, 0) => "deck",
             (Self::DeckAndState, _) => "state",
         }
     }
@@ -36,6 +38,7 @@ impl Files {
         let input = match self {
             Self::Deck => "take - or nothing for standard input",
             Self::DeckAndState => "take - for standard input",
+            Self::DeckOrNone => "leave it out",
         };
         format!("the {what}'s name is empty: name a file, or {input}")
     }
@@ -44,7 +47,7 @@ impl Files {
     fn one_too_many(self, files: &[OsString], file: &OsStr) -> Option<String> {
         let file = file.to_string_lossy();
         match (self, files) {
-            (Self::Deck, [first]) => {
+            (Self::Deck | Self::DeckOrNone, [first]) => {
                 let first = first.to_string_lossy();
                 Some(format!(
                     "one deck at a time, and not both {first} and {file}"
@@ -63,7 +66,10 @@ impl Files {
             (Self::DeckAndState, [deck, state]) if deck == "-" && state == "-" => {
                 Some("the deck and the state cannot both be on standard input")
             }
-            (Self::Deck, _) | (Self::DeckAndState, [_, _]) => None,
+            (Self::DeckOrNone, [deck]) if deck == "-" => {
+                Some("the deck cannot be on standard input, where the commands are")
+            }
+            (Self::Deck | Self::DeckOrNone, _) | (Self::DeckAndState, [_, _]) => None,
             (Self::DeckAndState, _) => {
                 Some("a state is tried with its deck, and both are named: gorvask try DECK STATE")
             }
@@ -180,7 +186,7 @@ fn unknown(word: &str, files: Files, forms: &[Form]) -> Failure {
         _ => format!("known here: {}", known.join(", ")),
     };
     let file = match files {
-        Files::Deck => "deck",
+        Files::Deck | Files::DeckOrNone => "deck",
         Files::DeckAndState => "file",
     };
     Failure::Usage(format!(

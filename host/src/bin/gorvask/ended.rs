@@ -6,7 +6,8 @@ use std::io::{self, Write};
 #[derive(Clone, Copy, Debug, PartialEq, Eq)]
 #[repr(u8)]
 pub enum Status {
-    /// Accepted, and promised whole; or all that was tested holds; or help or version printed.
+    /// Accepted, and promised whole; or all that was tested holds; or what a session was asked for is done; or help or version
+    /// printed.
     Whole = 0,
     /// A write failed, or the command itself.
     Failed = 1,
@@ -14,7 +15,7 @@ pub enum Status {
     BadInput = 2,
     /// Accepted, but not promised whole.
     NotWhole = 3,
-    /// The deck or the state is refused.
+    /// The deck, the state or what a session was asked for is refused.
     Refused = 4,
     /// The state breaks something that was tested.
     Broken = 5,
@@ -25,7 +26,7 @@ pub enum Status {
 pub enum Failure {
     /// The arguments are wrong.
     Usage(String),
-    /// A file cannot be read, or has no names.
+    /// A file cannot be read, or has no names; or a session's command is none.
     Input(String),
     /// An output cannot be written.
     Write(io::Error),

@@ -7,7 +7,7 @@ use std::io::{self, ErrorKind, IsTerminal, Read};
 use crate::ended::{Failure, tell};
 
 /// One byte more than a deck may have, so that a longer one is refused like the whole of it.
-const MOST_OF_DECK: u64 = 65_537;
+pub const MOST_OF_DECK: u64 = 65_537;
 /// A state that is laid out well has under 871,000,000 bytes: of classes, roles and individuals it has at most 1,069,632, 1,024
 /// and 4,096 lines, and behind an id at most 64 elements, 4,096 pairs and one element. So a longer one has its first bad line
 /// before this too, and is refused like the whole of it.

@@ -37,7 +37,8 @@ fn run(arguments: &Arguments) -> Result<Status, Failure> {
     }
 }
 
-fn answer(
+/// The listing, or the row of the refusal, and what is said of either.
+pub fn answer(
     deck: &Input,
     answer: Result<Clauses<'_>, Refusal>,
     lent: Lent,

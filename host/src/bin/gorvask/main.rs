@@ -10,6 +10,7 @@ mod names;
 mod output;
 mod refused;
 mod row;
+mod session;
 mod subcommand;
 mod summary;
 mod text;

@@ -5,7 +5,7 @@ use std::path::Path;
 
 use crate::arguments::{Arguments, Files, Form};
 use crate::ended::{Failure, Status};
-use crate::{check, list, text, trial};
+use crate::{check, list, session, text, trial};
 
 /// One of the things that the command does with a deck.
 pub struct Subcommand {
@@ -22,6 +22,7 @@ pub const ALL: &[Subcommand] = &[
     text::SUBCOMMAND,
     check::SUBCOMMAND,
     trial::SUBCOMMAND,
+    session::SUBCOMMAND,
 ];
 
 /// Runs the subcommand of that name.

@@ -4,11 +4,12 @@ mod concepts;
 mod layout;
 mod limits;
 mod names;
+mod session;
 mod shape;
 
 use std::fmt::Write;
 
-use super::diagnose;
+use super::{Diagnosis, diagnose};
 
 /// Document 01's worked deck: A0 below Some r0 A1.
 const WORKED: [&[u32]; 5] = [&[0, 3, 0, 1, 3], &[3, 0], &[3, 1], &[9, 0, 1], &[21, 0, 2]];

@@ -136,3 +136,34 @@ fn what_is_wrong_with_two_files_is_told() {
         assert_eq!(read.map(|_| ()), Err(told.to_owned()));
     }
 }
+
+#[test]
+fn a_deck_or_none() {
+    for (words, deck) in [
+        (&[][..], None),
+        (&["--flag"], None),
+        (&["d", "--flag"], Some("d")),
+        (&["--", "--flag"], Some("--flag")),
+    ] {
+        let arguments = read_for(Files::DeckOrNone, words).expect("arguments");
+        assert_eq!(arguments.deck(), deck.map(OsStr::new));
+    }
+    for (words, told) in [
+        (
+            &[""][..],
+            "the deck's name is empty: name a file, or leave it out",
+        ),
+        (
+            &["--flag", "-"],
+            "the deck cannot be on standard input, where the commands are",
+        ),
+        (&["-", "d"], "one deck at a time, and not both - and d"),
+        (
+            &["-x"],
+            "there is no option -x (known here: --names, --flag); a deck of that name is given behind --",
+        ),
+    ] {
+        let read = read_for(Files::DeckOrNone, words);
+        assert_eq!(read.map(|_| ()), Err(told.to_owned()));
+    }
+}
