@@ -13,8 +13,8 @@ mod reflexive;
 mod tables;
 mod wide;
 
-use crate::Deck;
 use crate::random::Random;
+use crate::{Axiom, Deck};
 use builder::Builder;
 
 /// What a deck dwells on.
@@ -129,6 +129,19 @@ pub fn unfolding(rng: &mut Random, more: u32) -> Deck {
     let mut builder = Builder::new(rng);
     reflexive::unfolding(&mut builder, 12, more);
     builder.finish()
+}
+
+/// An axiom over the names and concepts of a deck, of any kind that these allow.
+pub fn axiom_of(rng: &mut Random, deck: &Deck) -> Axiom {
+    loop {
+        let mut builder = Builder::on(rng, deck);
+        let lines = builder.len();
+        let axiom = builder.random_axiom(&draw::EVEN);
+        // A list of classes may have asked for a concept line more.
+        if builder.len() == lines {
+            return axiom;
+        }
+    }
 }
 
 /// A deck with a body of 254 to 256 atoms that a counted loop lengthens by one.

@@ -34,12 +34,14 @@ pub fn row(out: &mut Vec<u8>, numbers: &[u32]) {
 }
 
 /// Bytes of a line of so many numbers.
-pub(crate) fn line_bytes(numbers: usize) -> usize {
+#[must_use]
+pub fn line_bytes(numbers: usize) -> usize {
     FIELD * numbers + 1
 }
 
 /// Lengths of lists that, each behind its kind, take up exactly `bytes` together, 1,000 or more.
-pub(crate) fn lists_of_bytes(bytes: usize) -> Vec<usize> {
+#[must_use]
+pub fn lists_of_bytes(bytes: usize) -> Vec<usize> {
     // A line has one byte beyond its fields, so the number of lines is known up to a multiple of 11.
     let mut lines = bytes % FIELD;
     while lines * line_bytes(1 + LIST) < bytes {

@@ -4,4 +4,4 @@
 #[path = "../../../host/src/diagnosis/mod.rs"]
 mod diagnosis;
 
-pub use diagnosis::{Diagnosis, diagnose, state};
+pub use diagnosis::{Diagnosis, diagnose, session, state};

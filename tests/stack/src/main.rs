@@ -6,7 +6,7 @@ use std::thread;
 
 use deck::generate::{Shape, generate};
 use deck::random::Random;
-use stack::call::{Input, Replies, Tables, state};
+use stack::call::{Input, Replies, TAKE, Tables, state};
 use stack::decks::decks;
 
 /// Shapes of generated decks that nest, and how many of each.
@@ -75,6 +75,8 @@ fn measure(most: usize) -> Vec<Measured> {
         let (replies, bytes) = tables.measured(&input, most);
         // Where the deck is accepted its axioms are tested.
         assert!(replies[0] > 0 || replies[1] < 2, "{name}: {replies:?}");
+        // A session's clauses are the deck's.
+        assert_eq!(replies[0], replies[TAKE], "{name}: {replies:?}");
         Measured {
             name,
             input,

@@ -1,0 +1,3 @@
+fn main() {
+    lent::link("gorvask");
+}
