@@ -8,6 +8,7 @@ mod extreme;
 mod figures;
 mod fitted;
 mod fresh;
+mod in_rust;
 mod layout;
 mod measure;
 mod ours;
@@ -16,6 +17,7 @@ mod quiet;
 mod realistic;
 mod report;
 mod results;
+mod sessions;
 mod store;
 mod trials;
 mod tried;
@@ -28,24 +30,27 @@ use std::process::ExitCode;
 use std::time::Duration;
 
 use count::Counter;
-use decks::{kinds, series};
+use decks::{REALISTIC, kinds, series};
 use quiet::Ticks;
 use report::Report;
 use results::{Build, Row};
+use sessions::Played;
 use store::Run;
 use trials::Texts;
 use tried::Tried;
 use ways::{Prepared, Way};
 
 const USAGE: &str = "\
-bench measure [--to FILE] [--build plain|LTO] [--rounds N] [--no-counts]
-                             a whole run, written to the file or printed; says how this program was built
+bench measure [--to FILE] [--build plain|LTO] [--rounds N] [--no-counts] [--sessions]
+                             a whole run, or one of the sessions alone, written to the file or printed; says how this program
+                             was built
 bench page [--to FOLDER] [--date DATE] [--tools WORDS] FILE..
                              of such runs PERFORMANCE.md and performance.svg in the folder, or the page printed; nothing is
                              written where other work took over 2 % of the processors' time in a run
 bench decks FOLDER           writes the decks and states
 bench once WAY CALLS DECK [STATE]
-                             so many calls on one deck, or on a deck and a state, for the counting of instructions
+                             so many calls on one deck or a session of it, or on a deck and a state, for the counting of
+                             instructions
 ";
 
 type Outcome<T = ()> = Result<T, Box<dyn Error>>;
@@ -74,6 +79,8 @@ struct Settings {
     build: Build,
     rounds: usize,
     counts: bool,
+    /// Whether the sessions alone are measured.
+    sessions: bool,
 }
 
 fn settings(words: &[&str]) -> Outcome<Settings> {
@@ -82,6 +89,7 @@ fn settings(words: &[&str]) -> Outcome<Settings> {
         build: Build::Plain,
         rounds: 15,
         counts: true,
+        sessions: false,
     };
     let mut words = words.iter().copied();
     while let Some(word) = words.next() {
@@ -91,6 +99,7 @@ fn settings(words: &[&str]) -> Outcome<Settings> {
             "--build" => settings.build = Build::named(value()?).ok_or(USAGE)?,
             "--rounds" => settings.rounds = value()?.parse()?,
             "--no-counts" => settings.counts = false,
+            "--sessions" => settings.sessions = true,
             _ => return Err(USAGE.into()),
         }
     }
@@ -101,38 +110,55 @@ fn measure(words: &[&str]) -> Outcome {
     let settings = settings(words)?;
     let before = Ticks::now();
     let counter = settings.counts.then(Counter::find).flatten();
-    let (build, rounds) = (settings.build, settings.rounds);
-    let mut rows = Vec::new();
-    for kind in kinds() {
-        eprintln!("{}", kind.name);
-        let mut row = Row::of(kind.name, build, &kind.decks, rounds);
-        if let Some(counter) = counter {
-            row.count(counter, Way::shown(ours::MEASURED), &[&kind.decks[0]])?;
-        }
-        rows.push(row);
-    }
-    let mut grown = Vec::new();
-    for (axioms, decks) in series() {
-        eprintln!("{axioms} axioms");
-        grown.push(Row::of(&axioms.to_string(), build, &decks, rounds));
-    }
-    let states = measure_states(&settings, counter)?;
-    let reading = measure_reading(&settings, counter)?;
-    let run = Run {
-        build,
-        rounds,
-        others: Ticks::now().others_since(&before),
+    let mut run = Run {
+        build: settings.build,
+        rounds: settings.rounds,
+        others: 0.0,
         counter,
-        rows,
-        series: grown,
-        states,
-        reading,
+        rows: Vec::new(),
+        series: Vec::new(),
+        states: Vec::new(),
+        reading: Vec::new(),
+        sessions: Vec::new(),
     };
+    if !settings.sessions {
+        run.rows = measure_kinds(&settings, counter)?;
+        run.series = measure_series(&settings);
+        run.states = measure_states(&settings, counter)?;
+        run.reading = measure_reading(&settings, counter)?;
+    }
+    run.sessions = measure_sessions(&settings, counter)?;
+    run.others = Ticks::now().others_since(&before);
     match settings.to {
         Some(file) => fs::write(file, run.text())?,
         None => print!("{}", run.text()),
     }
     Ok(())
+}
+
+/// Each kind of deck.
+fn measure_kinds(settings: &Settings, counter: Option<Counter>) -> Outcome<Vec<Row>> {
+    let mut rows = Vec::new();
+    for kind in kinds() {
+        eprintln!("{}", kind.name);
+        let mut row = Row::of(kind.name, settings.build, &kind.decks, settings.rounds);
+        if let Some(counter) = counter {
+            row.count(counter, Way::shown(ours::MEASURED), &[&kind.decks[0]])?;
+        }
+        rows.push(row);
+    }
+    Ok(rows)
+}
+
+/// Decks of rising size.
+fn measure_series(settings: &Settings) -> Vec<Row> {
+    let mut rows = Vec::new();
+    for (axioms, decks) in series() {
+        eprintln!("{axioms} axioms");
+        let name = axioms.to_string();
+        rows.push(Row::of(&name, settings.build, &decks, settings.rounds));
+    }
+    rows
 }
 
 /// Both tests of each state, and where the second evaluator ends in short time their instructions; nothing without Gorvask.
@@ -171,6 +197,23 @@ fn measure_reading(settings: &Settings, counter: Option<Counter>) -> Outcome<Vec
     Ok(rows)
 }
 
+/// The calls of a session of each deck, and of Gorvask's in the plain build, which is shown, their instructions.
+fn measure_sessions(settings: &Settings, counter: Option<Counter>) -> Outcome<Vec<Row>> {
+    let mut rows = Vec::new();
+    if !ours::MEASURED {
+        return Ok(rows);
+    }
+    for kind in sessions::kinds() {
+        eprintln!("a session of {}", kind.name);
+        let mut row = Row::of_sessions(&kind, settings.build, settings.rounds);
+        if let Some(counter) = counter.filter(|_| settings.build == Build::Plain) {
+            row.count(counter, Way::SESSION, &[&kind.decks[0]])?;
+        }
+        rows.push(row);
+    }
+    Ok(rows)
+}
+
 /// The page of stored runs.
 fn page(words: &[&str]) -> Outcome {
     let (mut to, mut date, mut tools) = (None, "a day that was not told", "");
@@ -192,6 +235,7 @@ fn page(words: &[&str]) -> Outcome {
     match to {
         Some(folder) => {
             report.quiet()?;
+            report.whole()?;
             fs::create_dir_all(&folder)?;
             fs::write(folder.join("PERFORMANCE.md"), report.page())?;
             fs::write(folder.join("performance.svg"), report.picture())?;
@@ -214,7 +258,9 @@ fn machine() -> String {
 
 fn write_decks(folder: &Path) -> Outcome {
     fs::create_dir_all(folder)?;
-    for kind in kinds() {
+    let sessions = sessions::kinds().into_iter();
+    let others = sessions.filter(|kind| kind.name != REALISTIC);
+    for kind in kinds().into_iter().chain(others) {
         let name = file_name(kind.name);
         for (number, deck) in kind.decks.iter().enumerate() {
             fs::write(folder.join(format!("{name}-{number}.deck")), deck)?;
@@ -236,16 +282,24 @@ fn write_decks(folder: &Path) -> Outcome {
     Ok(())
 }
 
-/// A kind's name without spaces and commas.
+/// A kind's name without spaces, commas and the like.
 fn file_name(kind: &str) -> String {
-    kind.replace(", ", "-").replace([' ', ','], "-")
+    kind.replace(", ", "-")
+        .replace([' ', ','], "-")
+        .replace(['`', '/'], "")
 }
 
 fn once(way: &str, calls: &str, deck: &str) -> Outcome {
     let deck = fs::read(deck)?;
-    let is_timed = |way: &Way| Way::timed().contains(way);
-    let way = Way::named(way).filter(is_timed).ok_or(USAGE)?;
-    Prepared::new(&deck).time(way, calls.parse()?, Duration::ZERO);
+    let calls = calls.parse()?;
+    let way = Way::named(way).ok_or(USAGE)?;
+    if Way::timed().contains(&way) {
+        Prepared::new(&deck).time(way, calls, Duration::ZERO);
+    } else if ours::MEASURED && Way::of_sessions().any(|of| of == way) {
+        Played::new(&deck).time(way, calls, Duration::ZERO);
+    } else {
+        return Err(USAGE.into());
+    }
     Ok(())
 }
 

@@ -23,6 +23,13 @@ mod side {
     use gorvask::{Atom, Atoms, Clausifier, Statistics};
     use states::Test;
 
+    use crate::sessions::Asked;
+
+    /// An entry of a session that reads a deck or a line.
+    type OfText = unsafe extern "C" fn(*const u8, usize, *mut u8, usize, *mut u8, usize) -> u64;
+    /// One that is told a number.
+    type OfNumber = unsafe extern "C" fn(u32, *mut u8, usize, *mut u8, usize) -> u64;
+
     /// A clausifier whose tables have the sizes at which its growth ended for a deck; and tables to clear.
     pub struct Ours {
         clausifier: Clausifier,
@@ -159,6 +166,72 @@ mod side {
             }
         }
 
+        /// Clauses, atoms, deferrals and numbers.
+        pub fn answer(&self) -> Vec<u8> {
+            let records = [&self.clauses, &self.atoms, &self.deferrals].map(|table| &table[..]);
+            [records.concat(), self.numbers.to_vec()].concat()
+        }
+
+        /// The reply to a session's call.
+        pub fn ask(&mut self, asked: Asked<'_>, session: &mut [u8]) -> u64 {
+            match asked {
+                Asked::Start(deck) => self.of_text(sys::gorvask_session_start, deck, session),
+                Asked::Add(line) => self.of_text(sys::gorvask_session_add, line, session),
+                Asked::Strike(line) => self.of_number(sys::gorvask_session_strike, line, session),
+                Asked::Options(options) => {
+                    self.of_number(sys::gorvask_session_options, options, session)
+                }
+                Asked::Take => self.take(session),
+            }
+        }
+
+        fn of_text(&mut self, entry: OfText, text: &[u8], session: &mut [u8]) -> u64 {
+            // SAFETY: as above.
+            unsafe {
+                entry(
+                    text.as_ptr(),
+                    text.len(),
+                    session.as_mut_ptr(),
+                    session.len(),
+                    self.scratch.as_mut_ptr(),
+                    self.scratch.len(),
+                )
+            }
+        }
+
+        fn of_number(&mut self, entry: OfNumber, number: u32, session: &mut [u8]) -> u64 {
+            // SAFETY: as above.
+            unsafe {
+                entry(
+                    number,
+                    session.as_mut_ptr(),
+                    session.len(),
+                    self.scratch.as_mut_ptr(),
+                    self.scratch.len(),
+                )
+            }
+        }
+
+        fn take(&mut self, session: &[u8]) -> u64 {
+            // SAFETY: as above.
+            unsafe {
+                sys::gorvask_session_take(
+                    session.as_ptr(),
+                    session.len(),
+                    self.clauses.as_mut_ptr(),
+                    self.clauses.len(),
+                    self.atoms.as_mut_ptr(),
+                    self.atoms.len(),
+                    self.deferrals.as_mut_ptr(),
+                    self.deferrals.len(),
+                    self.numbers.as_mut_ptr(),
+                    self.numbers.len(),
+                    self.scratch.as_mut_ptr(),
+                    self.scratch.len(),
+                )
+            }
+        }
+
         /// The reply to a deck and a state.
         pub fn try_state(&mut self, test: Test, deck: &[u8], state: &[u8]) -> u64 {
             let entry = match test {
@@ -192,6 +265,8 @@ mod side {
 mod side {
     use super::Words;
     use states::Test;
+
+    use crate::sessions::Asked;
 
     pub struct Ours;
 
@@ -235,6 +310,14 @@ mod side {
         }
 
         pub fn clausify(&mut self, _: &[u8]) -> u64 {
+            0
+        }
+
+        pub fn answer(&self) -> Vec<u8> {
+            Vec::new()
+        }
+
+        pub fn ask(&mut self, _: Asked<'_>, _: &mut [u8]) -> u64 {
             0
         }
 

@@ -1,5 +1,6 @@
 //! The results as a page of Markdown.
 
+mod sessions;
 mod states;
 
 use std::fmt::Write;
@@ -46,6 +47,8 @@ pub struct Report {
     states: Vec<Builds>,
     /// Texts that are read.
     reading: Vec<Builds>,
+    /// Decks as sessions.
+    sessions: Vec<Builds>,
 }
 
 impl Report {
@@ -63,14 +66,14 @@ impl Report {
             .flat_map(|run| &run.rows)
             .flat_map(|row| &row.decks);
         let ours = decks.any(|deck| deck.has(Way::Gorvask));
-        let mut parts = [const { Vec::new() }; 4];
+        let mut parts = [const { Vec::new() }; 5];
         for run in runs {
-            let of_run = [run.rows, run.series, run.states, run.reading];
+            let of_run = [run.rows, run.series, run.states, run.reading, run.sessions];
             for (part, rows) in parts.iter_mut().zip(of_run) {
                 part.extend(rows);
             }
         }
-        let [kinds, series, states, reading] = parts.map(Builds::of);
+        let [kinds, series, states, reading, sessions] = parts.map(Builds::of);
         Self {
             date: date.to_owned(),
             machine: machine.to_owned(),
@@ -84,6 +87,7 @@ impl Report {
             series,
             states,
             reading,
+            sessions,
         }
     }
 
@@ -102,11 +106,42 @@ impl Report {
         ))
     }
 
-    /// The whole page.
+    /// Whether the runs are of more than the sessions.
+    ///
+    /// # Errors
+    /// Words that say that they are not.
+    pub fn whole(&self) -> Result<(), String> {
+        if self.kinds.is_empty() {
+            return Err("these runs have the sessions alone: their section is printed, and no page is written".into());
+        }
+        Ok(())
+    }
+
+    /// The whole page, or of runs that have nothing else the sessions alone.
     pub fn page(&self) -> String {
         let mut page = String::new();
-        self.write(&mut page).expect("a text takes all");
+        let written = if self.kinds.is_empty() {
+            self.alone(&mut page)
+        } else {
+            self.write(&mut page)
+        };
+        written.expect("a text takes all");
         page
+    }
+
+    fn alone(&self, page: &mut String) -> std::fmt::Result {
+        self.sessions(page)?;
+        let [plain, lto] = self.runs;
+        writeln!(
+            page,
+            "\nMeasured on {}: {}; {plain} runs of the plain build and {lto} of the other, with {} rounds. Other work took at \
+             most {:.1} % of the processors' time in a run. Tools: {}.",
+            self.date,
+            self.machine,
+            self.rounds,
+            100.0 * self.others,
+            self.tools
+        )
     }
 
     fn write(&self, page: &mut String) -> std::fmt::Result {
@@ -142,6 +177,10 @@ impl Report {
         if !self.reading.is_empty() {
             writeln!(page, "\n## Reading\n")?;
             self.reading(page)?;
+        }
+        if !self.sessions.is_empty() {
+            writeln!(page)?;
+            self.sessions(page)?;
         }
         Ok(())
     }

@@ -1,5 +1,6 @@
 //! What was measured of one kind of deck.
 
+mod sessions;
 mod states;
 
 use std::io;

@@ -9,7 +9,7 @@ use crate::results::{Build, Facts, Measured, Row};
 use crate::ways::Way;
 
 /// The first words of the lines that begin a row.
-const PARTS: [&str; 4] = ["row", "series", "state", "reading"];
+const PARTS: [&str; 5] = ["row", "series", "state", "reading", "session"];
 
 /// One whole run of one build.
 pub struct Run {
@@ -25,6 +25,8 @@ pub struct Run {
     pub states: Vec<Row>,
     /// Texts that are read.
     pub reading: Vec<Row>,
+    /// Decks as sessions.
+    pub sessions: Vec<Row>,
 }
 
 impl Run {
@@ -38,7 +40,13 @@ impl Run {
         let counter = self.counter.map_or("none", Counter::name);
         let (build, rounds, others) = (self.build.name(), self.rounds, self.others);
         writeln!(text, "run\t{build}\t{rounds}\t{others}\t{counter}")?;
-        let parts = [&self.rows, &self.series, &self.states, &self.reading];
+        let parts = [
+            &self.rows,
+            &self.series,
+            &self.states,
+            &self.reading,
+            &self.sessions,
+        ];
         for (part, rows) in PARTS.into_iter().zip(parts) {
             for row in rows {
                 writeln!(text, "{part}\t{}", row.name)?;
@@ -54,7 +62,8 @@ impl Run {
             "row" => &mut self.rows,
             "series" => &mut self.series,
             "state" => &mut self.states,
-            _ => &mut self.reading,
+            "reading" => &mut self.reading,
+            _ => &mut self.sessions,
         }
     }
 
@@ -73,6 +82,7 @@ impl Run {
             series: Vec::new(),
             states: Vec::new(),
             reading: Vec::new(),
+            sessions: Vec::new(),
         };
         let mut part = PARTS[0];
         for line in lines {
@@ -175,13 +185,19 @@ mod tests {
         time\tsecond evaluator, axioms\t9\n\
         reading\tlists\n\
         deck\t600\t0\t0\t0\t0\t5\t6\t7\n\
-        time\trefused at the last line\t0.75\n";
+        time\trefused at the last line\t0.75\n\
+        session\trealistic\n\
+        count\tadd\t1900000\n\
+        deck\t700\t0\t2\t3\t4\t5\t6\t7\n\
+        time\tstart and clausify\t0.5\n\
+        time\tRust, strike\t0.125\t0.25\n";
 
     #[test]
     fn a_text_is_read_back() {
         let run = Run::of(TEXT).expect("a run");
         let rows = [&run.rows, &run.series, &run.states, &run.reading];
         assert_eq!(rows.map(Vec::len), [1; 4]);
+        assert_eq!(run.sessions[0].counts.len(), 1);
         assert_eq!(run.rows[0].decks.len(), 2);
         assert_eq!(run.series[0].decks[0].facts.lent, [5, 6, 7]);
         assert_eq!(run.states[0].decks[0].facts.state, 500);

@@ -102,7 +102,7 @@ impl<'t> Tried<'t> {
             Way::ReadAll => clock::timed(|| lent.try_state(Test::Clauses, deck, state)),
             Way::ReadNothing if is_deck => clock::timed(|| lent.clausify(&[])),
             Way::ReadNothing => clock::timed(|| lent.try_state(Test::Clauses, deck, &[])),
-            _ => unreachable!("a way of a deck"),
+            _ => unreachable!("a way of a deck or a session"),
         }
     }
 

@@ -9,6 +9,7 @@ use rustdl::ontology::InternalOntology;
 
 use crate::clock;
 use crate::ours::{self, Ours, Words};
+use crate::sessions::Call;
 
 /// What is timed.
 #[derive(Clone, Copy, Debug, PartialEq, Eq)]
@@ -41,6 +42,12 @@ pub enum Way {
     ReadAll,
     /// One that is refused at its first.
     ReadNothing,
+    /// A call of a session through the C interface.
+    Session(Call),
+    /// A start of a session, then `clausify_with_stats` of the C interface.
+    StartAndClausify,
+    /// A session's call in plain Rust.
+    InRust(Call),
 }
 
 impl Way {
@@ -58,10 +65,34 @@ impl Way {
     /// The reading of a deck or a state.
     pub const READING: [Self; 2] = [Self::ReadAll, Self::ReadNothing];
 
+    /// The calls of a session, and what they are measured by.
+    pub const SESSION: [Self; 7] = [
+        Self::Clausify,
+        Self::StartAndClausify,
+        Self::Session(Call::Start),
+        Self::Session(Call::Add),
+        Self::Session(Call::Strike),
+        Self::Session(Call::Options),
+        Self::Session(Call::Take),
+    ];
+    /// The same calls in plain Rust.
+    const IN_RUST: [Self; 5] = [
+        Self::InRust(Call::Start),
+        Self::InRust(Call::Add),
+        Self::InRust(Call::Strike),
+        Self::InRust(Call::Options),
+        Self::InRust(Call::Take),
+    ];
+
     /// All that are timed of a deck.
     pub fn timed() -> Vec<Self> {
         let ours = Self::OURS.into_iter().filter(|_| ours::MEASURED);
         ours.chain(Self::RUST).collect()
+    }
+
+    /// All that are timed of a session.
+    pub fn of_sessions() -> impl Iterator<Item = Self> {
+        Self::SESSION.into_iter().chain(Self::IN_RUST)
     }
 
     /// The three whose growth is shown and whose instructions are counted, or without ours the Rust's two.
@@ -86,13 +117,27 @@ impl Way {
             Self::SecondClauses => "second evaluator, clauses",
             Self::ReadAll => "refused at the last line",
             Self::ReadNothing => "refused at the first line",
+            Self::Session(Call::Start) => "start",
+            Self::Session(Call::Add) => "add",
+            Self::Session(Call::Strike) => "strike",
+            Self::Session(Call::Options) => "options",
+            Self::Session(Call::Take) => "take",
+            Self::StartAndClausify => "start and clausify",
+            Self::InRust(Call::Start) => "Rust, start",
+            Self::InRust(Call::Add) => "Rust, add",
+            Self::InRust(Call::Strike) => "Rust, strike",
+            Self::InRust(Call::Options) => "Rust, options",
+            Self::InRust(Call::Take) => "Rust, take",
         }
     }
 
     pub fn named(name: &str) -> Option<Self> {
         let of_decks = Self::OURS.into_iter().chain(Self::RUST);
         let of_states = Self::OF_STATES.into_iter().chain(Self::SECOND);
-        let mut all = of_decks.chain(of_states).chain(Self::READING);
+        let mut all = of_decks
+            .chain(of_states)
+            .chain(Self::READING)
+            .chain(Self::of_sessions());
         all.find(|way| way.name() == name)
     }
 }
@@ -128,7 +173,7 @@ impl<'d> Prepared<'d> {
     /// # Panics
     /// If they differ.
     pub fn compare(&mut self) {
-        self.set_environment();
+        set_environment(self.options);
         let (clauses, stats) = clausify_with_stats(&self.ontology);
         let clauses: Vec<Clause> = clauses.iter().map(unmodified::clause).collect();
         let words: Vec<Words<'_>> = clauses
@@ -142,7 +187,7 @@ impl<'d> Prepared<'d> {
     /// The time of so many calls, of which each takes `cost` for the clock. What a call hands back is freed when the
     /// clock stands still.
     pub fn time(&mut self, way: Way, calls: u32, cost: Duration) -> Duration {
-        self.set_environment();
+        set_environment(self.options);
         (0..calls)
             .map(|_| self.call(way).saturating_sub(cost))
             .sum()
@@ -158,18 +203,18 @@ impl<'d> Prepared<'d> {
             Way::RustReading => timed(|| read(bytes)),
             Way::ClearTables => timed(|| self.ours.clear_tables()),
             Way::ClearScratch => timed(|| self.ours.clear_scratch()),
-            _ => unreachable!("a way of a state"),
+            _ => unreachable!("a way of a state or a session"),
         }
     }
+}
 
-    /// The original reads its options from the environment.
-    fn set_environment(&self) {
-        let switch = |bit: u32| if self.options & bit == 0 { "0" } else { "1" };
-        // SAFETY: the bench has one thread.
-        unsafe {
-            std::env::set_var("RUSTDL_WEDGE_BODY_DECOMPOSE", switch(1));
-            std::env::set_var("RUSTDL_CARD_DISJUNCT_ATOMS", switch(2));
-        }
+/// The original reads its options from the environment.
+pub fn set_environment(options: u32) {
+    let switch = |bit: u32| if options & bit == 0 { "0" } else { "1" };
+    // SAFETY: the bench has one thread.
+    unsafe {
+        std::env::set_var("RUSTDL_WEDGE_BODY_DECOMPOSE", switch(1));
+        std::env::set_var("RUSTDL_CARD_DISJUNCT_ATOMS", switch(2));
     }
 }
 
@@ -181,7 +226,8 @@ fn read(bytes: &[u8]) -> InternalOntology {
     load(&deck::read(bytes).expect("a deck of the bench is accepted"))
 }
 
-fn load(deck: &deck::Deck) -> InternalOntology {
+/// The original's ontology.
+pub fn load(deck: &deck::Deck) -> InternalOntology {
     unmodified::load(deck, |_, _, _| None).expect("a deck without Min 0")
 }
 

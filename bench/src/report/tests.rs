@@ -2,6 +2,7 @@
 
 use super::Report;
 use crate::decks::REALISTIC;
+use crate::sessions::JUNCTION;
 use crate::store::Run;
 use crate::trials::{FOUR, HELD};
 
@@ -21,7 +22,7 @@ fn run(build: &str, others: f64, [rust, alone]: [f64; 2], ours: Option<f64>) -> 
     let states = if ours.is_empty() {
         String::new()
     } else {
-        states(build, rust)
+        states(build, rust) + &sessions(rust)
     };
     let text = format!(
         "run\t{build}\t1\t{others}\tperf\nrow\t{REALISTIC}\ncount\tRust\t5000000\n{deck}series\t16\n{deck}{states}"
@@ -53,6 +54,35 @@ fn states(build: &str, second: f64) -> String {
         tried([5.0, 6.0, 6_558.6]),
         0.25 + second / 100.0
     )
+}
+
+/// Two decks with their sessions: a start takes 1 ms, what Rust takes is given.
+fn sessions(rust: f64) -> String {
+    let deck = |slower: f64| {
+        let ours = [
+            ("clausify", 1.0),
+            ("start and clausify", 2.0),
+            ("start", 1.0),
+            ("add", 0.75 * slower),
+            ("strike", 0.5 * slower),
+            ("options", 0.5),
+            ("take", 1.5 * slower),
+        ];
+        let calls = ["start", "add", "strike", "options", "take"];
+        let ours = ours.map(|(name, time)| format!("time\t{name}\t{time}\n"));
+        let theirs = calls.map(|name| format!("time\tRust, {name}\t{rust}\n"));
+        format!(
+            "deck\t700\t0\t2\t3\t4\t5\t6\t7\n{}{}",
+            ours.concat(),
+            theirs.concat()
+        )
+    };
+    let names = "clausify,start and clausify,start,add,strike,options,take";
+    let counts = names
+        .split(',')
+        .map(|name| format!("count\t{name}\t2500000\n"));
+    let counts: String = counts.collect();
+    format!("session\t{JUNCTION}\n{counts}{}{}", deck(1.0), deck(1.5))
 }
 
 /// Three runs, in no order: Rust takes less time in the plain build, Rust alone in the other.
@@ -176,9 +206,42 @@ fn reading_by_time_and_by_instructions() {
 }
 
 #[test]
+fn sessions_beside_what_they_may_take() {
+    let page = page(true);
+    let first = cells(&page, "A session");
+    has(&first, "call", "clausify");
+    has(&first, "at most, ms", "–");
+    for row in [
+        "| start | 1.00 (1.00 to 1.00) | – | – | – | – | 2.25 (2.00 to 2.50) | 0.450 (0.400 to 0.500) |",
+        "| add | 0.938 (0.938 to 0.938) | 1.00 (1.00 to 1.00) | 0.938 (0.750 to 1.12) | 0.938 to 0.938 | 1.12 |",
+        "| take | 1.88 (1.88 to 1.88) | 2.00 (2.00 to 2.00) | 0.938 (0.750 to 1.12) | 0.938 to 0.938 | 1.12 |",
+        "a call on the first deck of *junction*: clausify 2.50, start and clausify 2.50, start 2.50, add 2.50,",
+    ] {
+        assert!(page.contains(row), "{row}");
+    }
+}
+
+#[test]
+fn sessions_alone() {
+    let text = format!("run\tplain\t1\t0.015\tperf\n{}", sessions(2.0));
+    let run = Run::of(&text).expect("a run");
+    let report = Report::of("a day", "a machine", "tools", vec![run]);
+    assert!(report.whole().is_err());
+    let page = report.page();
+    assert!(page.starts_with("## A session\n"));
+    assert!(page.ends_with(
+        "Measured on a day: a machine; 1 runs of the plain build and 0 of the other, with 1 rounds. Other work took at most 1.5 % \
+         of the processors' time in a run. Tools: tools.\n"
+    ));
+    assert!(!page.contains("# Performance"));
+}
+
+#[test]
 fn without_gorvask_its_columns_are_missing() {
     let page = page(false);
-    assert!(!page.contains("## States tried") && !page.contains("## Reading"));
+    for heading in ["## States tried", "## Reading", "## A session"] {
+        assert!(!page.contains(heading), "{heading}");
+    }
     let times = cells(&page, "Times");
     has(&times, "Rust, ms", "2.25 (2.00 to 2.50)");
     assert!(times.iter().all(|(name, _)| !name.contains("Gorvask")));
