@@ -8,7 +8,7 @@ use Rattle.ir.specs.Refusals.{refusal_number}
 use Rattle.ir.specs.declared.refusal.Refusal.{Refusal}
 use Rattle.rules.specs.Text.{most_number}
 use Rattle.rules.specs.Concept.{Concept, Axiom, concept_row}
-use Rattle.rules.specs.Deck.{most_bytes, most_concept_lines, most_axioms, most_depth, section_of, concept_of, axiom_of, Header, Known, known, fields_ok, Member, trivial, and_list, or_list, plain, under_and, under_or, verdict, entered, Told, fine, refused}
+use Rattle.rules.specs.Deck.{most_bytes, most_concept_lines, most_axioms, most_depth, section_of, concept_of, axiom_of, Header, Known, known, fields_ok, Member, trivial, and_list, or_list, plain, under_and, under_or, concept_verdict, verdict, entered, Told, fine, refused}
 use Rattle.rules.specs.Invariants.{Each}
 use Rattle.text.specs.Rows.{row_at}
 use Rattle.deck.specs.Index.{hash_of, Indexed}
@@ -69,6 +69,10 @@ with_concept k = record { section = Some Concepts; classes = k.classes; individu
 
 abbrev pub with_axiom : State → State
 with_axiom k = record { section = Some Axioms; classes = k.classes; individuals = k.individuals; roles = k.roles; options = k.options; marks = k.marks; keys = k.keys; concepts = k.concepts; axioms = k.axioms + 1 }
+
+-- a line's verdict, by the number v of its first three checks: 6 to 9 are a concept line's
+abbrev pub behind_line : Known → ℕ → List ℕ → ℕ → ℕ
+behind_line d k r v = pick (eqb v 0) (pick (eqb (section_of k) 3) (concept_verdict d (concept_of k r)) 0) v
 
 -- what the state says of all that is known
 pub record Counted (k : State) (d : Known) : Type 0 where

@@ -11,10 +11,10 @@ pub mod row;
 pub mod state;
 pub mod table;
 
-ghost use Rattle.std.specs.Prelude.{◌≡◌, ◌+◌, ◌*◌, ◌≤◌, ◌<◌, length, get_or};
+ghost use Rattle.std.specs.Prelude.{◌≡◌, true, ◌+◌, ◌*◌, ◌≤◌, ◌<◌, length, get_or};
 ghost use Rattle.words.specs.Words.{words};
-ghost use Rattle.rules.specs.Deck.{verdict as verdict_of, read_lines, read_deck};
-ghost use Rattle.deck.specs.Records.{table_bytes, keys_in, known_in, told_of, verdict_number, Held, Kept, Fresh};
+ghost use Rattle.rules.specs.Deck.{Known, fields_ok, verdict as verdict_of, read_lines, read_deck};
+ghost use Rattle.deck.specs.Records.{section_number, verdict_number, behind_line, Counted, table_bytes, keys_in, known_in, Held, Fresh, told_of, Kept};
 ghost use Rattle.deck.specs.Rows.{numbers};
 
 use crate::row::{Line, Row};
@@ -22,10 +22,11 @@ use crate::state::{Section, State};
 use ir::answer::Refused;
 use ir::refusal::Refusal;
 
-// The checks from 3 on; the first that the line fails.
-fn verdict(row: &Row, t: &[u8], st: State) -> Result<(), Refusal>
-    requires { Held row.now.deck.now t.now st row.now.line.begin }
-    ensures { verdict_number result ≡ verdict_of (known_in row.now.deck.now t.now st) (get_or (numbers row.now) 0 0) (numbers row.now) }
+// 3 to 5 of a line, by its numbers and the state's: what the table holds is a premise about all that a caller may mean, as in
+// `limits`.
+pub fn line_verdict(row: &Row, st: State) -> Result<(), Refusal>
+    ensures fact { (d : Known) → section_number st.section ≡ d.section → Counted st d → verdict_of d (get_or (numbers row.now) 0 0) (numbers row.now) ≡ behind_line d (get_or (numbers row.now) 0 0) (numbers row.now) (verdict_number result) }
+    ensures fields { verdict_number result ≡ 0 → fields_ok (get_or (numbers row.now) 0 0) row.now.line.fields ≡ true }
 {
     let kind = row.entry(0);
     if !kinds::shape(st.section, kind, row.line.fields) {
@@ -37,6 +38,16 @@ fn verdict(row: &Row, t: &[u8], st: State) -> Result<(), Refusal>
     if !names::names(row, kind, st) {
         return Err(Refusal::Undeclared);
     }
+    Ok(())
+}
+
+// The checks from 3 on; the first that the line fails.
+fn verdict(row: &Row, t: &[u8], st: State) -> Result<(), Refusal>
+    requires { Held row.now.deck.now t.now st row.now.line.begin }
+    ensures { verdict_number result ≡ verdict_of (known_in row.now.deck.now t.now st) (get_or (numbers row.now) 0 0) (numbers row.now) }
+{
+    line_verdict(row, st)?;
+    let kind = row.entry(0);
     if kinds::section_of(kind) == Some(Section::Concepts) {
         concepts::concept(row, t, kind, st)
     } else {

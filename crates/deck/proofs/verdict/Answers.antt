@@ -1,44 +1,36 @@
-use Rattle.std.proofs.Common.{rules, Some}
-use mathlib.Core.Path.{◌≡◌, refl}
-use Rattle.rules.specs.Deck.{verdict}
-use Rattle.text.specs.RowLaws.{length_row}
+use Rattle.std.proofs.Common.{◌≡◌, refl, rules, ne_eqb, Some}
+use Rattle.std.proofs.lemmas.Result.{err_from_is_err_and}
+use Rattle.ir.specs.Refusals.{refusal_number}
+use Rattle.deck.specs.Records.{known_in}
 use Rattle.deck.specs.declared.state.Section.TheVariants.{Concepts}
 use Rattle.deck.proofs.ConceptLaws.{counted_known}
 use Rattle.deck.proofs.KindLaws.{no_concepts}
+use Rattle.deck.proofs.LineLaws.{refusal_some}
 use Rattle.deck.proofs.verdict.Goals as goal
 
-pub returns-then-not-shape : goal.returns-then-not-shape
-unfolding verdict
-returns-then-not-shape c =
-    let r = c.args.row.now in
-    rw (length_row r.deck.now r.line.begin r.line.fields, ← c.entry-kind.ensures, ← c.shape.ensures, c.if-not-shape.true) refl
+pub concept-requires : goal.concept-requires
+concept-requires c =
+    let e : c.section_of.result ≡ Some Concepts = search rules in
+    (record { within = search rules; kind = c.entry-kind.ensures; section = rw (← c.section_of.ensures, e) refl; fields = rw c.entry-kind.ensures (c.in_ok-line_verdict.ensures.fields refl) }, c.requires.concepts)
 
-pub returns-then-not-limits : goal.returns-then-not-limits
-unfolding verdict
-returns-then-not-limits c =
-    let r = c.args.row.now in
-    let K = counted_known r.deck.now c.args.t.now c.args.st in
-    rw (length_row r.deck.now r.line.begin r.line.fields, ← c.entry-kind.ensures, ← c.shape.ensures, c.if-not-shape.false, ← c.limits.ensures _ K, c.if-not-limits.true) refl
-
-pub returns-then-not-names : goal.returns-then-not-names
-unfolding verdict
-returns-then-not-names c =
-    let r = c.args.row.now in
-    let K = counted_known r.deck.now c.args.t.now c.args.st in
-    rw (length_row r.deck.now r.line.begin r.line.fields, ← c.entry-kind.ensures, ← c.shape.ensures, c.if-not-shape.false, ← c.limits.ensures _ K, c.if-not-limits.false, ← c.names.ensures _ K, c.if-not-names.true) refl
+pub returns-in_err-line_verdict : goal.returns-in_err-line_verdict
+returns-in_err-line_verdict c =
+    let s = c.args.row.now.deck.now in
+    let t = c.args.t.now in
+    let p = err_from_is_err_and c.from_residual.result c.from_residual.ensures.1 in
+    let r = c.in_err-line_verdict.field-0.0 in
+    rw (p.1, p.2, c.in_err-line_verdict.ensures.fact (known_in s t c.args.st) refl (counted_known s t c.args.st), ne_eqb (refusal_number r) 0 (refusal_some r)) refl
 
 pub returns-then-eq : goal.returns-then-eq
-unfolding verdict
 returns-then-eq c =
+    let s = c.args.row.now.deck.now in
+    let t = c.args.t.now in
     let e : c.section_of.result ≡ Some Concepts = search rules in
-    let r = c.args.row.now in
-    let K = counted_known r.deck.now c.args.t.now c.args.st in
-    rw (length_row r.deck.now r.line.begin r.line.fields, ← c.entry-kind.ensures, ← c.shape.ensures, c.if-not-shape.false, ← c.limits.ensures _ K, c.if-not-limits.false, ← c.names.ensures _ K, c.if-not-names.false, ← c.section_of.ensures, e) c.concept.ensures
+    rw (c.in_ok-line_verdict.ensures.fact (known_in s t c.args.st) refl (counted_known s t c.args.st), ← c.entry-kind.ensures, ← c.section_of.ensures, e) c.concept.ensures
 
 pub returns-else-eq : goal.returns-else-eq
-unfolding verdict
 returns-else-eq c =
+    let s = c.args.row.now.deck.now in
+    let t = c.args.t.now in
     let e : c.section_of.result ≡ Some Concepts → ⊥ = search rules in
-    let r = c.args.row.now in
-    let K = counted_known r.deck.now c.args.t.now c.args.st in
-    rw (length_row r.deck.now r.line.begin r.line.fields, ← c.entry-kind.ensures, ← c.shape.ensures, c.if-not-shape.false, ← c.limits.ensures _ K, c.if-not-limits.false, ← c.names.ensures _ K, c.if-not-names.false, ← c.section_of.ensures, no_concepts c.section_of.result e) refl
+    rw (c.in_ok-line_verdict.ensures.fact (known_in s t c.args.st) refl (counted_known s t c.args.st), ← c.entry-kind.ensures, ← c.section_of.ensures, no_concepts c.section_of.result e) refl
