@@ -6,11 +6,10 @@ use mathlib.Core.List.{List, ◌++◌, append_assoc}
 use Prim.Native.Nat.{ℕ, ◌+◌, ◌-◌, ◌≤◌}
 use native.Mathlib.Omega.{arith}
 use Rattle.std.proofs.Math.ListN.{length, drop, replicate, length-append, length-replicate}
-use Rattle.std.proofs.lemmas.List.{replicate-append-replicate}
+use Rattle.std.proofs.lemmas.List.{replicate-append-replicate, drop-replicate}
 use Rattle.std.proofs.Math.Seq.{sets, sets-eq}
 use Rattle.words.specs.Runs.{sets_append}
 use Rattle.tables.specs.Drawn.{padded}
-use Rattle.tables.specs.DrawnLaws.{drop_zeros}
 
 pub padded_rest : (n p : ℕ) (x : List ℕ) → length x ≡ p → drop p (padded n x) ≡ replicate (n - p) 0
 unfolding padded
@@ -30,7 +29,7 @@ module _ (w x : List ℕ) (n p q : ℕ) (long : length w ≡ n) (front : length 
       let f : q + (e - q) ≡ e = omega arith in
       let g : n - q - (e - q) ≡ n - length (x ++ y) = omega (arith, length-append x y) in
       let d : drop e w ≡ replicate (n - length (x ++ y)) 0 =
-      ap (λ (j : ℕ). drop j w) (sym f) ∙ sym (drop-drop (e - q) q w) ∙ ap (drop (e - q)) zeros ∙ drop_zeros (n - q) (e - q) ∙ ap (λ (j : ℕ). replicate j 0) g in
+      ap (λ (j : ℕ). drop j w) (sym f) ∙ sym (drop-drop (e - q) q w) ∙ ap (drop (e - q)) zeros ∙ drop-replicate {X = ℕ} (e - q) (n - q) 0 ∙ ap (λ (j : ℕ). replicate j 0) g in
       sets-eq y w p (omega arith) ∙ ap₂ (λ (u v : List ℕ). u ++ y ++ v) is d
 
   -- y ends before them

@@ -1,6 +1,7 @@
 -- A text that is to be an axiom's line, as the code checks it; and a deck with it behind. Assumes nothing.
 use Rattle.std.specs.Prelude.{◌≡◌, refl, Bool, true, false, ◌&&◌, List, [], ◌∷◌, ◌++◌, ℕ, ◌+◌, ◌*◌, ◌-◌, ◌<◌, ◌≤◌, eqb, ltb, length, get_or, take, drop, replicate, Option, Some, None, Result, Ok, Err}
 use Rattle.std.proofs.Common.{sym, ap, ap₂, ◌∙◌, arith, length-append, length-drop, drop_at, take_at, append_assoc, lt-ltb, le-ltb, ltb-false, ne_eqb, drop_of_length-le, drop-drop}
+use Rattle.std.proofs.lemmas.List.{drop-replicate}
 use Rattle.std.specs.Prelude.{MatchResult, IsErrAnd}
 use Prim.{Unit}
 use borrow.Rule.Slice.PartMut.{put_mid}
@@ -21,7 +22,7 @@ use Rattle.session.specs.Session.{session_bytes, stored, deck_in, Did, done, ref
 use Rattle.session.specs.Session as Session
 use Rattle.session.specs.Told.{told_said, Live}
 use Rattle.session.specs.SaidLaws.{not_refused}
-use Rattle.session.specs.FormLaws.{put_in, drop_word, session_word, zeros_left}
+use Rattle.session.specs.FormLaws.{put_in, drop_word, session_word}
 
 -- ---- one line
 nil_behind : (s : List ℕ) (k : ℕ) → length s ≤ k → is_nil (drop k s) ≡ true
@@ -125,7 +126,7 @@ stored_behind s text p ys n a k e w h i l q f =
     let r : List ℕ = deck ++ replicate (most_bytes - length deck) 0 in
     let c : put_mid a k s ys ≡ bytes (length deck ∷ []) ++ (take n r ++ (text ++ drop (n + k) r)) = rw q (ap (λ (t : List ℕ). put_mid a k t text) e ∙ put_in (length deck) r text a n k i) in
     let t : take n r ≡ deck = rw m (take_at deck (replicate (most_bytes - length deck) 0) (length deck) refl) in
-    let u : drop (n + k) r ≡ replicate (most_bytes - length (deck ++ text)) 0 = rw (m, l) (sym (drop-drop (length text) (length deck) r) ∙ ap (drop (length text)) (drop_at deck (replicate (most_bytes - length deck) 0) (length deck) refl) ∙ zeros_left (length text) (most_bytes - length deck) ∙ ap (λ (j : ℕ). replicate j 0) (omega (arith, length-append deck text))) in
+    let u : drop (n + k) r ≡ replicate (most_bytes - length (deck ++ text)) 0 = rw (m, l) (sym (drop-drop (length text) (length deck) r) ∙ ap (drop (length text)) (drop_at deck (replicate (most_bytes - length deck) 0) (length deck) refl) ∙ drop-replicate {X = ℕ} (length text) (most_bytes - length deck) 0 ∙ ap (λ (j : ℕ). replicate j 0) (omega (arith, length-append deck text))) in
     let z : n + length text ≡ length (deck ++ text) = m' m text in
     f ∙ ap₂ {C = List ℕ} ◌++◌ (ap (λ (j : ℕ). bytes (j ∷ [])) z) (ap (drop 4) c ∙ drop_word (length deck) (take n r ++ (text ++ drop (n + k) r)) ∙ ap₂ (λ (x y : List ℕ). x ++ (text ++ y)) t u ∙ sym (append_assoc deck text (replicate (most_bytes - length (deck ++ text)) 0)))
   where

@@ -1,6 +1,7 @@
 -- The session's table: what its parts are, and when its bytes are a deck's. Assumes nothing.
 use Rattle.std.specs.Prelude.{◌≡◌, refl, Bool, true, false, ◌&&◌, List, [], ◌∷◌, ◌++◌, ℕ, zero, suc, ◌+◌, ◌-◌, ◌<◌, ◌≤◌, eqb, length, get_or, set, take, drop, replicate, bytes_eq}
 use Rattle.std.proofs.Common.{sym, ap, ap₂, ◌∙◌, arith, get_or-drop, take-append-drop, drop_at, drop-drop, take_all, length-take-le, length-drop, append_assoc, eqb-true, eq-eqb, ne_eqb}
+use Rattle.std.proofs.lemmas.List.{drop-replicate}
 use borrow.Rule.Slice.PartMut.{put_mid}
 use Rattle.words.specs.Words.{words, bytes}
 use Rattle.words.specs.Laws.{Bytes, words_drop, words_take, length_words}
@@ -170,18 +171,13 @@ put_in n r ys a i k e = rw e (ap₂ {C = List ℕ} ◌++◌ (take_word i) (ap (�
     rest : drop k (drop (4 + i) s) ≡ drop (i + k) r
     rest = ap (drop k) behind ∙ drop-drop k i r
 
-pub zeros_left : (i n : ℕ) → drop {A = ℕ} i (replicate n 0) ≡ replicate (n - i) 0
-zeros_left zero n = let e : n - 0 ≡ n = omega arith in rw e refl
-zeros_left (suc i) zero = let e : 0 - suc i ≡ 0 = omega arith in rw e refl
-zeros_left (suc i) (suc n) = let e : suc n - suc i ≡ n - i = omega arith in rw e (zeros_left i n)
-
 pub stored_put : (s c p ys deck : List ℕ) (k : ℕ) → c ≡ replicate (length s) 0 → length s ≡ session_bytes → length deck ≤ most_bytes → p ≡ bytes (length deck ∷ []) ++ drop 4 c → ys ≡ deck → k ≡ length deck
     → put_mid 4 k p ys ≡ stored deck
 unfolding stored
 stored_put s c p ys deck k z l h e q m =
     let r : drop 4 c ≡ replicate most_bytes 0 = rw (z, l) refl in
     let o : 0 + length deck ≡ length deck = omega arith in
-    let d : drop {A = ℕ} (0 + length deck) (replicate most_bytes 0) ≡ replicate (most_bytes - length deck) 0 = rw o (zeros_left (length deck) most_bytes) in
+    let d : drop {A = ℕ} (0 + length deck) (replicate most_bytes 0) ≡ replicate (most_bytes - length deck) 0 = rw o (drop-replicate {X = ℕ} (length deck) most_bytes 0) in
     rw (e, r, q, m) (put_in (length deck) (replicate most_bytes 0) deck 4 0 (length deck) refl ∙ ap (λ (t : List ℕ). bytes (length deck ∷ []) ++ (deck ++ t)) d)
 
 -- ---- of a session that holds a deck

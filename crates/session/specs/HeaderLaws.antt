@@ -12,7 +12,7 @@ use Rattle.rules.specs.DeckLaws.{read_in, verdict_zero, all_each}
 use Rattle.rules.specs.Lister.{fields_text}
 use Rattle.rules.specs.PrintLaws.{row_printed}
 use Rattle.spelling.specs.Rows.{IsLine, row_line}
-use Rattle.spelling.specs.Lines.{Line, IsRow, text_of, check_rows, not_fine}
+use Rattle.spelling.specs.Lines.{Line, IsRow, text_of, check_rows, not_fine, fine_inj}
 use Rattle.spelling.specs.Decks.{deck_short, deck_lines, lines_deck, deck_some}
 use Rattle.session.specs.Session.{done, refused, header_row, options_in, after_line, without}
 use Rattle.session.specs.SessionLaws.{not_done, done_inj}
@@ -57,10 +57,7 @@ entered_header s k r e = rw e (by (eqb (section_of k) 2) (eqb (section_of k) 3))
 -- behind the header it stays
 header_kept : (l : List Line) (s : Known) (line : ℕ) (d : Known) → 1 ≤ s.section → check_rows s line l ≡ fine d → d.header ≡ s.header
 unfolding check_rows
-header_kept [] s line d h e = ap (λ (k : Known). k.header) (sym (inj s d e))
-  where
-    inj : (a b : Known) → fine a ≡ fine b → a ≡ b
-    inj a b e = cc
+header_kept [] s line d h e = ap (λ (k : Known). k.header) (sym (fine_inj s d e))
 header_kept (x ∷ l) s line d h e = go (eqb (verdict s (kind_of x) x.numbers) 0) refl (λ q. header_kept l (entered s (kind_of x) x.numbers) (line + 1) d (entered_begun s (kind_of x) x.numbers) q) e
   where
     go : (b : Bool) → eqb (verdict s (kind_of x) x.numbers) 0 ≡ b → (check_rows (entered s (kind_of x) x.numbers) (line + 1) l ≡ fine d → d.header ≡ (entered s (kind_of x) x.numbers).header)
@@ -72,8 +69,8 @@ header_first : (k : ℕ) (r : List ℕ) → section_of k ≡ 1 → entered nothi
 unfolding entered
 header_first k r e = rw e refl
 
-header_verdict : (k : ℕ) (r : List ℕ) → verdict nothing k r ≡ 0 → section_of k ≡ 1
-header_verdict k r e = by (section_of k) (eqb (section_of k) 0) (eqb (section_of k) 1) refl (ordered nothing k r e)
+header_section : (k : ℕ) (r : List ℕ) → verdict nothing k r ≡ 0 → section_of k ≡ 1
+header_section k r e = by (section_of k) (eqb (section_of k) 0) (eqb (section_of k) 1) refl (ordered nothing k r e)
   where
     by : (n : ℕ) (x y : Bool) → eqb n 1 ≡ y → pick x false (pick y true (leb 1 0 && leb 0 n)) ≡ true → n ≡ 1
     by n true y q h = absurd (true≢false (sym h))
@@ -115,7 +112,7 @@ unfolding check_rows
 check_first r t m e = rw e refl
 
 -- ---- a deck that is read begins with its header
-pub record Begun (deck : List ℕ) (d : Known) : Type 0 where
+pub record Headed (deck : List ℕ) (d : Known) : Type 0 where
   pub line : Line
   pub more : List Line
   pub rows : Each IsRow (line ∷ more)
@@ -124,14 +121,14 @@ pub record Begun (deck : List ℕ) (d : Known) : Type 0 where
   pub one : section_of (kind_of line) ≡ 1
   pub fields : length line.numbers ≡ 5
 
-pub begun : (deck : List ℕ) (d : Known) → read_deck deck ≡ fine d → Begun deck d
+pub headed : (deck : List ℕ) (d : Known) → read_deck deck ≡ fine d → Headed deck d
 unfolding text_of
-begun deck d e =
+headed deck d e =
     let H = deck_lines deck d e in
     let F = first_line H.lines (omega (arith, ap (λ (z : List ℕ). length z) H.is, deck_some deck d e)) in
     let x = F.0 in
     let C = first_check x F.1 d (subst (λ (z : List Line). check_rows nothing 1 z ≡ fine d) F.2 H.check) in
-    let o = header_verdict (kind_of x) x.numbers C.0 in
+    let o = header_section (kind_of x) x.numbers C.0 in
     record {
       line = x;
       more = F.1;
@@ -142,20 +139,20 @@ begun deck d e =
       fields = eqb-true (length x.numbers) 5 (subst (λ (j : ℕ). fields_ok j (length x.numbers) ≡ true) (header_zero (kind_of x) o) (and_parts (in_order 0 (section_of (kind_of x))) (fields_ok (kind_of x) (length x.numbers)) (verdict_zero nothing (kind_of x) x.numbers C.0).shape).1);
     }
 
-module _ (deck : List ℕ) (d : Known) (B : Begun deck d) where
-  begun_long : length B.line.text ≡ 56
-  begun_long = line_long B.line B.rows.0 ∙ ap (λ (n : ℕ). 11 * n + 1) B.fields
+module _ (deck : List ℕ) (d : Known) (B : Headed deck d) where
+  headed_long : length B.line.text ≡ 56
+  headed_long = line_long B.line B.rows.0 ∙ ap (λ (n : ℕ). 11 * n + 1) B.fields
 
-  begun_after : after_line deck ≡ text_of B.more
-  begun_after = after_first deck ∙ ap (without zero) B.is ∙ without_first B.line.text (text_of B.more) B.rows.0.is_line
+  headed_after : after_line deck ≡ text_of B.more
+  headed_after = after_first deck ∙ ap (without zero) B.is ∙ without_first B.line.text (text_of B.more) B.rows.0.is_line
 
 -- its first 56 bytes
 pub header_long : (deck : List ℕ) (d : Known) → read_deck deck ≡ fine d → (56 ≤ length deck) × (after_line deck ≡ drop 56 deck)
 header_long deck d e =
-    let B = begun deck d e in
-    let l = begun_long deck d B in
+    let B = headed deck d e in
+    let l = headed_long deck d B in
     let t = text_of B.more in
-    (omega (arith, ap (λ (z : List ℕ). length z) B.is, length-append B.line.text t), begun_after deck d B ∙ sym (drop-append_seam B.line.text t) ∙ ap (λ (n : ℕ). drop n (B.line.text ++ t)) l ∙ ap (drop 56) (sym B.is))
+    (omega (arith, ap (λ (z : List ℕ). length z) B.is, length-append B.line.text t), headed_after deck d B ∙ sym (drop-append_seam B.line.text t) ∙ ap (λ (n : ℕ). drop n (B.line.text ++ t)) l ∙ ap (drop 56) (sym B.is))
 
 -- ---- the deck with other options is read, and differs in them alone
 pub options_is : (deck : List ℕ) (d : Known) (n : ℕ) (after : List ℕ) → read_deck deck ≡ fine d → options_in deck d n ≡ done after → read_deck after ≡ fine (optioned d n)
@@ -166,7 +163,7 @@ options_is deck d n after e h = by (eqb (verdict nothing 0 (header_row d.header 
         → read_deck after ≡ fine (optioned d n)
     by false q h = not_done (verdict nothing 0 (header_row d.header n)) 1 after h
     by true q h =
-        let B = begun deck d e in
+        let B = headed deck d e in
         let x = B.line in
         let m = B.more in
         let E = header_first (kind_of x) x.numbers B.one in
@@ -176,8 +173,8 @@ options_is deck d n after e h = by (eqb (verdict nothing 0 (header_row d.header 
         let N : Each (λ z. z ≤ most_number) (header_row d.header n) = (omega arith, (omega (arith, D.classes), (omega (arith, D.individuals), (omega (arith, D.roles), (omega (arith, options_small d.header n v), tt))))) in
         let Y = text_row 0 (d.header.classes ∷ d.header.individuals ∷ d.header.roles ∷ n ∷ []) N in
         let y : Line = record { text = fields_text (header_row d.header n); numbers = header_row d.header n } in
-        let z : after ≡ text_of (y ∷ m) = sym (done_inj (fields_text (header_row d.header n) ++ after_line deck) after h) ∙ ap (λ (w : List ℕ). fields_text (header_row d.header n) ++ w) (begun_after deck d B) in
-        let long : length after ≡ length deck = ap (λ (w : List ℕ). length w) z ∙ length-append (fields_text (header_row d.header n)) (text_of m) ∙ ap (λ (w : ℕ). w + length (text_of m)) (five 0 d.header.classes d.header.individuals d.header.roles n N ∙ sym (begun_long deck d B)) ∙ sym (length-append x.text (text_of m)) ∙ ap (λ (w : List ℕ). length w) (sym B.is) in
+        let z : after ≡ text_of (y ∷ m) = sym (done_inj (fields_text (header_row d.header n) ++ after_line deck) after h) ∙ ap (λ (w : List ℕ). fields_text (header_row d.header n) ++ w) (headed_after deck d B) in
+        let long : length after ≡ length deck = ap (λ (w : List ℕ). length w) z ∙ length-append (fields_text (header_row d.header n)) (text_of m) ∙ ap (λ (w : ℕ). w + length (text_of m)) (five 0 d.header.classes d.header.individuals d.header.roles n N ∙ sym (headed_long deck d B)) ∙ sym (length-append x.text (text_of m)) ∙ ap (λ (w : List ℕ). length w) (sym B.is) in
         let s : entered nothing 0 (header_row d.header n) ≡ optioned (entered nothing (kind_of x) x.numbers) n =
         header_first 0 (header_row d.header n) refl ∙ ap (λ (w : Header). known 1 (with_options w n) [] [] [] []) K ∙ sym (ap (λ (w : Known). optioned w n) E) in
         lines_deck after (y ∷ m) z (Y, B.rows.1) (omega (arith, long, deck_short deck d e)) (omega (arith, long, deck_some deck d e))

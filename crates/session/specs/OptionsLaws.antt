@@ -6,7 +6,7 @@ use Rattle.rules.specs.Concept.{Concept, Axiom}
 use Rattle.rules.specs.Concept.{Top, Bot, Atomic, Nominal, SelfRestriction, Not, And, Or, Some, All, Min, Max}
 use Rattle.rules.specs.Concept.{SubClassOf, EquivalentClasses, DisjointClasses, DisjointUnion, ObjectPropertyDomain, ObjectPropertyRange, SubChain, TransitiveRole, IrreflexiveRole, AsymmetricRole, DisjointObjectProperties, InverseObjectProperties, SubObjectPropertyOf, EquivalentObjectProperties, ReflexiveRole, ClassAssertion}
 use Rattle.rules.specs.Deck.{section_of, concept_of, axiom_of, depth_of, Header, Known, known, in_order, concept_names_ok, axiom_names_ok, names_ok, concept_verdict, verdict, entered, fine, on_verdict}
-use Rattle.spelling.specs.Lines.{Line, check_rows, not_fine}
+use Rattle.spelling.specs.Lines.{Line, check_rows, not_fine, fine_inj}
 use Rattle.session.specs.StrikeLaws.{kind_of}
 use Rattle.session.specs.PlaceLaws.{ordered, entered_begun}
 
@@ -77,10 +77,7 @@ no_header s k r h v = ne_eqb (section_of k) 1 (λ e. one (subst (λ (n : ℕ). i
 -- the lines behind the header pass as before
 pub lines_same : (l : List Line) (s : Known) (line : ℕ) (d : Known) (n : ℕ) → 1 ≤ s.section → check_rows s line l ≡ fine d → check_rows (optioned s n) line l ≡ fine (optioned d n)
 unfolding check_rows
-lines_same [] s line d n h e = ap (λ (k : Known). fine (optioned k n)) (inj s d e)
-  where
-    inj : (a b : Known) → fine a ≡ fine b → a ≡ b
-    inj a b e = cc
+lines_same [] s line d n h e = ap (λ (k : Known). fine (optioned k n)) (fine_inj s d e)
 lines_same (x ∷ l) s line d n h e = go (eqb (verdict s (kind_of x) x.numbers) 0) refl (λ q. lines_same l (entered s (kind_of x) x.numbers) (line + 1) d n (entered_begun s (kind_of x) x.numbers) q) e
   where
     go : (b : Bool) → eqb (verdict s (kind_of x) x.numbers) 0 ≡ b → (check_rows (entered s (kind_of x) x.numbers) (line + 1) l ≡ fine d → check_rows (optioned (entered s (kind_of x) x.numbers) n) (line + 1) l ≡ fine (optioned d n))

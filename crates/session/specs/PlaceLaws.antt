@@ -10,7 +10,7 @@ use Rattle.rules.specs.EachLaws.{each_append}
 use Rattle.rules.specs.Concept.{Axiom}
 use Rattle.rules.specs.Deck.{sections, section_of, concept_of, axiom_of, header_of, depth_of, Known, known, in_order, fields_ok, verdict, entered, fine, on_verdict, nothing, read_deck, axiom_line}
 use Rattle.rules.specs.DeckLaws.{all_each, verdict_zero}
-use Rattle.spelling.specs.Lines.{Line, IsRow, text_of, check_rows, not_fine, not_empty, text_append, check_append}
+use Rattle.spelling.specs.Lines.{Line, IsRow, text_of, check_rows, not_fine, not_empty, fine_inj, text_append, check_append}
 use Rattle.spelling.specs.Decks.{deck_short, deck_lines, lines_deck, deck_some}
 use Rattle.session.specs.Session.{done, refused, last_line, without, strike_from}
 use Rattle.session.specs.SessionLaws.{not_done, done_inj}
@@ -81,10 +81,7 @@ record Fours (l : List Line) (s d : Known) : Type 0 where
 
 fours : (l : List Line) (s : Known) (line : ℕ) (d : Known) → s.section ≡ 4 → check_rows s line l ≡ fine d → Fours l s d
 unfolding check_rows
-fours [] s line d h e = record { fours = tt; front = ap (λ (k : Known). front k) (sym (inj s d e)); count = ap (λ (k : Known). length k.axioms) (sym (inj s d e)) ∙ omega arith }
-  where
-    inj : (a b : Known) → fine a ≡ fine b → a ≡ b
-    inj a b e = cc
+fours [] s line d h e = record { fours = tt; front = ap (λ (k : Known). front k) (sym (fine_inj s d e)); count = ap (λ (k : Known). length k.axioms) (sym (fine_inj s d e)) ∙ omega arith }
 fours (x ∷ l) s line d h e = go (eqb (verdict s (kind_of x) x.numbers) 0) refl (λ q f. fours l (entered s (kind_of x) x.numbers) (line + 1) d q f) e
   where
     go : (b : Bool) → eqb (verdict s (kind_of x) x.numbers) 0 ≡ b
@@ -113,10 +110,7 @@ pub record Places (l : List Line) (s d : Known) : Type 0 where
 
 pub places : (l : List Line) (s : Known) (line : ℕ) (d : Known) → check_rows s line l ≡ fine d → Places l s d
 unfolding check_rows
-places [] s line d e = record { before = []; axiom_lines = []; is = refl; fours = tt; front = ap (λ (k : Known). front k) (sym (inj s d e)) ∙ omega arith; count = ap (λ (k : Known). length k.axioms) (sym (inj s d e)) ∙ omega arith }
-  where
-    inj : (a b : Known) → fine a ≡ fine b → a ≡ b
-    inj a b e = cc
+places [] s line d e = record { before = []; axiom_lines = []; is = refl; fours = tt; front = ap (λ (k : Known). front k) (sym (fine_inj s d e)) ∙ omega arith; count = ap (λ (k : Known). length k.axioms) (sym (fine_inj s d e)) ∙ omega arith }
 places (x ∷ l) s line d e = go (eqb (verdict s (kind_of x) x.numbers) 0) refl (λ f. places l (entered s (kind_of x) x.numbers) (line + 1) d f) e
   where
     go : (b : Bool) → eqb (verdict s (kind_of x) x.numbers) 0 ≡ b → (check_rows (entered s (kind_of x) x.numbers) (line + 1) l ≡ fine d → Places l (entered s (kind_of x) x.numbers) d)
@@ -159,10 +153,7 @@ places (x ∷ l) s line d e = go (eqb (verdict s (kind_of x) x.numbers) 0) refl 
 -- a deck with a line has begun
 later_begun : (l : List Line) (s : Known) (line : ℕ) (d : Known) → 1 ≤ s.section → check_rows s line l ≡ fine d → 1 ≤ d.section
 unfolding check_rows
-later_begun [] s line d h e = subst (λ (k : Known). 1 ≤ k.section) (inj s d e) h
-  where
-    inj : (a b : Known) → fine a ≡ fine b → a ≡ b
-    inj a b e = cc
+later_begun [] s line d h e = subst (λ (k : Known). 1 ≤ k.section) (fine_inj s d e) h
 later_begun (x ∷ l) s line d h e = go (eqb (verdict s (kind_of x) x.numbers) 0) refl (λ q f. later_begun l (entered s (kind_of x) x.numbers) (line + 1) d q f) e
   where
     go : (b : Bool) → eqb (verdict s (kind_of x) x.numbers) 0 ≡ b → (1 ≤ (entered s (kind_of x) x.numbers).section → check_rows (entered s (kind_of x) x.numbers) (line + 1) l ≡ fine d → 1 ≤ d.section)
@@ -236,9 +227,6 @@ four_verdict k n x m d e = go (eqb (verdict k (kind_of x) x.numbers) 0) refl e
     go true q e = eqb-true (verdict k (kind_of x) x.numbers) 0 q
     go false q e = not_fine (verdict k (kind_of x) x.numbers) n d e
 
-told_inj : (a b : Known) → fine a ≡ fine b → a ≡ b
-told_inj a b e = cc
-
 same_fewer : (k : Known) → 1 ≤ k.section → k.section ≤ 4 → Fewer k k
 same_fewer k h j = record { header = refl; keys = refl; concepts = refl; depths = refl; some = h; most = j; axioms = omega arith }
 
@@ -256,7 +244,7 @@ struck_lines deck d line e pre x m t R c A some at counts low =
     let k4 : k.section ≤ 4 = leb-true k.section 4 z.1 in
     let O = strike_law pre x m nothing k 1 d P.1 k1 k4 A.0 A.1 P.2 in
     let D = on_fewer (x ∷ m) k k (1 + length pre) (1 + length pre) d (same_fewer k k1 k4) A P.2 in
-    let q : D.left ≡ d = told_inj D.left d (sym D.check ∙ P.2) in
+    let q : D.left ≡ d = fine_inj D.left d (sym D.check ∙ P.2) in
     let w : d.axioms ≡ k.axioms ++ (axiom_of (kind_of x) x.numbers ∷ axioms_of m) = ap (λ (y : Known). y.axioms) (sym q) ∙ D.axioms in
     let rows = each_append IsRow pre m (each_first IsRow pre (x ∷ m) R) (each_later IsRow pre (x ∷ m) R).1 in
     let text : without (line - 1) deck ≡ text_of (pre ++ m) = ap₂ {C = List ℕ} without (sym at) t ∙ without_line pre x m (each_first IsRow pre (x ∷ m) R) (each_later IsRow pre (x ∷ m) R).0 in

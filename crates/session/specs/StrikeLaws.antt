@@ -8,7 +8,7 @@ use Rattle.rules.specs.Concept.{Concept, Axiom}
 use Rattle.rules.specs.Deck.{section_of, axiom_of, list_of, most_listed, most_axioms, Header, Known, known, shape_ok, limits_ok, room_ok, names_ok, in_order, fields_ok, axiom_names_ok, verdict, entered, fine, on_verdict}
 use Rattle.rules.specs.DeckLaws.{verdict_zero}
 use Rattle.spelling.specs.Rows.{Parts, parts, no_feed, longer, parts_of, IsLine}
-use Rattle.spelling.specs.Lines.{Line, IsRow, text_of, check_rows, not_fine}
+use Rattle.spelling.specs.Lines.{Line, IsRow, text_of, check_rows, not_fine, fine_inj}
 use Rattle.session.specs.Session.{without}
 
 parts_inj : (a b c d : List ℕ) → parts a b ≡ parts c d → (a ≡ c) × (b ≡ d)
@@ -127,9 +127,6 @@ pub record OnFewer (l : List Line) (t : Known) (line : ℕ) (d : Known) : Type 0
   pub check : check_rows t line l ≡ fine left
   pub fewer : Fewer d left
   pub axioms : left.axioms ≡ t.axioms ++ axioms_of l
-
-fine_inj : (a b : Known) → fine a ≡ fine b → a ≡ b
-fine_inj a b e = cc
 
 pub on_fewer : (l : List Line) (s t : Known) (line other : ℕ) (d : Known) → Fewer s t → Each (λ x. section_of (kind_of x) ≡ 4) l → check_rows s line l ≡ fine d → OnFewer l t other d
 unfolding check_rows axioms_of

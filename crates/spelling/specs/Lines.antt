@@ -89,6 +89,9 @@ lines_read (suc f) s line (b ∷ bytes) d e = on (row_of (b ∷ bytes)) refl (λ
     on (row r rest) q more e = with_line r rest q (eqb (verdict s (get_or r 0 0) r) 0) refl (λ k. more k rest) e
 
 -- ---- lines one after another
+pub fine_inj : (a b : Known) → fine a ≡ fine b → a ≡ b
+fine_inj a b e = cc
+
 pub text_append : (l m : List Line) → text_of (l ++ m) ≡ text_of l ++ text_of m
 unfolding text_of
 text_append [] m = refl
@@ -97,9 +100,6 @@ text_append (x ∷ l) m = ap (λ (z : List ℕ). x.text ++ z) (text_append l m) 
 pub check_append : (l m : List Line) (s : Known) (line : ℕ) (d : Known) → check_rows s line l ≡ fine d → check_rows s line (l ++ m) ≡ check_rows d (line + length l) m
 unfolding check_rows
 check_append [] m s line d e = ap (λ (k : Known). check_rows k line m) (fine_inj s d e) ∙ ap (λ (n : ℕ). check_rows d n m) (omega arith)
-  where
-    fine_inj : (a b : Known) → fine a ≡ fine b → a ≡ b
-    fine_inj a b e = cc
 check_append (x ∷ l) m s line d e = go (eqb (verdict s (get_or x.numbers 0 0) x.numbers) 0) (λ k. check_append l m k (line + 1) d) e
   where
     v : ℕ

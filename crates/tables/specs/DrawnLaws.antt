@@ -1,11 +1,11 @@
 -- Laws of the drawing: one clause more, one deferral more. Assumes nothing.
-use Rattle.std.specs.Prelude.{◌≡◌, false, List, [], ◌∷◌, ◌++◌, ℕ, zero, suc, ◌+◌, ◌*◌, ◌-◌, ◌/◌, ◌≤◌, ◌<◌, drop, replicate}
+use Rattle.std.specs.Prelude.{◌≡◌, false, List, [], ◌∷◌, ◌++◌, ℕ, ◌+◌, ◌*◌, ◌-◌, ◌/◌, ◌≤◌, ◌<◌, replicate}
 use Rattle.std.proofs.Math.Path.{refl, ap}
 use Rattle.std.proofs.Common.{sym, ◌∙◌, append-nil, append_assoc}
 use native.Mathlib.Omega.{arith}
 use borrow.Author.Tests.{lt-ltb, le-ltb, le-leb}
 use Rattle.std.proofs.Math.ListN.{length, length-append}
-use Rattle.std.proofs.lemmas.List.{length-replicate}
+use Rattle.std.proofs.lemmas.List.{length-replicate, drop-replicate}
 use Rattle.std.proofs.Math.Seq.{sets, take-append_seam, drop-append-add}
 use Rattle.std.proofs.lemmas.List.Edits.{sets-eq}
 use Rattle.words.specs.Words.{words}
@@ -75,11 +75,6 @@ run_stores w w₁ w₂ s t i n b h S T en e f =
     f ∙ rw (e, S.are, T.are, p, flat_append b h) (sets_append (flat b) (flat h) w (atom_words * i))
 
 -- ---- a write at the end
-pub drop_zeros : (n m : ℕ) → drop m (replicate {A = ℕ} n 0) ≡ replicate {A = ℕ} (n - m) 0
-drop_zeros n zero = let e : n - 0 ≡ n = omega arith in rw e refl
-drop_zeros zero (suc m) = let e : 0 - suc m ≡ 0 = omega arith in rw e refl
-drop_zeros (suc n) (suc m) = let e : suc n - suc m ≡ n - m = omega arith in rw e (drop_zeros n m)
-
 pub padded_put : (n : ℕ) (l m : List ℕ) → length l + length m ≤ n → sets (padded n l) (length l) m ≡ padded n (l ++ m)
 unfolding padded
 padded_put n l m h =
@@ -88,7 +83,7 @@ padded_put n l m h =
     let b : length z ≡ n - length l = length-replicate {0} {A = ℕ} (n - length l) 0 in
     let g : n - length l - length m ≡ n - (length l + length m) = omega arith in
     sets-eq m (l ++ z) (length l) (omega arith)
-    ∙ rw (take-append_seam l z, drop-append-add l z (length m), drop_zeros (n - length l) (length m), length-append l m, g) refl
+    ∙ rw (take-append_seam l z, drop-append-add l z (length m), drop-replicate {X = ℕ} (length m) (n - length l) 0, length-append l m, g) refl
 
 -- ---- push and defer, over a drawn state
 module _ (env : Env) (k : Counters) (s : Out) (c a d : List ℕ) (e : tables k c a d ≡ show k env.rooms s) where

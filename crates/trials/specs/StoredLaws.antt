@@ -4,13 +4,13 @@ use Rattle.std.proofs.Common.{sym, ap, ap₂, subst, ◌∙◌, append_assoc, ar
 use Prim.{tt, Unit}
 use Rattle.meaning.specs.Truth.{by_truth}
 use Rattle.std.proofs.Math.ListN.{get_or-append, get_or-eq_default}
-use Rattle.std.proofs.lemmas.List.{replicate-append-replicate}
+use Rattle.std.proofs.lemmas.List.{replicate-append-replicate, drop-replicate}
 use Rattle.std.proofs.lemmas.List.Edits.{sets}
 use Rattle.words.specs.Words.{words, bytes}
 use Rattle.words.specs.Laws.{Bytes, words_zeros, words_append}
 use Rattle.rules.specs.Run.{Accepted, scratch_bytes, ten_numbers, table_of}
 use Rattle.tables.specs.Drawn.{padded}
-use Rattle.tables.specs.DrawnLaws.{padded_put, drop_zeros}
+use Rattle.tables.specs.DrawnLaws.{padded_put}
 use Rattle.statistics.specs.declared.ClauseStats.{ClauseStats}
 use Rattle.clausify.specs.Reply.{Reply}
 use Rattle.clausify.specs.Reply as Replies
@@ -91,7 +91,7 @@ pub store_front : (z f ws : List ℕ) (n : ℕ) → z ≡ replicate n 0 → 4 * 
     → f ++ drop (4 * front_words) z ≡ table_of n ws
 unfolding table_of
 store_front z f ws n y h l b e k =
-    let d : drop 564 z ≡ replicate {A = ℕ} (n - 564) 0 = ap (drop 564) y ∙ drop_zeros n 564 in
+    let d : drop 564 z ≡ replicate {A = ℕ} (n - 564) 0 = ap (drop 564) y ∙ drop-replicate {X = ℕ} 564 n 0 in
     let t : f ≡ bytes ws ++ replicate (564 - 4 * length ws) 0 = table_bytes_lem f ws front_words b l e ∙ ap (λ (m : ℕ). bytes ws ++ replicate (m - 4 * length ws) 0) l in
     let q : (564 - 4 * length ws) + (n - 564) ≡ n - 4 * length ws = omega arith in
     ap₂ (λ (x y : List ℕ). x ++ y) t d
