@@ -1,5 +1,5 @@
 -- A text that is to be an axiom's line, as the code checks it; and a deck with it behind. Assumes nothing.
-use Rattle.std.specs.Prelude.{◌≡◌, refl, Bool, true, false, ◌&&◌, List, [], ◌∷◌, ◌++◌, ℕ, ◌+◌, ◌*◌, ◌-◌, ◌<◌, ◌≤◌, eqb, ltb, length, get_or, take, drop, replicate, Option, Some, None, Result, Ok, Err}
+use Rattle.std.specs.Prelude.{◌≡◌, refl, Bool, true, false, ◌&&◌, List, [], ◌∷◌, ◌++◌, ℕ, zero, suc, ◌+◌, ◌*◌, ◌-◌, ◌<◌, ◌≤◌, eqb, ltb, length, get_or, take, drop, replicate, Option, Some, None, Result, Ok, Err}
 use Rattle.std.proofs.Common.{sym, ap, ap₂, ◌∙◌, arith, length-append, length-drop, drop_at, take_at, append_assoc, lt-ltb, le-ltb, ltb-false, ne_eqb, drop_of_length-le, drop-drop}
 use Rattle.std.proofs.lemmas.List.{drop-replicate}
 use Rattle.std.specs.Prelude.{MatchResult, IsErrAnd}
@@ -16,7 +16,7 @@ use Rattle.text.specs.Rows.{row_at, line_of}
 use Rattle.deck.specs.declared.state.Section.{Section}
 use Rattle.deck.specs.declared.state.Section.TheVariants.{Header, Keys, Concepts, Axioms}
 use Rattle.deck.specs.declared.state.State.{State}
-use Rattle.deck.specs.Records.{verdict_number, section_number, known_in}
+use Rattle.deck.specs.Records.{section_number, verdict_number, behind_line, known_in}
 use Rattle.deck.proofs.LineLaws.{refusal_some}
 use Rattle.session.specs.Session.{session_bytes, stored, deck_in, Did, done, refused, checked, last_line, is_nil, row_verdict, text_verdict, add_to, on_holding, Holding, call_add, said_of, Said, Done}
 use Rattle.session.specs.Session as Session
@@ -71,6 +71,11 @@ module _ (d : Known) (s : List ℕ) (n : ℕ) (some : 0 < length s) where
       go : (s : List ℕ) → 0 < length s → broken_row ≡ row_of s → 2 ≡ text_verdict d s
       go [] h e = absurd (omega arith)
       go (b ∷ s) h e = ap (row_verdict d) e
+
+-- behind the first three checks nothing is asked of an axiom
+pub behind_axiom : (d : Known) (k : ℕ) (r : List ℕ) (v : ℕ) → section_of k ≡ 4 → behind_line d k r v ≡ v
+behind_axiom d k r zero e = rw e refl
+behind_axiom d k r (suc v) e = rw (ne_eqb (suc v) 0 (λ z. omega arith)) refl
 
 -- of an axiom's section
 pub axioms_section : (x : Option Section) → section_number x ≡ 4 → x ≡ Some Axioms

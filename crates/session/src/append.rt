@@ -1,34 +1,16 @@
 // An axiom is added behind the live ones, checked as the deck's last line.
-ghost use Rattle.std.specs.Prelude.{◌≡◌, List, ◌++◌, ℕ, ◌+◌, ◌≤◌, length, get_or};
-ghost use Rattle.rules.specs.Deck.{most_bytes, section_of, verdict as verdict_of};
+ghost use Rattle.std.specs.Prelude.{◌≡◌, List, ◌++◌, ℕ, ◌+◌, ◌≤◌, length};
+ghost use Rattle.rules.specs.Deck.{most_bytes};
 ghost use Rattle.deck.specs.Records.{known_in, verdict_number};
-ghost use Rattle.deck.specs.Rows.{numbers};
 ghost use Rattle.session.specs.Session.{stored, deck_in, text_verdict, add_to, call_add, said_of, session_after};
 ghost use Rattle.session.specs.Told.{told_said, Counts};
 
 use crate::form;
+use deck::kinds;
 use deck::row::{Line, Row};
 use deck::state::{Section, State};
-use deck::{kinds, limits, names};
 use ir::answer::Refused;
 use ir::refusal::Refusal;
-
-// 3 to 5, of a line of an axiom's kind.
-fn verdict(row: &Row, st: State) -> Result<(), Refusal>
-    ensures { (s t : List ℕ) → section_of (get_or (numbers row.now) 0 0) ≡ 4 → verdict_number result ≡ verdict_of (known_in s t st) (get_or (numbers row.now) 0 0) (numbers row.now) }
-{
-    let kind = row.entry(0);
-    if !kinds::shape(st.section, kind, row.line.fields) {
-        return Err(Refusal::BadLine);
-    }
-    if !limits::limits(row, kind, st) {
-        return Err(Refusal::PastLimit);
-    }
-    if !names::names(row, kind, st) {
-        return Err(Refusal::Undeclared);
-    }
-    Ok(())
-}
 
 // 2 to 5, of a text that is to be one axiom's line.
 fn text_verdict(text: &[u8], st: State) -> Result<(), Refusal>
@@ -47,7 +29,7 @@ fn text_verdict(text: &[u8], st: State) -> Result<(), Refusal>
     if row.behind() < text.len() || kinds::section_of(row.entry(0)) != Some(Section::Axioms) {
         return Err(Refusal::BadLine);
     }
-    verdict(&row, st)
+    deck::line_verdict(&row, st)
 }
 
 // All checks behind a live deck of n bytes.
