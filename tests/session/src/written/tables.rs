@@ -28,16 +28,9 @@ fn refused_on(change: &Change) -> Vec<Called> {
     all.map(|called| on(change.clone(), called)).into()
 }
 
-/// What leaves no session of a small one.
-fn changes() -> Vec<Change> {
-    let text = lines(SMALL);
-    let length = u32::try_from(text.len()).expect("short");
-    let end = length + u32::try_from(WORD).expect("four");
-    let last = u32::try_from(SESSION).expect("a size") - 1;
-    let in_text = |text: &str| Change::Text(lines(text));
+/// Lengths that a small one does not have.
+fn lengths(length: u32) -> Vec<Change> {
     vec![
-        Change::Zeros,
-        Change::Random(1),
         Change::Length(0),
         Change::Length(length - 1),
         Change::Length(length + 1),
@@ -49,6 +42,13 @@ fn changes() -> Vec<Change> {
         Change::Length(u32::MAX),
         Change::Length(u32::MAX - 3),
         Change::Length(u32::MAX - 4),
+    ]
+}
+
+/// Bytes that a small one, whose deck ends at `end`, does not have.
+fn bytes(end: u32) -> Vec<Change> {
+    let last = u32::try_from(SESSION).expect("a size") - 1;
+    vec![
         Change::Byte(3, 1),
         Change::Byte(4, b'0'),
         Change::Byte(end - 1, b' '),
@@ -59,6 +59,19 @@ fn changes() -> Vec<Change> {
         Change::Byte(last, 1),
         Change::Byte(last - 1, 0x80),
         Change::Byte(32_768, 1),
+    ]
+}
+
+/// What leaves no session of a small one.
+fn changes() -> Vec<Change> {
+    let text = lines(SMALL);
+    let length = u32::try_from(text.len()).expect("short");
+    let word = u32::try_from(WORD).expect("four");
+    let in_text = |text: &str| Change::Text(lines(text));
+    let mut all = vec![Change::Zeros, Change::Random(1)];
+    all.extend(lengths(length));
+    all.extend(bytes(length + word));
+    all.extend([
         in_text(&format!("0 2 0 1 {}; 3 0", OPTIONS + 1)),
         in_text("0 2 0 1 3; 3 2"),
         in_text("0 2 0 1 3; 3 0; 6 1"),
@@ -68,7 +81,8 @@ fn changes() -> Vec<Change> {
         Change::Text(vec![b'\n'; DECK_BYTES]),
         Change::Text(text[..text.len() - 1].to_vec()),
         Change::Text([&text[..], b" "].concat()),
-    ]
+    ]);
+    all
 }
 
 fn no_session() -> Vec<Called> {
