@@ -18,7 +18,7 @@ use Rattle.deck.specs.declared.state.Section.TheVariants.{Header, Keys, Concepts
 use Rattle.deck.specs.declared.state.State.{State}
 use Rattle.deck.specs.Records.{section_number, verdict_number, behind_line, known_in}
 use Rattle.deck.proofs.LineLaws.{refusal_some}
-use Rattle.session.specs.Session.{session_bytes, stored, deck_in, Did, done, refused, checked, last_line, is_nil, row_verdict, text_verdict, add_to, on_holding, Holding, call_add, said_of, Said, Done}
+use Rattle.session.specs.Session.{stored, deck_in, done, refused, checked, last_line, is_nil, row_verdict, text_verdict, add_to, on_holding, Holding, call_add, said_of, Done}
 use Rattle.session.specs.Session as Session
 use Rattle.session.specs.Told.{told_said, Live}
 use Rattle.session.specs.SaidLaws.{not_refused}

@@ -9,7 +9,7 @@ use Rattle.ir.specs.Records.{same_words}
 use Rattle.ir.specs.RecordLaws.{same_words_lem}
 use Rattle.ir.specs.Refusals.{refusal_number}
 use Rattle.ir.specs.declared.answer.Refused.{Refused as Refusing}
-use Rattle.rules.specs.Deck.{most_bytes, Told, fine, read_deck}
+use Rattle.rules.specs.Deck.{Told, read_deck}
 use Rattle.rules.specs.Deck as Deck
 use Rattle.rules.specs.Run.{scratch_bytes}
 use Rattle.deck.specs.declared.state.State.{State}

@@ -1,7 +1,7 @@
 -- What is said of a call tells what it did to the session. Assumes nothing.
 use Rattle.std.specs.Prelude.{◌≡◌, refl, List, ℕ}
 use Rattle.std.proofs.Common.{arith}
-use Rattle.session.specs.Session.{Did, done, refused, session_after, Said, Done, said_of}
+use Rattle.session.specs.Session.{Did, done, refused, session_after, Done, said_of}
 use Rattle.session.specs.Session as Session
 
 pub not_refused : {P : Type 0} (k line : ℕ) → Done ≡ Session.Refused k line → P

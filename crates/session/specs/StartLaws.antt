@@ -11,7 +11,7 @@ use Rattle.rules.specs.Run.{scratch_bytes}
 use Rattle.spelling.specs.Decks.{deck_short}
 use Rattle.deck.specs.declared.state.State.{State}
 use Rattle.deck.specs.Records.{told_of}
-use Rattle.session.specs.Session.{session_bytes, Did, done, refused, started_as, start_of, scratch_ok, call_start, session_started, stored, Said, Done, said_of}
+use Rattle.session.specs.Session.{session_bytes, done, refused, started_as, start_of, scratch_ok, call_start, Done, said_of}
 use Rattle.session.specs.Session as Session
 use Rattle.session.specs.SaidLaws.{not_refused}
 

@@ -6,7 +6,7 @@ use Rattle.ir.specs.declared.answer.Refused.{Refused as Refusing}
 use Rattle.rules.specs.Deck.{most_bytes, most_concept_lines, most_axioms, fine, read_deck}
 use Rattle.deck.specs.declared.state.State.{State}
 use Rattle.deck.specs.Records as reader
-use Rattle.session.specs.Session.{Said, Done, stored, deck_in, Holding, holds, no_deck, live}
+use Rattle.session.specs.Session.{Said, Done, stored, deck_in, holds, no_deck, live}
 use Rattle.session.specs.Session as Session
 
 abbrev pub told_said : Result (Unit {0}) Refusing → Said

@@ -1,5 +1,5 @@
 -- Both tests on small decks and states, and a state's text, computed.
-use Rattle.std.specs.Prelude.{◌≡◌, refl, List, [], ◌∷◌, ℕ}
+use Rattle.std.specs.Prelude.{◌≡◌, refl, List, [], ◌∷◌}
 use Prim.Native.String.{String}
 use Rattle.rules.specs.Ascii.{ascii}
 use Rattle.rules.proofs.Cases.{lines_of}

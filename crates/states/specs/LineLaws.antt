@@ -1,7 +1,7 @@
 -- The reading of a state never runs out of its bound, and a bad line's number is small, however long the text. Assumes nothing.
 use Rattle.std.specs.Prelude.{◌≡◌, Bool, false, ◌&&◌, ◌||◌, ◌⊎◌, get_or, drop, eqb, ltb, leb}
 use Rattle.std.proofs.Math.Path.{refl}
-use Rattle.std.proofs.Common.{sym, ap, ◌∙◌, inl, inr, not-suc-le-zero, arith, ltb-true, leb-true, eqb-true, eq-eqb, ne_eqb}
+use Rattle.std.proofs.Common.{sym, ap, inl, inr, not-suc-le-zero, arith, ltb-true, leb-true, eqb-true, eq-eqb, ne_eqb}
 use Rattle.std.proofs.Math.Bool.{true}
 use Rattle.std.proofs.lemmas.Bool.{false≢true, eqb-false, or_cases}
 use mathlib.Core.List.{List, [], ◌∷◌}

@@ -1,13 +1,11 @@
 -- A clause is broken by an assignment where each of its body atoms holds and each of its head atoms fails; and this can be tested
 -- an element at a time: with each further variable, the atoms whose variables are now all known. Assumes nothing.
-use Rattle.std.specs.Prelude.{◌≡◌, Bool, ◌&&◌, ◌||◌, ℕ, zero, suc, ◌+◌, ◌<◌, ◌≤◌, length, take, eqb}
+use Rattle.std.specs.Prelude.{◌≡◌, Bool, ◌&&◌, ◌||◌, ℕ, zero, suc, length, take, eqb}
 use Rattle.std.proofs.Math.Path.{refl, ap}
-use Rattle.std.proofs.Common.{sym, ap₂, ◌∙◌, arith, length-append, add-one, eqb-true}
+use Rattle.std.proofs.Common.{sym, ap₂, ◌∙◌, length-append, add-one, eqb-true}
 use Rattle.std.proofs.Math.Bool.{true, false, not}
 use Rattle.std.proofs.lemmas.Bool.{false≢true}
 use mathlib.Core.List.{List, [], ◌∷◌, ◌++◌, append-nil, append_assoc}
-use Rattle.std.proofs.Math.Option.{Option, none, some}
-use Rattle.ir.specs.Pick.{pick}
 use Rattle.ir.specs.Atoms.{atom_vars}
 use Rattle.ir.specs.declared.atom.Atom.{Atom}
 use Rattle.ir.specs.declared.atom.Atom.TheVariants.{Class, Exists, AtMost, AtLeast, Equal, Role as RoleAtom}
@@ -17,9 +15,8 @@ use Rattle.rules.specs.Invariants.{Each}
 use Rattle.rules.specs.Semantics.{Interpretation, implies, chosen, atom_holds, clause_vars, clause_holds_at}
 use Rattle.rules.specs.EachLaws.{each_map, each_any}
 use Rattle.meaning.specs.Truth.{by_truth, all_each, each_all, and_unit, and_crossed}
-use Rattle.meaning.specs.Choices.{AgreeOn, atom_agree}
-use Rattle.states.specs.Conditions.{rises, least_of, chosen_from, clause_true_at, clause_broken}
-use Rattle.states.specs.LeastLaws.{Assignment}
+use Rattle.meaning.specs.Choices.{atom_agree}
+use Rattle.states.specs.Conditions.{rises, chosen_from, clause_true_at, clause_broken}
 use Rattle.states.specs.SearchLaws.{least_same, fits, search, search_least}
 
 -- ---- all literals broken

@@ -5,13 +5,13 @@ use Rattle.std.proofs.Common.{sym, ap, ◌∙◌, arith, not-suc-le-zero, pow-su
 use Rattle.std.proofs.lemmas.Bool.{false≢true, eqb-false}
 use Rattle.std.proofs.Math.Option.{Option, none, some}
 use Rattle.std.proofs.Math.Nat.{div-div-eq-div-mul}
-use Rattle.std.specs.Int.Bits.{bit_and, bit_or, bit_xor, differ, xor_step}
+use Rattle.std.specs.Int.Bits.{bit_or, bit_xor, differ, xor_step}
 use Rattle.std.specs.Int.Count.{count_trailing_zeros, under}
 use Rattle.ir.specs.Pick.{pick}
 use Rattle.rules.specs.Base.{all}
 use Rattle.rules.specs.Semantics.{one, same_truth}
 use Rattle.meaning.specs.Truth.{by_truth}
-use Rattle.states.specs.Conditions.{rises, behind, first_of, least_of}
+use Rattle.states.specs.Conditions.{rises, behind, least_of}
 use Rattle.states.specs.Masks.{mask_of, mask_or, mask_none, half, low}
 use Rattle.states.specs.ChainLaws.{first_where, first_where_lem, first_same}
 

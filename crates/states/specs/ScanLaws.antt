@@ -4,7 +4,6 @@ use Rattle.std.specs.Prelude.{◌≡◌, refl, Bool, ◌&&◌, ◌||◌, length,
 use Rattle.std.proofs.Common.{sym, ◌∙◌}
 use Rattle.std.proofs.Math.Path.{ap}
 use Rattle.std.proofs.Math.Bool.{true, false}
-use Rattle.std.proofs.lemmas.Bool.{false≢true}
 use mathlib.Core.List.{List, [], ◌∷◌, ◌++◌}
 use Prim.Native.Nat.{ℕ, zero, suc, ◌+◌}
 use Rattle.std.proofs.Math.Dec.{eqb}
@@ -12,7 +11,7 @@ use Rattle.ir.specs.Pick.{pick}
 use Rattle.rules.specs.Text.{Row, row, broken_row, row_of}
 use Rattle.rules.specs.Deck.{Known}
 use Rattle.meaning.specs.Truth.{by_truth}
-use Rattle.states.specs.State.{State, state, Seen, seen, StateTold, stated, bad, numbers_at, count_ok, line_ok, entered, ended, on_line, on_state_row, state_by, on_count, read_state}
+use Rattle.states.specs.State.{State, state, Seen, seen, stated, numbers_at, count_ok, line_ok, entered, on_line, on_state_row, state_by, on_count, read_state}
 use Rattle.states.specs.ProperLaws.{not_stated, not_read, ended_is}
 
 -- the numbers of class c's line, from these bytes on

@@ -1,13 +1,12 @@
 -- The verdict is 'holds' exactly when every axiom is satisfied, or every clause holds; otherwise it names the first broken one.
 -- Assumes nothing.
-use Rattle.std.specs.Prelude.{◌≡◌, Bool, true, false, ◌&&◌, ℕ, suc, ◌+◌, length}
+use Rattle.std.specs.Prelude.{◌≡◌, Bool, true, false, ◌&&◌, ℕ, ◌+◌, length}
 use Rattle.std.proofs.Math.Path.{refl, ap}
 use Rattle.std.proofs.Common.{sym, ◌∙◌, arith}
 use Rattle.std.proofs.lemmas.Bool.{false≢true}
 use mathlib.Core.List.{List, [], ◌∷◌, ◌++◌, map}
 use Rattle.std.proofs.Math.Option.{Option, none, some}
 use Rattle.rules.specs.Base.{all}
-use Rattle.rules.specs.Concept.{Axiom}
 use Rattle.rules.specs.State.{Clause}
 use Rattle.rules.specs.Deck.{Known, axiom_line}
 use Rattle.rules.specs.Invariants.{Each}

@@ -8,7 +8,7 @@ use Rattle.std.proofs.lemmas.List.{length-replicate}
 use Rattle.words.specs.Words.{words}
 use Rattle.rules.specs.Deck.{Known, Told, fine, read_deck}
 use Rattle.rules.specs.Deck as Deck
-use Rattle.rules.specs.Run.{Lengths, Accepted, Outcome, accepted, Run, sizes_ok, clause_table, atom_table, deferral_table, scratch_bytes}
+use Rattle.rules.specs.Run.{Accepted, Outcome, accepted, Run, sizes_ok, clause_table, atom_table, deferral_table}
 use Rattle.rules.specs.Run as Run
 use Rattle.rules.proofs.RunLaws.{Tables, run_tables}
 use Rattle.meaning.specs.Truth.{by_truth}
