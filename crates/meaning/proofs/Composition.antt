@@ -3,7 +3,7 @@
 use Rattle.std.specs.Prelude.{◌≡◌, Bool, true, false, not, ◌||◌, List, [], map, ℕ, ◌≤◌, length}
 use Rattle.std.proofs.Math.Path.{refl}
 use Rattle.std.proofs.Common.{sym, ap, ◌∙◌, le_refl, arith}
-use Rattle.ir.specs.Options.{body_decompose, equal_names}
+use Rattle.ir.specs.Options.{body_decompose, equal_names, follow_roles}
 use Rattle.rules.specs.Base.{all}
 use Rattle.rules.specs.Concept.{Axiom}
 use Rattle.rules.specs.Normalize.{St}
@@ -66,7 +66,7 @@ module _ (I : Interpretation) (d : Known) (D : DeckIn d) (P : Proper d I) (inver
     setting = record {
       classes = omega arith;
       individuals = λ i h. omega arith;
-      keeps = λ r x y. env_keeps I env s.pool axioms refl (some_same is_inverse_axiom (satisfied I s.pool) (satisfied I d.concepts) axioms d.axioms K.inverse same ∙ inverses) r x y;
+      keeps = λ r x y. env_keeps I (follow_roles d.header.options) env s.pool axioms refl (some_same is_inverse_axiom (satisfied I s.pool) (satisfied I d.concepts) axioms d.axioms K.inverse same ∙ inverses) r x y;
     }
 
     normal : satisfies_all d I ≡ true → all (satisfied I s.pool) axioms ≡ true
@@ -96,7 +96,7 @@ module _ (I : Interpretation) (d : Known) (D : DeckIn d) (P : Proper d I) (inver
     passed t u A M = record {
       above = omega (arith, M.above, A.fresh);
       under = rw A.fresh (A.under t.next_fresh M.under);
-      gets = λ h. let x = M.gets h in (x.0, x.1, own_follow I env s.pool axioms refl (normal h) t u A x.0 x.2);
+      gets = λ h. let x = M.gets h in (x.0, x.1, own_follow I (follow_roles d.header.options) env s.pool axioms refl (normal h) t u A x.0 x.2);
       says = λ f n q e. M.says (each_left (Follows I) t.clauses A.new (rw A.grown at f)) (λ o. each_left (Fine (first_fresh d)) t.clauses A.new (rw A.grown at (n o))) q (omega (arith, A.defers, e));
     }
 

@@ -12,6 +12,7 @@ pub mod Disjoint
 pub mod Axioms
 pub mod Composition
 pub mod Theorem
+pub mod OptionsAlike
 pub mod EqualNames
 pub mod AxiomNames
 pub mod SettledNames

@@ -1,6 +1,6 @@
 -- The fresh classes of a run, which took n ids: what the third proviso says of the heads, and the sets that the first half gives.
 -- Assumes nothing.
-use Rattle.std.specs.Prelude.{◌≡◌, false, not, List, [], ◌∷◌, map, ℕ, ◌+◌, ◌<◌, leb}
+use Rattle.std.specs.Prelude.{◌≡◌, false, List, [], ◌∷◌, map, ℕ, ◌+◌, ◌<◌, leb}
 use Rattle.std.proofs.Common.{sym, ap, ◌∙◌, true≢false, leb-false, lt-ltb}
 use Rattle.std.proofs.Math.Option.{some}
 use Rattle.ir.specs.Pick.{pick}

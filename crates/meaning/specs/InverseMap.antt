@@ -1,6 +1,6 @@
 -- The map of inverses keeps the pairs of every role, in an interpretation that satisfies the axioms on inverses; and it turns
 -- with a role. Assumes nothing.
-use Rattle.std.specs.Prelude.{◌≡◌, Bool, not, ◌||◌, ℕ, ◌<◌}
+use Rattle.std.specs.Prelude.{◌≡◌, Bool, not, ◌||◌, ℕ, zero, suc, ◌<◌, length}
 use Rattle.std.proofs.Math.Path.{refl}
 use Rattle.std.proofs.Common.{sym, ◌∙◌, eqb-true}
 use Rattle.std.proofs.Math.Bool.{true, false}
@@ -15,7 +15,7 @@ use Rattle.rules.specs.Base.{all}
 use Rattle.rules.specs.Concept.{Axiom}
 use Rattle.rules.specs.Concept.{SubClassOf, EquivalentClasses, DisjointClasses, DisjointUnion, ObjectPropertyDomain, ObjectPropertyRange, SubChain, TransitiveRole, IrreflexiveRole, AsymmetricRole, DisjointObjectProperties, InverseObjectProperties, SubObjectPropertyOf, EquivalentObjectProperties, ReflexiveRole, ClassAssertion}
 use Rattle.rules.specs.Pool.{Pool}
-use Rattle.rules.specs.Inverse.{Entry, InverseCanon, lookup, skipped, declared, inverse_of, build_from, build_inverse_canon, canon_of, canon_role}
+use Rattle.rules.specs.Inverse.{Entry, InverseCanon, lookup, skipped, declared, inverse_of, build_from, build_inverse_canon, canon_of, canon_role, stays, follow_by, follow, mapped_by, followed, inverse_canon_of}
 use Rattle.rules.specs.State.{Env, canon}
 use Rattle.rules.specs.Invariants.{Each}
 use Rattle.rules.specs.Semantics.{Interpretation, related, every_pair, same_truth, satisfied}
@@ -110,11 +110,29 @@ module _ (I : Interpretation) where
   build_kept p m [] u h = u
   build_kept p m (a ∷ l) u h = build_kept p (inverse_of m a) l (axiom_kept p m a u h.0) h.1
 
-  -- the pool is not read
-  pub canon_keeps : (p : Pool) (axioms : List Axiom) → all (λ a. not (is_inverse_axiom a) || satisfied I p a) axioms ≡ true
-      → (r : Role) (x y : ℕ) → x < I.size → y < I.size → related I (canon_role (build_inverse_canon axioms) r) x y ≡ related I r x y
-  canon_keeps p axioms h = map_keeps (build_inverse_canon axioms) (build_kept p [] axioms tt (all_each _ axioms h))
+  -- ---- option 8: every step keeps the pairs, so all of them do
+  follow_keeps : (n : ℕ) (m : InverseCanon) → Each Kept m → (r : Role) → SamePairs (follow_by n m r) r
+  unfolding follow_by
+  follow_keeps zero m u r x y a b = refl
+  follow_keeps (suc n) m u r x y a b = go (stays m (role_id r)) (follow_keeps n m u (canon_role m r) x y a b)
+    where
+      go : (c : Bool) → related I (follow_by n m (canon_role m r)) x y ≡ related I (canon_role m r) x y → related I (pick c r (follow_by n m (canon_role m r))) x y ≡ related I r x y
+      go true ih = refl
+      go false ih = ih ∙ map_keeps m u r x y a b
 
-  pub env_keeps : (env : Env) (p : Pool) (axioms : List Axiom) → env.inverse_canon ≡ build_inverse_canon axioms → all (λ a. not (is_inverse_axiom a) || satisfied I p a) axioms ≡ true
+  kept_by : (g : ℕ → Role) → ((k : ℕ) → SamePairs (g k) (Named k)) → (m : InverseCanon) → Each Kept (mapped_by g m)
+  kept_by g h [] = tt
+  kept_by g h (e ∷ m) = (h e.key, kept_by g h m)
+
+  either_kept : (far : Bool) (m : InverseCanon) → Each Kept m → Each Kept (pick far (followed m) m)
+  either_kept true m u = kept_by (λ k. follow m (Named k)) (λ k. follow_keeps (length m) m u (Named k)) m
+  either_kept false m u = u
+
+  -- the pool is not read
+  pub canon_keeps : (far : Bool) (p : Pool) (axioms : List Axiom) → all (λ a. not (is_inverse_axiom a) || satisfied I p a) axioms ≡ true
+      → (r : Role) (x y : ℕ) → x < I.size → y < I.size → related I (canon_role (inverse_canon_of far axioms) r) x y ≡ related I r x y
+  canon_keeps far p axioms h = map_keeps (inverse_canon_of far axioms) (either_kept far (build_inverse_canon axioms) (build_kept p [] axioms tt (all_each _ axioms h)))
+
+  pub env_keeps : (far : Bool) (env : Env) (p : Pool) (axioms : List Axiom) → env.inverse_canon ≡ inverse_canon_of far axioms → all (λ a. not (is_inverse_axiom a) || satisfied I p a) axioms ≡ true
       → (r : Role) → SamePairs (canon env r) r
-  env_keeps env p axioms e h r = rw e (canon_keeps p axioms h r)
+  env_keeps far env p axioms e h r = rw e (canon_keeps far p axioms h r)

@@ -13,6 +13,7 @@ pub mod AxiomMeans
 pub mod NormalForm
 pub mod Readings
 pub mod AxiomAgree
+pub mod DeckAgree
 pub mod InverseMap
 pub mod Pairs
 pub mod ReflexiveSet

@@ -1,9 +1,9 @@
 -- The two passes over reflexive roles together: they add only clauses that follow from those before them. Assumes nothing.
-use Rattle.std.specs.Prelude.{◌≡◌, true, List, [], ◌∷◌, ℕ}
+use Rattle.std.specs.Prelude.{◌≡◌, Bool, true, List, [], ◌∷◌, ℕ}
 use Rattle.rules.specs.Base.{all}
 use Rattle.rules.specs.Concept.{Axiom}
 use Rattle.rules.specs.Pool.{Pool}
-use Rattle.rules.specs.Inverse.{build_inverse_canon}
+use Rattle.rules.specs.Inverse.{inverse_canon_of}
 use Rattle.rules.specs.State.{Env, Out}
 use Rattle.rules.specs.Reflexive.{reflexive_role_ids}
 use Rattle.rules.specs.Run.{reflexive_passes}
@@ -23,7 +23,7 @@ passes_mean env [] s = give (due_means [] env s s (added_none env (Due [] s.clau
 passes_mean env (r ∷ set) s = post_then (unfold_means env (r ∷ set) s) (λ _ t A. post_map (loops_means env (r ∷ set) t) (λ _ u D. pass_then (r ∷ set) A D))
 
 -- over the axioms that the map of inverses is made of, where they are satisfied
-pub own_follow : (I : Interpretation) (env : Env) (p : Pool) (axioms : List Axiom) → env.inverse_canon ≡ build_inverse_canon axioms → all (satisfied I p) axioms ≡ true
+pub own_follow : (I : Interpretation) (far : Bool) (env : Env) (p : Pool) (axioms : List Axiom) → env.inverse_canon ≡ inverse_canon_of far axioms → all (satisfied I p) axioms ≡ true
     → (s t : Out) → PassMeans (reflexive_role_ids env axioms) s t
     → (k : Valuation) → Each (Follows (with_classes I k)) s.clauses → Each (Follows (with_classes I k)) t.clauses
-own_follow I env p axioms e h s t A = A.follow I (own_reflexive I env p axioms e h)
+own_follow I far env p axioms e h s t A = A.follow I (own_reflexive I far env p axioms e h)

@@ -16,7 +16,7 @@ use Rattle.rules.specs.Concept.{Axiom}
 use Rattle.rules.specs.Concept.{SubClassOf, EquivalentClasses, DisjointClasses, DisjointUnion, ObjectPropertyDomain, ObjectPropertyRange, SubChain, TransitiveRole, IrreflexiveRole, AsymmetricRole, DisjointObjectProperties, InverseObjectProperties, SubObjectPropertyOf, EquivalentObjectProperties, ReflexiveRole, ClassAssertion}
 use Rattle.rules.specs.Pool.{Pool}
 use Rattle.rules.specs.State.{Env, canon}
-use Rattle.rules.specs.Inverse.{build_inverse_canon}
+use Rattle.rules.specs.Inverse.{inverse_canon_of}
 use Rattle.rules.specs.Axioms.{paired, later_pairs}
 use Rattle.rules.specs.Reflexive.{inserted, canon_id, declared_reflexive, reflexive_from, edge_to, edges_from, edges_among, role_edges, all_edges, round, settled, closed, reflexive_role_ids}
 use Rattle.rules.specs.Invariants.{Each}
@@ -175,6 +175,6 @@ module _ (I : Interpretation) where
     ids_reflexive axioms h i = each_contains Reflexive (reflexive_role_ids env axioms) i (set_reflexive axioms h)
 
   -- with the map that the same axioms make
-  pub own_reflexive : (env : Env) (p : Pool) (axioms : List Axiom) → env.inverse_canon ≡ build_inverse_canon axioms → all (satisfied I p) axioms ≡ true
+  pub own_reflexive : (far : Bool) (env : Env) (p : Pool) (axioms : List Axiom) → env.inverse_canon ≡ inverse_canon_of far axioms → all (satisfied I p) axioms ≡ true
       → Each Reflexive (reflexive_role_ids env axioms)
-  own_reflexive env p axioms e h = set_reflexive env (env_keeps I env p axioms e (all_some is_inverse_axiom (satisfied I p) axioms h)) p axioms h
+  own_reflexive far env p axioms e h = set_reflexive env (env_keeps I far env p axioms e (all_some is_inverse_axiom (satisfied I p) axioms h)) p axioms h

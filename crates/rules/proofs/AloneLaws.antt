@@ -6,6 +6,7 @@ use mathlib.Core.List.{List, [], ◌∷◌}
 use native.Mathlib.Omega.{arith}
 use Rattle.std.proofs.Math.Path.{refl}
 use Rattle.std.proofs.Math.ListN.{length}
+use Rattle.ir.specs.Options.{follow_roles}
 use Rattle.rules.specs.Concept.{Axiom}
 use Rattle.rules.specs.Pool.{Pool}
 use Rattle.rules.specs.Normalize.{St}
@@ -82,7 +83,7 @@ pub run_axioms_alone_made : (B : Bounds) (d : Known) (rooms : Rooms) (line : ℕ
     → B.classes ≤ d.header.classes → B.individuals ≤ d.header.individuals → Wf B s.pool → Each (AxiomIn B (length s.pool)) axioms
     → LinedPost (λ _ y. Clausified B (start d s) (clausifier_at 0 y)) (axioms_alone (env_of d rooms axioms) line axioms (start d s))
 run_axioms_alone_made B d rooms line axioms s h k w u =
-    axioms_alone_made B (env_of d rooms axioms) (canon_in B (length s.pool) axioms u) line axioms (start d s) (start_fit B d rooms axioms s h k w) u
+    axioms_alone_made B (env_of d rooms axioms) (canon_in B (length s.pool) (follow_roles d.header.options) axioms u) line axioms (start d s) (start_fit B d rooms axioms s h k w) u
 
 -- ---- what the axioms keep
 module _ (env : Env) (J : Out → Type 0) (I : Invariant env J) where

@@ -20,7 +20,8 @@ use Rattle.rules.specs.Concept.{Concept, Axiom}
 use Rattle.rules.specs.Concept.{Top, Bot, Atomic, Nominal, SelfRestriction, Not, And, Or, Some, All, Min, Max}
 use Rattle.rules.specs.Concept.{SubClassOf, EquivalentClasses, DisjointClasses, DisjointUnion, ObjectPropertyDomain, ObjectPropertyRange, SubChain, TransitiveRole, IrreflexiveRole, AsymmetricRole, DisjointObjectProperties, InverseObjectProperties, SubObjectPropertyOf, EquivalentObjectProperties, ReflexiveRole, ClassAssertion}
 use Rattle.rules.specs.Pool.{Pool, at}
-use Rattle.rules.specs.Inverse.{InverseCanon, lookup, skipped, declared, inverse_of, build_from, build_inverse_canon, canon_of, canon_role}
+use Rattle.rules.specs.Inverse.{InverseCanon, lookup, skipped, declared, inverse_of, build_from, build_inverse_canon, canon_of, canon_role, stays, follow_by, inverse_canon_of}
+use Rattle.rules.proofs.FollowLaws.{followed_step}
 use Rattle.rules.specs.State.{Env, Out, E, canon, fresh_var, most_in_hand}
 use Rattle.rules.specs.Antecedents.{Alternatives, antecedent_dnf_cap, cross, in_hand, within, and_with, encode_and, or_with, encode_or, some_with, encode_step, encode_by}
 use Rattle.rules.specs.Invariants.{Each, Bounds, RoleIn, Bounded, Wf, AxiomIn, AtomIn}
@@ -88,9 +89,22 @@ unfolding build_from
 build_in B n m [] h u = u
 build_in B n m (a ∷ l) h u = build_in B n (inverse_of m a) l h.1 (inverse_in B n m a h.0 u)
 
-pub canon_in : (B : Bounds) (n : ℕ) (l : List Axiom) → Each (AxiomIn B n) l → (r : Role) → RoleIn B r → RoleIn B (canon_role (build_inverse_canon l) r)
+step_in : (B : Bounds) (m : InverseCanon) → Mapped B m → (r : Role) → RoleIn B r → RoleIn B (canon_role m r)
 unfolding canon_role
-canon_in B n l h r i = canon_of_lem B r i (lookup (build_inverse_canon l) (role_id r)) (lookup_in B (build_inverse_canon l) (role_id r) (build_in B n [] l h tt))
+step_in B m u r i = canon_of_lem B r i (lookup m (role_id r)) (lookup_in B m (role_id r) u)
+
+follow_in : (B : Bounds) (n : ℕ) (m : InverseCanon) → Mapped B m → (r : Role) → RoleIn B r → RoleIn B (follow_by n m r)
+unfolding follow_by
+follow_in B zero m u r i = i
+follow_in B (suc n) m u r i = go (stays m (role_id r)) (follow_in B n m u (canon_role m r) (step_in B m u r i))
+  where
+    go : (b : Bool) → RoleIn B (follow_by n m (canon_role m r)) → RoleIn B (pick b r (follow_by n m (canon_role m r)))
+    go true h = i
+    go false h = h
+
+pub canon_in : (B : Bounds) (n : ℕ) (far : Bool) (l : List Axiom) → Each (AxiomIn B n) l → (r : Role) → RoleIn B r → RoleIn B (canon_role (inverse_canon_of far l) r)
+canon_in B n false l h r i = step_in B (build_inverse_canon l) (build_in B n [] l h tt) r i
+canon_in B n true l h r i = rw (followed_step (build_inverse_canon l) r) (follow_in B (length (build_inverse_canon l)) (build_inverse_canon l) (build_in B n [] l h tt) r i)
 
 -- ---- alternatives
 pub record AlternativesIn (B : Bounds) (fresh vars : ℕ) (l : Alternatives) : Type 0 where

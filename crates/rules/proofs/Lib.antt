@@ -1,6 +1,9 @@
 pub mod NormalizeLaws
 pub mod EmitLaws
 pub mod EncodeKeeps
+pub mod FollowLaws
+pub mod RingLaws
+pub mod FollowCases
 pub mod AntecedentLaws
 pub mod ShapeLaws
 pub mod HeadLaws

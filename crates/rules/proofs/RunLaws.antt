@@ -11,7 +11,7 @@ use Rattle.std.proofs.lemmas.Bool.{and_parts}
 use Rattle.words.specs.Words.{words}
 use Rattle.words.specs.Laws.{Bytes}
 use Rattle.words.specs.Bytes.{Words}
-use Rattle.ir.specs.Options.{body_decompose}
+use Rattle.ir.specs.Options.{body_decompose, follow_roles}
 use Rattle.rules.specs.Concept.{Axiom}
 use Rattle.rules.specs.Normalize.{St, nnf_axiom}
 use Rattle.rules.specs.State.{Rooms, Out, Deferred, total}
@@ -91,7 +91,7 @@ module _ (limit : ℕ) (rooms : Rooms) (d : Known) where
   normal_run axioms s e A =
       let B = bounds_of d in
       let env = env_of d rooms axioms in
-      lined_ends_then (axioms_tabled B env (canon_in B (length s.pool) axioms A.inside) (1 + line_count d) (axiom_line d 0) axioms (start d s) (omega arith)
+      lined_ends_then (axioms_tabled B env (canon_in B (length s.pool) (follow_roles d.header.options) axioms A.inside) (1 + line_count d) (axiom_line d 0) axioms (start d s) (omega arith)
       (start_ready B d rooms axioms s (omega arith) (omega arith) A.ran.wf) A.inside
       (record { roomy = record { clauses = omega arith; atoms = omega arith; deferrals = omega arith }; line = omega arith; lines = tt }))
       (λ _ z X. late_run axioms s A z X.0 X.1)

@@ -7,6 +7,7 @@ use mathlib.Core.List.{List, [], ◌∷◌}
 use Prim.Native.Nat.{ℕ, zero, suc, ◌+◌, ◌≤◌, ◌<◌}
 use Rattle.std.proofs.Math.Nat.{le_trans}
 use Rattle.std.proofs.Math.ListN.{length}
+use Rattle.ir.specs.Options.{follow_roles}
 use Rattle.rules.specs.Handed.{Awaits, Settling, Ready, RolesKept, Above}
 use Rattle.rules.specs.Base.{Res, then}
 use Rattle.rules.specs.Concept.{Axiom, Atomic}
@@ -344,4 +345,4 @@ pub run_axioms_made : (B : Bounds) (d : Known) (rooms : Rooms) (line : ℕ) (axi
     → B.classes ≤ d.header.classes → B.individuals ≤ d.header.individuals → Wf B s.pool → Each (AxiomIn B (length s.pool)) axioms
     → LinedPost (λ _ y. Whole B (start d s) (clausifier_at 0 y)) (clausify_axioms (env_of d rooms axioms) line axioms (start d s))
 run_axioms_made B d rooms line axioms s h k w u =
-    axioms_made B (env_of d rooms axioms) (canon_in B (length s.pool) axioms u) line axioms (start d s) (start_ready B d rooms axioms s h k w) u
+    axioms_made B (env_of d rooms axioms) (canon_in B (length s.pool) (follow_roles d.header.options) axioms u) line axioms (start d s) (start_ready B d rooms axioms s h k w) u

@@ -159,6 +159,49 @@ at_most_named : map (try (interpretation 2 ((0 ∷ []) ∷ (1 ∷ []) ∷ (1 ∷
 unfolding try
 at_most_named = refl
 
+-- ---- option 8: r0 and r1 are inverse, and then r2 and r0, so that r1 is r2
+abbrev pub some_followed : String → List String
+some_followed header =
+    header ∷
+    "          3          0" ∷
+    "          3          1" ∷
+    "          9          2          1" ∷
+    "         32          0          2" ∷
+    "         32          4          0" ∷
+    "         21          0          2" ∷ []
+
+abbrev options_eight : List (List String)
+options_eight =
+    some_followed "          0          2          0          3          3" ∷
+    some_followed "          0          2          0          3         11" ∷ []
+
+followed_model : map (try (interpretation 2 ((0 ∷ []) ∷ (1 ∷ []) ∷ []) (((1, 0) ∷ []) ∷ ((0, 1) ∷ []) ∷ ((0, 1) ∷ []) ∷ []))) options_eight
+    ≡ tried true true true true ∷ tried true true true true ∷ []
+unfolding try
+followed_model = refl
+
+followed_no_model : map (try (interpretation 2 ((0 ∷ []) ∷ [] ∷ []) (((1, 0) ∷ []) ∷ ((0, 1) ∷ []) ∷ ((0, 1) ∷ []) ∷ []))) options_eight
+    ≡ tried false false true false ∷ tried false false true false ∷ []
+unfolding try
+followed_no_model = refl
+
+-- kind 32 alone does not make the two alike: r1 is declared reflexive, some r2 A ⊑ B, and no element is related to any
+abbrev pub reflexive_followed : String → List String
+reflexive_followed header =
+    header ∷
+    "          3          0" ∷
+    "          3          1" ∷
+    "          9          4          0" ∷
+    "         32          0          2" ∷
+    "         32          4          0" ∷
+    "         35          2" ∷
+    "         21          2          1" ∷ []
+
+reflexive_needed : map (try (interpretation 1 ((0 ∷ []) ∷ [] ∷ []) [])) (reflexive_followed "          0          2          0          3          3" ∷ reflexive_followed "          0          2          0          3         11" ∷ [])
+    ≡ tried false true true true ∷ tried false false true true ∷ []
+unfolding try
+reflexive_needed = refl
+
 -- the inverse-role axioms: r inverse of s, A ⊑ Some s B, with no s pair where r has one
 inverse_needed : try (interpretation 2 ((0 ∷ []) ∷ (1 ∷ []) ∷ []) (((1, 0) ∷ []) ∷ [] ∷ []))
     ("          0          2          0          2          3" ∷

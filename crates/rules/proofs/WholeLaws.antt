@@ -2,12 +2,12 @@
 -- and for the axioms that make no head, an axiom with its limits is the axiom alone; and after either none waits. Nothing is asked
 -- of the state. Assumes nothing.
 use Rattle.std.specs.Prelude.{◌≡◌, refl, Bool, true, false, ◌&&◌, ℕ, zero, suc, ◌+◌, eqb}
-use Rattle.std.proofs.Common.{sym, ◌∙◌}
+use Rattle.std.proofs.Common.{ap, sym, ◌∙◌}
 use Rattle.std.proofs.lemmas.Bool.{false≢true}
 use mathlib.Core.List.{List, [], ◌∷◌, ◌++◌}
 use Rattle.std.proofs.Math.Option.{Option, none, some}
 use Rattle.std.proofs.Math.Bool.{and-false}
-use Rattle.ir.specs.Options.{equal_names}
+use Rattle.ir.specs.Options.{card_disjunct_atoms, equal_names, follow_roles}
 use Rattle.ir.specs.Roles.{role_code}
 use Rattle.ir.specs.declared.atom.Atom.{Atom}
 use Rattle.ir.specs.declared.atom.Atom.TheVariants.{Role as RoleAtom}
@@ -17,6 +17,8 @@ use Rattle.rules.specs.Handed.{names_limits}
 use Rattle.rules.specs.Base.{Res, ok, refused, M, then, return, each, for_each, ◌>>=◌, ◌>>◌}
 use Rattle.rules.specs.Concept.{Concept, Axiom}
 use Rattle.rules.specs.Concept.{Top, Bot, Atomic, Nominal, SelfRestriction, Not, And, Or, Some, All, Min, Max}
+use Rattle.ir.specs.Pick.{pick}
+use Rattle.rules.specs.Inverse.{InverseCanon, build_inverse_canon, followed}
 use Rattle.rules.specs.Concept.{SubClassOf, EquivalentClasses, DisjointClasses, DisjointUnion, ObjectPropertyDomain, ObjectPropertyRange, SubChain, TransitiveRole, IrreflexiveRole, AsymmetricRole, DisjointObjectProperties, InverseObjectProperties, SubObjectPropertyOf, EquivalentObjectProperties, ReflexiveRole, ClassAssertion}
 use Rattle.rules.specs.Pool.{Pool, at, mk_and, mk_or}
 use Rattle.rules.specs.Normalize.{St, in_pool, nnf_complement}
@@ -264,6 +266,33 @@ axioms_alone_lem env off line (a ∷ l) z e = rw (whole_alone env a (clausifier_
     go rest (gives {s = y} d) = rest y (d ∙ e)
     go rest refuses = refl
 
+-- ---- without option 8
+-- with the map as it was made
+abbrev pub mapped_env : Known → Rooms → List Axiom → Env
+mapped_env d rooms axioms = record {
+  nominal_base = d.header.classes;
+  inverse_canon = build_inverse_canon axioms;
+  dkey_classes = d.keys;
+  card_disjunct_atoms = card_disjunct_atoms d.header.options;
+  equal_names = equal_names d.header.options;
+  rooms = rooms;
+}
+
+-- nothing changes: no other rule reads the option
+pub without_option_eight : (d : Known) (rooms : Rooms) (axioms : List Axiom) → follow_roles d.header.options ≡ false → env_of d rooms axioms ≡ mapped_env d rooms axioms
+without_option_eight d rooms axioms off = ap (λ (b : Bool). with_map (pick b (followed (build_inverse_canon axioms)) (build_inverse_canon axioms))) off
+  where
+    with_map : InverseCanon → Env
+    with_map m = record {
+      nominal_base = d.header.classes;
+      inverse_canon = m;
+      dkey_classes = d.keys;
+      card_disjunct_atoms = card_disjunct_atoms d.header.options;
+      equal_names = equal_names d.header.options;
+      rooms = rooms;
+    }
+
+-- ---- without option 4
 -- nothing changes: the run of the axioms is what it is with no limit settled
 pub without_option_four : (d : Known) (rooms : Rooms) (line : ℕ) (axioms : List Axiom) (s : St) → equal_names d.header.options ≡ false
     → clausify_axioms (env_of d rooms axioms) line axioms (start d s) ≡ axioms_alone (env_of d rooms axioms) line axioms (start d s)

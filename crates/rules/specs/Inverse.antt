@@ -1,10 +1,11 @@
--- clause.rs: build_inverse_canon and canon_role.
-use Rattle.std.specs.Prelude.{Bool, ◌||◌, List, [], ◌∷◌, ℕ, eqb}
+-- clause.rs: build_inverse_canon and canon_role; and with option 8 a role followed through several entries.
+use Rattle.std.specs.Prelude.{Bool, not, ◌||◌, ◌&&◌, List, [], ◌∷◌, map, ℕ, zero, suc, length, eqb, leb}
 use Rattle.std.proofs.Math.Option.{Option, none, some}
 use Rattle.ir.specs.declared.role.Role.{Role}
+use Rattle.ir.specs.declared.role.Role.TheVariants.{Named}
 use Rattle.ir.specs.Pick.{pick}
 use Rattle.ir.specs.Roles.{role_id, is_inverse, flipped}
-use Rattle.rules.specs.Base.{is_some}
+use Rattle.rules.specs.Base.{is_some, all, contains}
 use Rattle.rules.specs.Concept.{Axiom}
 use Rattle.rules.specs.Concept.{SubClassOf, EquivalentClasses, DisjointClasses, DisjointUnion, ObjectPropertyDomain, ObjectPropertyRange, SubChain, TransitiveRole, IrreflexiveRole, AsymmetricRole, DisjointObjectProperties, InverseObjectProperties, SubObjectPropertyOf, EquivalentObjectProperties, ReflexiveRole, ClassAssertion}
 
@@ -58,3 +59,41 @@ canon_of r (some canon) = pick (is_inverse r) (flipped canon) canon
 
 unfoldable pub canon_role : InverseCanon → Role → Role
 canon_role m r = canon_of r (lookup m (role_id r))
+
+-- ---- option 8, over any map
+-- the ids that id i is mapped to, one after the other, at most n of them
+abbrev pub and_on : (ℕ → List ℕ) → Option Role → List ℕ
+and_on rest none = []
+and_on rest (some q) = role_id q ∷ rest (role_id q)
+
+unfoldable pub ids_from : InverseCanon → ℕ → ℕ → List ℕ
+ids_from m zero i = []
+ids_from m (suc n) i = and_on (λ j. ids_from m n j) (lookup m i)
+
+-- a ring has at most as many ids as the map has entries
+abbrev pub ring_from : InverseCanon → ℕ → List ℕ
+ring_from m i = ids_from m (length m) i
+
+-- a role stays where no mapping is left, and at the least id of a ring
+abbrev pub stays : InverseCanon → ℕ → Bool
+stays m i = not (is_some (lookup m i)) || (contains (ring_from m i) i && all (leb i) (ring_from m i))
+
+-- at most n steps, each of which turns as its mapping does
+unfoldable pub follow_by : ℕ → InverseCanon → Role → Role
+follow_by zero m r = r
+follow_by (suc n) m r = pick (stays m (role_id r)) r (follow_by n m (canon_role m r))
+
+-- to where it stays: no entry is taken twice
+abbrev pub follow : InverseCanon → Role → Role
+follow m r = follow_by (length m) m r
+
+-- the map of the same keys that gives each its own value
+abbrev pub mapped_by : (ℕ → Role) → InverseCanon → InverseCanon
+mapped_by g m = map (λ e. record { key = e.key; value = g e.key }) m
+
+-- each key followed, so that one step in the map is all of them (FollowLaws)
+abbrev pub followed : InverseCanon → InverseCanon
+followed m = mapped_by (λ k. follow m (Named k)) m
+
+abbrev pub inverse_canon_of : Bool → List Axiom → InverseCanon
+inverse_canon_of far l = pick far (followed (build_inverse_canon l)) (build_inverse_canon l)

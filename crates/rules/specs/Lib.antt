@@ -3,6 +3,7 @@ pub mod Concept
 pub mod Pool
 pub mod Normalize
 pub mod Inverse
+pub mod FollowedMaps
 pub mod State
 pub mod Antecedents
 pub mod Heads

@@ -55,7 +55,7 @@ started : start_of (lines_of front) ≡ done (lines_of front)
 unfolding start_of computed lines_of
 started = refl
 
-not_started : start_of (lines_of ("          0          2          1          1          8" ∷ [])) ≡ Session.refused 4 1
+not_started : start_of (lines_of ("          0          2          1          1         16" ∷ [])) ≡ Session.refused 4 1
 unfolding start_of computed lines_of
 not_started = refl
 
@@ -132,6 +132,6 @@ changed : on (front ++ (below ∷ [])) (changing 5)
 unfolding on changing
 changed = refl
 
-not_changed : on front (changing 8) ≡ Session.refused 4 1
+not_changed : on front (changing 16) ≡ Session.refused 4 1
 unfolding on changing
 not_changed = refl

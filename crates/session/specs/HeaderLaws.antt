@@ -7,7 +7,7 @@ use Rattle.ir.specs.Pick.{pick}
 use Rattle.rules.specs.Invariants.{Each}
 use Rattle.rules.specs.Text.{most_number}
 use Rattle.rules.specs.TextLaws.{each_get_d, row_read}
-use Rattle.rules.specs.Deck.{most_classes, most_individuals, most_roles, most_options, section_of, sections, concept_of, axiom_of, depth_of, Header, header_of, header_ok, Known, known, in_order, fields_ok, most_listed, verdict, entered, fine, on_verdict, nothing, read_deck}
+use Rattle.rules.specs.Deck.{most_classes, most_individuals, most_roles, most_options, section_of, sections, concept_of, axiom_of, depth_of, Header, header_of, header_ok, Known, known, with_options, optioned, in_order, fields_ok, most_listed, verdict, entered, fine, on_verdict, nothing, read_deck}
 use Rattle.rules.specs.DeckLaws.{read_in, verdict_zero, all_each}
 use Rattle.rules.specs.Lister.{fields_text}
 use Rattle.rules.specs.PrintLaws.{row_printed}
@@ -18,7 +18,7 @@ use Rattle.session.specs.Session.{done, refused, header_row, options_in, after_l
 use Rattle.session.specs.SessionLaws.{not_done, done_inj}
 use Rattle.session.specs.StrikeLaws.{kind_of, without_first}
 use Rattle.session.specs.PlaceLaws.{ordered, entered_begun}
-use Rattle.session.specs.OptionsLaws.{with_options, optioned, lines_same, no_header}
+use Rattle.session.specs.OptionsLaws.{lines_same, no_header}
 
 text_row : (n : ℕ) (r : List ℕ) → Each (λ k. k ≤ most_number) (n ∷ r) → IsRow (record { text = fields_text (n ∷ r); numbers = n ∷ r })
 text_row n r N =

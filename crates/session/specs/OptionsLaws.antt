@@ -5,16 +5,10 @@ use Rattle.ir.specs.Pick.{pick}
 use Rattle.rules.specs.Concept.{Concept, Axiom}
 use Rattle.rules.specs.Concept.{Top, Bot, Atomic, Nominal, SelfRestriction, Not, And, Or, Some, All, Min, Max}
 use Rattle.rules.specs.Concept.{SubClassOf, EquivalentClasses, DisjointClasses, DisjointUnion, ObjectPropertyDomain, ObjectPropertyRange, SubChain, TransitiveRole, IrreflexiveRole, AsymmetricRole, DisjointObjectProperties, InverseObjectProperties, SubObjectPropertyOf, EquivalentObjectProperties, ReflexiveRole, ClassAssertion}
-use Rattle.rules.specs.Deck.{section_of, concept_of, axiom_of, depth_of, Header, Known, known, in_order, concept_names_ok, axiom_names_ok, names_ok, concept_verdict, verdict, entered, fine, on_verdict}
+use Rattle.rules.specs.Deck.{section_of, concept_of, axiom_of, depth_of, Header, Known, known, with_options, optioned, in_order, concept_names_ok, axiom_names_ok, names_ok, concept_verdict, verdict, entered, fine, on_verdict}
 use Rattle.spelling.specs.Lines.{Line, check_rows, not_fine, fine_inj}
 use Rattle.session.specs.StrikeLaws.{kind_of}
 use Rattle.session.specs.PlaceLaws.{ordered, entered_begun}
-
-abbrev pub with_options : Header → ℕ → Header
-with_options h n = record { classes = h.classes; individuals = h.individuals; roles = h.roles; options = n }
-
-abbrev pub optioned : Known → ℕ → Known
-optioned s n = known s.section (with_options s.header n) s.keys s.concepts s.depths s.axioms
 
 concept_names : (h : Header) (n : ℕ) (e : Concept) → concept_names_ok (with_options h n) e ≡ concept_names_ok h e
 concept_names h n Top = refl

@@ -5,13 +5,12 @@ use Rattle.std.proofs.Common.{sym, ap, ap₂, subst, ◌∙◌, arith, take_at, 
 use Rattle.ir.specs.Pick.{pick}
 use Rattle.rules.specs.Text.{row_of}
 use Rattle.rules.specs.Concept.{Concept, Axiom}
-use Rattle.rules.specs.Deck.{section_of, axiom_of, axiom_line, Header, Known, entered, fine, read_deck}
+use Rattle.rules.specs.Deck.{section_of, axiom_of, axiom_line, Header, Known, optioned, entered, fine, read_deck}
 use Rattle.session.specs.Session.{stored, Holding, holds, no_deck, Did, done, refused, add_to, strike_from, options_in, on_holding, scratch_ok, live, call_start, session_after, session_started, Done, said_of}
 use Rattle.session.specs.StartLaws.{begun_done}
 use Rattle.session.specs.HeldLaws.{held_stored, take_stored}
 use Rattle.session.specs.SessionLaws.{add_law}
 use Rattle.session.specs.PlaceLaws.{strike_is}
-use Rattle.session.specs.OptionsLaws.{optioned}
 use Rattle.session.specs.HeaderLaws.{options_is}
 use Rattle.session.specs.Trace.{Call, add, strike, options, did, after_call, after_calls, Content, content, axiom_said, but, with_axioms, first_line, effect, is_done, content_after, content_afters, Holds}
 

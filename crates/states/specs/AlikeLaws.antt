@@ -1,23 +1,18 @@
 -- No axiom names a fresh class: states that differ in the lines of fresh classes alone satisfy the same axioms. So half two turned
 -- round: an axiom that is broken breaks the clauses, whatever these lines are. Assumes nothing.
-use Rattle.std.specs.Prelude.{◌≡◌, refl, Bool, true, false, not, ◌&&◌, ◌||◌, List, [], ◌∷◌, ℕ, length}
-use Rattle.std.proofs.Common.{sym, ap, ap₂, ◌∙◌, subst, le_refl, arith}
+use Rattle.std.specs.Prelude.{◌≡◌, refl, Bool, true, false, List, ℕ}
+use Rattle.std.proofs.Common.{sym, ap, ◌∙◌, subst}
 use Rattle.std.proofs.lemmas.Bool.{false≢true, lt-leb}
-use Rattle.rules.specs.Base.{all}
 use Rattle.rules.specs.Concept.{Axiom}
-use Rattle.rules.specs.State.{Env}
 use Rattle.rules.specs.Deck.{Known}
-use Rattle.rules.specs.DeckLaws.{bounds_of, DeckIn, read_in}
-use Rattle.rules.specs.Run.{Accepted, env_of, first_fresh}
+use Rattle.rules.specs.DeckLaws.{DeckIn, read_in}
+use Rattle.rules.specs.Run.{Accepted, first_fresh}
 use Rattle.rules.proofs.RunLaws.{run_decoded}
-use Rattle.rules.specs.Invariants.{Each, AxiomIn}
-use Rattle.rules.specs.Semantics.{Interpretation, with_classes, satisfied}
+use Rattle.rules.specs.Semantics.{Interpretation, with_classes}
 use Rattle.rules.specs.Statements.{Proper, is_inverse_axiom, is_clausified, satisfies_some, satisfies_all, clauses_of, all_hold, Provisos}
 use Rattle.meaning.specs.Truth.{by_truth}
 use Rattle.meaning.specs.Valuations.{Agree}
-use Rattle.meaning.specs.Adds.{Setting}
-use Rattle.meaning.specs.InverseMap.{env_keeps}
-use Rattle.meaning.specs.AxiomAgree.{satisfied_agree}
+use Rattle.meaning.specs.DeckAgree.{some_agree, every_agree}
 use Rattle.meaning.proofs.Theorem.{demand_three_second}
 use Rattle.states.specs.Test.{clauses_verdict, Lent}
 use Rattle.states.specs.VerdictLaws.{is_holds, clauses_hold_lem}
@@ -33,32 +28,14 @@ module _ (d : Known) (fresh_ids : ℕ) (I J : Interpretation) (A : Alike d fresh
       ∙ ap (λ (r : ℕ → ℕ → ℕ → Bool). record { size = I.size; class = J.class; role = r; individual = J.individual }) A.roles
       ∙ ap (λ (f : ℕ → ℕ). record { size = I.size; class = J.class; role = I.role; individual = f }) A.individuals
 
-  -- a map of no inverses
-  abbrev env : Env
-  env = env_of d (record { clauses = 0; atoms = 0; deferrals = 0 }) []
-
-  setting : Setting I (bounds_of d) env (first_fresh d)
-  setting = record { classes = omega arith; individuals = λ i h. omega arith; keeps = λ r x y. env_keeps I env d.concepts [] refl refl r x y }
-
   agrees : Agree (first_fresh d) J.class I.class
   agrees = record { same = λ c h. A.same c (rw (lt-leb (first_fresh d) c h) refl) }
 
-  axiom_alike : (x : Axiom) → AxiomIn (bounds_of d) (length d.concepts) x → satisfied J d.concepts x ≡ satisfied I d.concepts x
-  axiom_alike x h = ap (λ K. satisfied K d.concepts x) alike_is ∙ satisfied_agree I (bounds_of d) env (first_fresh d) setting (le_refl (first_fresh d)) agrees d.concepts D.wf (length d.concepts) x h
-
   pub some_alike : (kind : Axiom → Bool) → satisfies_some kind d J ≡ satisfies_some kind d I
-  some_alike kind = go d.axioms D.axioms
-    where
-      go : (l : List Axiom) → Each (AxiomIn (bounds_of d) (length d.concepts)) l → all (λ x. not (kind x) || satisfied J d.concepts x) l ≡ all (λ x. not (kind x) || satisfied I d.concepts x) l
-      go [] u = refl
-      go (x ∷ l) u = ap₂ (λ b c. (not (kind x) || b) && c) (axiom_alike x u.0) (go l u.1)
+  some_alike kind = ap (λ K. satisfies_some kind d K) alike_is ∙ some_agree d D I J.class agrees kind
 
   pub every_alike : satisfies_all d J ≡ satisfies_all d I
-  every_alike = go d.axioms D.axioms
-    where
-      go : (l : List Axiom) → Each (AxiomIn (bounds_of d) (length d.concepts)) l → all (satisfied J d.concepts) l ≡ all (satisfied I d.concepts) l
-      go [] u = refl
-      go (x ∷ l) u = ap₂ ◌&&◌ (axiom_alike x u.0) (go l u.1)
+  every_alike = ap (satisfies_all d) alike_is ∙ every_agree d D I J.class agrees
 
 -- ---- half two, turned round
 -- a broken axiom of kinds 21 to 31, with every axiom 32 satisfied and under the provisos: no lines for the fresh classes make the
