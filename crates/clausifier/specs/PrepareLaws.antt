@@ -5,7 +5,7 @@ use Rattle.words.specs.Words.{words}
 use Rattle.words.specs.Laws.{words_long, word_front}
 use Rattle.ir.specs.Scratch.{keys_at, roles_at, alternatives_at, axioms_at, numbers_at, lines_at, stack_at, limits_at, limits_words}
 use Rattle.ir.specs.Counts.{at_line}
-use Rattle.ir.specs.Options.{card_disjunct_atoms, equal_names}
+use Rattle.ir.specs.Options.{card_disjunct_atoms, equal_names, follow_roles}
 use Rattle.ir.specs.declared.counters.Counters.{Counters}
 use Rattle.ir.specs.Lined.{Lined as CodeLined}
 use Rattle.ir.specs.Lined.{Finished, Stopped}
@@ -14,7 +14,7 @@ use Rattle.rules.specs.Concept.{Axiom}
 use Rattle.rules.specs.Pool.{Pool}
 use Rattle.rules.specs.Normalize.{St}
 use Rattle.rules.specs.State.{Rooms, total}
-use Rattle.rules.specs.Inverse.{build_inverse_canon}
+use Rattle.rules.specs.Inverse.{inverse_canon_of}
 use Rattle.rules.specs.Invariants.{Each, Wf}
 use Rattle.rules.proofs.NormalizeLaws.{AxiomsMade, nnf_axioms_made}
 use Rattle.rules.specs.LinedPost.{LinedPost, done_post}
@@ -180,8 +180,8 @@ module _ (d : Known) (limit : ℕ) (s : List ℕ) (v : Counters) (n : ℕ) (N : 
       axioms_is : axioms_of (words s'') n ≡ axioms_of (words s) n
       axioms_is = axioms_kept (words s) (words s'') n N.lines high
 
-      module _ (R : RolesHeld (words s') (build_inverse_canon (axioms_of (words s) n))) (M : Numbered (words s'') (pool_of (words s') v.concepts) v.concepts) where
-        roles_is : RolesHeld (words s'') (build_inverse_canon (axioms_of (words s) n))
+      module _ (R : RolesHeld (words s') (inverse_canon_of (follow_roles v.options) (axioms_of (words s) n))) (M : Numbered (words s'') (pool_of (words s') v.concepts) v.concepts) where
+        roles_is : RolesHeld (words s'') (inverse_canon_of (follow_roles v.options) (axioms_of (words s) n))
         roles_is = record { mapped = λ r h. word_front alternatives_at (words s') (words s'') O.low (roles_at + r) (omega arith) ∙ R.mapped r h }
 
         state_pool : pool_of (words s'') v.concepts ≡ N.told.state.pool
@@ -189,6 +189,9 @@ module _ (d : Known) (limit : ℕ) (s : List ℕ) (v : Counters) (n : ℕ) (N : 
 
         concepts_is : v.concepts ≡ length N.told.state.pool
         concepts_is = ap (λ (j : Counters). j.concepts) N.told.counters
+
+        options_is : v.options ≡ d.header.options
+        options_is = ap (λ (j : Counters). j.options) N.told.counters
 
         nominals_is : v.nominal_base ≡ d.header.classes
         nominals_is = ap (λ (j : Counters). j.nominal_base) N.told.counters
@@ -214,7 +217,7 @@ module _ (d : Known) (limit : ℕ) (s : List ℕ) (v : Counters) (n : ℕ) (N : 
                   nominals = omega (arith, nominals_is, N.deck.classes);
                 };
                 rows = subst (λ (p : Pool). Numbered (words s'') p v.concepts) (sym pool_is) M;
-                canon = build_inverse_canon (axioms_of (words s) n);
+                canon = inverse_canon_of (follow_roles v.options) (axioms_of (words s) n);
                 roles = roles_is;
               };
               good = record {
@@ -243,7 +246,7 @@ module _ (d : Known) (limit : ℕ) (s : List ℕ) (v : Counters) (n : ℕ) (N : 
           names = ap (λ (j : Counters). equal_names j.options) N.told.counters;
           keys = keys_is;
           no_keys = λ a h. no_key_lem d.header.classes d.keys N.deck.keys a (omega (arith, N.deck.classes));
-          roles = roles_is;
+          roles = rw (← options_is) roles_is;
         }
 
         pub normal_prepared : (k : Counters) → k ≡ at_line 0 v → Prepared d limit s'' k n
@@ -251,7 +254,7 @@ module _ (d : Known) (limit : ℕ) (s : List ℕ) (v : Counters) (n : ℕ) (N : 
           normal = axioms_of (words s) n;
           state = N.told.state;
           made = N.told.made;
-          options = ap (λ (j : Counters). j.options) N.told.counters;
+          options = options_is;
           clausifying = clausifying_is;
           axioms = axioms_of_lem;
           listed = axioms_is;

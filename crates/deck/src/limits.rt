@@ -11,7 +11,7 @@ use crate::state::{Section, State};
 fn header_fine(row: &Row) -> bool
     ensures { result ≡ header_ok (header_of (numbers row.now)) }
 {
-    row.entry(1) <= 4096 && row.entry(2) <= 4096 && row.entry(3) <= 1024 && row.entry(4) <= 7
+    row.entry(1) <= 4096 && row.entry(2) <= 4096 && row.entry(3) <= 1024 && row.entry(4) <= 15
 }
 
 // As `limits` below.

@@ -18,8 +18,8 @@ use Rattle.deck.proofs.KindLaws.{axiom_kinds}
 use Rattle.ontology.specs.Layout.{axiom_start, axiom_count, axiom_number, axiom_row, axiom_at, axioms_of, AxiomsHeld}
 use Rattle.ontology.specs.KeptAxioms.{axiom_kept, axioms_kept, held_axioms}
 use Rattle.ontology.specs.Rows.{inverse_is}
-use Rattle.inverse.specs.Layout.{Mapped, Beside, Building}
-use Rattle.inverse.specs.BuildLaws.{beside_trans}
+use Rattle.inverse.specs.Layout.{Mapped, Entries, Beside, Building}
+use Rattle.inverse.specs.BuildLaws.{entries_none, beside_refl, beside_trans}
 
 -- ---- one axiom
 abbrev Idle : InverseCanon → List ℕ → ℕ → Type 0
@@ -45,8 +45,8 @@ code_small B c l h = omega (arith, code_in c B.roles h)
 
 -- ---- the numbers that the code reads
 module _ (s : List ℕ) (n i : ℕ) (A : Building s n) (h : i < n) where
-  pub axiom_idle : (k : ℕ) → k ≡ axiom_number (words s) i 0 → (k ≡ 32 → ⊥) → (m : InverseCanon) → Mapped (words s) m most_roles → Mapped (words s) (inverse_of m (axiom_at (words s) i)) most_roles
-  axiom_idle k e d m M = subst (λ (x : InverseCanon). Mapped (words s) x most_roles) (sym (other_kind m (axiom_row (words s) i) (axiom_number (words s) i 0) (A.held.kinds i h) (λ z. d (e ∙ z)))) M
+  pub axiom_idle : (k : ℕ) → k ≡ axiom_number (words s) i 0 → (k ≡ 32 → ⊥) → (c : ℕ) (m : InverseCanon) → Entries (words s) m c → Entries (words s) (inverse_of m (axiom_at (words s) i)) c
+  axiom_idle k e d c m M = subst (λ (x : InverseCanon). Entries (words s) x c) (sym (other_kind m (axiom_row (words s) i) (axiom_number (words s) i 0) (A.held.kinds i h) (λ z. d (e ∙ z)))) M
 
   module _ (k : axiom_number (words s) i 0 ≡ 32) where
     roles_in : RoleIn A.bounds (role_of (axiom_number (words s) i 1)) × RoleIn A.bounds (role_of (axiom_number (words s) i 2))
@@ -60,13 +60,13 @@ module _ (s : List ℕ) (n i : ℕ) (A : Building s n) (h : i < n) where
     pub second_small : (r : Role) → r ≡ role_of (axiom_number (words s) i 2) → role_id r < most_roles
     second_small r e = rw e (omega (arith, roles_in.1, A.few))
 
-    pub axiom_entry : (r t : Role) (w' : List ℕ) → r ≡ role_of (axiom_number (words s) i 1) → t ≡ role_of (axiom_number (words s) i 2)
-        → ((m : InverseCanon) → Mapped (words s) m most_roles → Mapped w' (declared m r t) most_roles)
-        → (m : InverseCanon) → Mapped (words s) m most_roles → Mapped w' (inverse_of m (axiom_at (words s) i)) most_roles
-    axiom_entry r t w' er et D m M =
+    pub axiom_entry : (r t : Role) (w' : List ℕ) (c c' : ℕ) → r ≡ role_of (axiom_number (words s) i 1) → t ≡ role_of (axiom_number (words s) i 2)
+        → ((m : InverseCanon) → Entries (words s) m c → Entries w' (declared m r t) c')
+        → (m : InverseCanon) → Entries (words s) m c → Entries w' (inverse_of m (axiom_at (words s) i)) c'
+    axiom_entry r t w' c c' er et D m M =
         let e : InverseObjectProperties r t ≡ axiom_at (words s) i =
         ap (λ (x : Role). InverseObjectProperties x t) er ∙ ap (λ (x : Role). InverseObjectProperties (role_of (axiom_number (words s) i 1)) x) et ∙ sym (inverse_axiom (words s) n i A.held h k) in
-        subst (λ (a : Axiom). Mapped w' (inverse_of m a) most_roles) e (D m M)
+        subst (λ (a : Axiom). Entries w' (inverse_of m a) c') e (D m M)
 
 -- ---- a write elsewhere leaves the axioms as they are
 module _ (s₀ s : List ℕ) (n : ℕ) (A : Building s₀ n) (K : (j : ℕ) → axioms_at ≤ j → j < lines_at → get_or (words s) j 0 ≡ get_or (words s₀) j 0) (l : length s ≡ length s₀) where
@@ -84,34 +84,48 @@ module _ (s₀ s : List ℕ) (n : ℕ) (A : Building s₀ n) (K : (j : ℕ) → 
 pub beside_axioms : (w w' : List ℕ) → Beside w w' → (j : ℕ) → axioms_at ≤ j → j < lines_at → get_or w' j 0 ≡ get_or w j 0
 beside_axioms w w' B j h k = B.above j (omega arith)
 
--- ---- the loop: of scratch's bytes s₀ before it and s now, i axioms are read
-pub record Reading (s₀ s : List ℕ) (n i : ℕ) : Type 0 where
+-- ---- the loop: of scratch's bytes s₀ before it and s now, i axioms are read, and they made c entries
+pub record Reading (s₀ s : List ℕ) (n i c : ℕ) : Type 0 where
   pub asked : Building s₀ n
   pub within : i ≤ n
   pub map : InverseCanon
-  pub mapped : Mapped (words s) map most_roles
+  pub entries : Entries (words s) map c
+  pub few : c ≤ i
   pub rest : build_from [] (axioms_of (words s₀) n) ≡ build_from map (tab (axiom_at (words s₀)) i (n - i))
   pub beside : Beside (words s₀) (words s)
   pub long : length s ≡ length s₀
 
-module _ (s₀ s : List ℕ) (n i : ℕ) (R : Reading s₀ s n i) where
+pub reading_first : (s : List ℕ) (n : ℕ) → Building s n → Mapped (words s) [] most_roles → Reading s s n 0 0
+reading_first s n A M = record {
+  asked = A;
+  within = omega arith;
+  map = [];
+  entries = entries_none (words s) M;
+  few = omega arith;
+  rest = let e : n - 0 ≡ n = omega arith in rw e refl;
+  beside = beside_refl (words s);
+  long = refl;
+}
+
+module _ (s₀ s : List ℕ) (n i c : ℕ) (R : Reading s₀ s n i c) where
   pub reading_asks : Building s n
   reading_asks = building_kept s₀ s n R.asked (beside_axioms (words s₀) (words s) R.beside) R.long
 
-  pub reading_next : i < n → (s' : List ℕ) → ((m : InverseCanon) → Mapped (words s) m most_roles → Mapped (words s') (inverse_of m (axiom_at (words s) i)) most_roles) → Beside (words s) (words s') → length s' ≡ length s → Reading s₀ s' n (i + 1)
+  pub reading_next : i < n → (s' : List ℕ) (c' : ℕ) → ((m : InverseCanon) → Entries (words s) m c → Entries (words s') (inverse_of m (axiom_at (words s) i)) c') → c' ≤ c + 1 → Beside (words s) (words s') → length s' ≡ length s → Reading s₀ s' n (i + 1) c'
   unfolding build_from tab
-  reading_next h s' M B l = record {
+  reading_next h s' c' M few B l = record {
     asked = R.asked;
     within = omega arith;
     map = inverse_of R.map (axiom_at (words s₀) i);
-    mapped = subst (λ (a : Axiom). Mapped (words s') (inverse_of R.map a) most_roles) (axiom_kept (words s₀) (words s) n R.asked.held (beside_axioms (words s₀) (words s) R.beside) i h) (M R.map R.mapped);
+    few = omega (arith, few, R.few);
+    entries = subst (λ (a : Axiom). Entries (words s') (inverse_of R.map a) c') (axiom_kept (words s₀) (words s) n R.asked.held (beside_axioms (words s₀) (words s) R.beside) i h) (M R.map R.entries);
     beside = beside_trans (words s₀) (words s) (words s') R.beside B;
     long = l ∙ R.long;
     rest = R.rest ∙ (let e : n - i ≡ suc (n - (i + 1)) = omega arith in rw e refl);
   }
 
-  pub reading_end : n ≤ i → Mapped (words s) (build_from [] (axioms_of (words s₀) n)) most_roles
+  pub reading_end : n ≤ i → Entries (words s) (build_from [] (axioms_of (words s₀) n)) c
   unfolding build_from tab
   reading_end h =
       let e : n - i ≡ 0 = omega arith in
-      subst (λ (m : InverseCanon). Mapped (words s) m most_roles) (sym (R.rest ∙ rw e refl)) R.mapped
+      subst (λ (m : InverseCanon). Entries (words s) m c) (sym (R.rest ∙ rw e refl)) R.entries

@@ -3,12 +3,13 @@ use Rattle.std.specs.Prelude.{◌≡◌, List, ℕ, ◌+◌, ◌*◌, ◌<◌, l
 use Prim.{Unit, tt}
 use Rattle.words.specs.Words.{words}
 use Rattle.ir.specs.Scratch.{roles_at}
+use Rattle.ir.specs.Options.{follow_roles}
 use Rattle.ir.specs.declared.counters.Counters.{Counters}
 use Rattle.ir.specs.Lined.{Lined as CodeLined}
 use Rattle.ir.specs.Lined.{Finished, Stopped}
 use Rattle.rules.specs.Concept.{Axiom}
 use Rattle.rules.specs.Normalize.{St}
-use Rattle.rules.specs.Inverse.{build_inverse_canon}
+use Rattle.rules.specs.Inverse.{inverse_canon_of}
 use Rattle.rules.specs.State.{Rooms}
 use Rattle.rules.specs.Axioms.{Clausifier}
 use Rattle.rules.specs.Deck.{Known, most_roles, axiom_line}
@@ -46,7 +47,7 @@ pub record Staged (limit : ℕ) (rooms : Rooms) (deck : Known) (s : List ℕ) (n
   pub made : staged limit rooms deck ≡ done tt state
   pub shows : Shows rooms k c a d state
   pub listed : axioms_of (words s) n ≡ normal
-  pub map : RolesHeld (words s) (build_inverse_canon normal)
+  pub map : RolesHeld (words s) (inverse_canon_of (follow_roles deck.header.options) normal)
   pub within : (r : ℕ) → r < most_roles → get_or (words s) (roles_at + r) 0 < 2 * most_roles
   pub building : Building s n
   pub inside : Each (ClauseIn (bounds_of deck) state.out.next_fresh (state.out.visits + 3)) state.out.clauses

@@ -4,6 +4,7 @@ use Rattle.std.proofs.Common.{sym, ap, subst, ◌∙◌, arith}
 use Prim.{Unit, tt}
 use Rattle.words.specs.Words.{words}
 use Rattle.ir.specs.Scratch.{limits_at, limits_words}
+use Rattle.ir.specs.Options.{follow_roles}
 use Rattle.ir.specs.declared.counters.Counters.{Counters}
 use Rattle.ir.specs.Lined.{Lined as CodeLined}
 use Rattle.ir.specs.Lined.{Finished, Stopped}
@@ -87,7 +88,7 @@ module _ (s : List ℕ) (k : Counters) (n : ℕ) (P : Preparing s k n) (rooms : 
   prepared_readied = record {
     held = record { read = Q.read rooms; lent = B.sizes };
     shown = blank_tables rooms c a d v B ∙ Q.shown rooms;
-    roles = canon_in (bounds_of P.known) (length Q.state.pool) Q.normal forms.inside;
+    roles = canon_in (bounds_of P.known) (length Q.state.pool) (follow_roles P.known.header.options) Q.normal forms.inside;
     ready = subst (Ready (bounds_of P.known) (env_of P.known rooms Q.normal)) (sym standing_start) (forms_ready P.known P.inside P.limit rooms Q.normal Q.state Q.made);
   }
 
@@ -155,7 +156,7 @@ module _ (s : List ℕ) (k : Counters) (n : ℕ) (P : Preparing s k n) (rooms : 
             shows = record { base = v; shown = cc; sizes = lent_kept rooms c a d c' a' d' S B.sizes };
             listed = axioms_are;
             map = R;
-            within = map_within s'' n Q.normal building axioms_are R;
+            within = map_within s'' n (follow_roles P.known.header.options) Q.normal building axioms_are R;
             building = building;
             inside = clauses_inside P.known P.inside P.limit rooms Q.normal Q.state Q.made z e;
             good = G.good;

@@ -1,5 +1,10 @@
 use native.Mathlib.Omega.{arith}
-use mathlib.Core.Path.{refl}
+use mathlib.Core.Path.{refl, subst}
+use mathlib.Core.Bool.{Bool}
+use Rattle.words.specs.Words.{words}
+use Rattle.rules.specs.Inverse.{inverse_canon_of}
+use Rattle.ontology.specs.Layout.{axioms_of}
+use Rattle.inverse.specs.Layout.{RolesHeld}
 use Rattle.ir.specs.Lined.{Finished, Stopped}
 use Rattle.std.proofs.lemmas.Result.{err_from_is_err_and}
 use Rattle.clausifier.specs.PrepareLaws.{preparing_ready, preparing_line, preparing_normal, preparing_stops, normal_building, normal_ready, normal_prepared}
@@ -41,7 +46,7 @@ returns c = λ P.
     let g = c.number_alternatives in
     let E = c.in_ok-nnf_axioms.ensures in
     let N = preparing_normal a.scratch.now a.k.now a.n P m.new.scratch (Finished m.new.k) E.scratch_after m.new.k refl E.held_lined E.kept m.auto.scratch in
-    normal_prepared P.known P.limit m.new.scratch m.new.k a.n N b.new.scratch b.ensures.beside b.auto.scratch g.new.scratch g.ensures.1 g.auto.scratch b.ensures.roles_held g.ensures.0 c.at_line.new.self c.at_line.ensures
+    normal_prepared P.known P.limit m.new.scratch m.new.k a.n N b.new.scratch b.ensures.beside b.auto.scratch g.new.scratch g.ensures.1 g.auto.scratch (subst (λ (f : Bool). RolesHeld (words b.new.scratch) (inverse_canon_of f (axioms_of (words m.new.scratch) a.n))) c.follow_roles.ensures b.ensures.roles_held) g.ensures.0 c.at_line.new.self c.at_line.ensures
 
 pub returns-in_err-nnf_axioms : goal.returns-in_err-nnf_axioms
 returns-in_err-nnf_axioms c =
