@@ -1,5 +1,5 @@
 //! What the instrumented copy changes in the original texts: calls of `limits` at the Rust's own calls and pushes, and
-//! option 4, which the original has not.
+//! options 4 and 8, which the original has not.
 
 use source::{Replacement, once};
 
@@ -54,7 +54,7 @@ const NORMALIZE: [Replacement; 3] = [
     ),
 ];
 
-const CLAUSE: [Replacement; 29] = [
+const CLAUSE: [Replacement; 30] = [
     // The options.
     once(
         r#"std::env::var_os("RUSTDL_WEDGE_BODY_DECOMPOSE").is_none_or(|v| v != "0")"#,
@@ -124,6 +124,37 @@ const CLAUSE: [Replacement; 29] = [
             self.awaited.push_back((c, q));
         }
         self.emit_head(vec![Atom::Class(q, X)], c, X);",
+    ),
+    // Option 8: the step again, until the id is no key. The map has no ring: an entry leads to no older key.
+    once(
+        "    fn canon_role(&self, r: Role) -> Role {
+        match self.inverse_canon.get(&r.role_id()) {
+            None => r,
+            Some(&canon) => {
+                if r.is_inverse() {
+                    canon.flip()
+                } else {
+                    canon
+                }
+            }
+        }
+    }",
+        "    fn canon_role(&self, mut r: Role) -> Role {
+        let mut steps = 0;
+        while let Some(&canon) = self.inverse_canon.get(&r.role_id()) {
+            r = if r.is_inverse() {
+                canon.flip()
+            } else {
+                canon
+            };
+            steps += 1;
+            if !crate::limits::options().follow_roles {
+                break;
+            }
+        }
+        crate::limits::followed(steps);
+        r
+    }",
     ),
     // Visits, fresh ids, deferrals.
     once(

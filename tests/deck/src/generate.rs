@@ -5,6 +5,7 @@ mod builder;
 mod counts;
 mod deep;
 mod draw;
+mod following;
 mod forms;
 mod full;
 mod lists;
@@ -28,6 +29,8 @@ pub enum Shape {
     MinZero,
     /// Inverse declarations: chained, repeated, turned, of a role with itself, with inverse codes.
     Inverse,
+    /// Chains of inverse declarations, mostly with option 8, and roles of them in every place.
+    Following,
     /// Reflexive roles under inclusions, so that unfolding and counted loops have work, up to the cap.
     Reflexive,
     /// Data-key marks and cardinalities over marked classes.
@@ -57,11 +60,12 @@ pub enum Shape {
 }
 
 impl Shape {
-    pub const ALL: [Self; 17] = [
+    pub const ALL: [Self; 18] = [
         Self::Small,
         Self::Mixed,
         Self::MinZero,
         Self::Inverse,
+        Self::Following,
         Self::Reflexive,
         Self::Keys,
         Self::AtMost,
@@ -86,6 +90,7 @@ pub fn generate(rng: &mut Random, shape: Shape) -> Deck {
         Shape::Mixed => mixed::mixed(&mut builder),
         Shape::MinZero => mixed::min_zero(&mut builder),
         Shape::Inverse => mixed::inverse(&mut builder),
+        Shape::Following => following::following(&mut builder),
         Shape::Reflexive => reflexive::reflexive(&mut builder),
         Shape::Keys => mixed::keys(&mut builder),
         Shape::AtMost => at_most::at_most(&mut builder),
@@ -103,9 +108,13 @@ pub fn generate(rng: &mut Random, shape: Shape) -> Deck {
     builder.finish()
 }
 
-/// A deck of any shape, mostly a small one.
+/// A deck of any shape, mostly a small one. The others are drawn as without the chains of inverse declarations.
 pub fn any(rng: &mut Random) -> (Shape, Deck) {
+    if rng.beside(32).chance(1, 15) {
+        return (Shape::Following, generate(rng, Shape::Following));
+    }
     let weights = Shape::ALL.map(|shape| match shape {
+        Shape::Following => 0,
         Shape::Small => 40,
         Shape::Mixed | Shape::Inverse | Shape::Keys => 6,
         Shape::AtMost | Shape::Reflexive | Shape::Wide | Shape::Disjunctive => 8,
@@ -115,6 +124,25 @@ pub fn any(rng: &mut Random) -> (Shape, Deck) {
     });
     let shape = Shape::ALL[rng.weighted(&weights)];
     (shape, generate(rng, shape))
+}
+
+/// A deck of a shape, each as often as any other.
+pub fn each(rng: &mut Random) -> (Shape, Deck) {
+    let shape = if rng.beside(32).chance(1, 18) {
+        Shape::Following
+    } else {
+        let others = Shape::ALL.into_iter();
+        let others = others.filter(|&shape| shape != Shape::Following);
+        *rng.pick(&others.collect::<Vec<_>>())
+    };
+    (shape, generate(rng, shape))
+}
+
+/// A deck whose roles are joined by chains of inverse declarations, put anywhere among its axioms, and option 8.
+pub fn chained(rng: &mut Random, deck: &Deck) -> Deck {
+    let mut builder = Builder::on(rng, deck);
+    following::chained(&mut builder);
+    builder.finish()
 }
 
 /// Like [`Shape::Reflexive`], and never with an antecedent that unfolds up to the cap, which takes long.

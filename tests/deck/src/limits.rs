@@ -7,7 +7,7 @@ pub const FIELD: usize = 11;
 pub const CLASSES: u32 = 4_096;
 pub const INDIVIDUALS: u32 = 4_096;
 pub const ROLES: u32 = 1_024;
-pub const OPTIONS: u32 = 7;
+pub const OPTIONS: u32 = 15;
 /// Members of a list.
 pub const LIST: usize = 128;
 /// Concept lines.

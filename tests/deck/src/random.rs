@@ -20,6 +20,12 @@ impl Random {
         z ^ (z >> 31)
     }
 
+    /// A generator of its own for what is named so, which leaves this one as it is.
+    #[must_use]
+    pub fn beside(&self, what: u64) -> Self {
+        Self::new(self.clone().bits() ^ what)
+    }
+
     /// A number below `n`, which is not 0.
     pub fn below(&mut self, n: u32) -> u32 {
         (((self.bits() >> 32) * u64::from(n)) >> 32) as u32

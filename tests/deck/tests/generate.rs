@@ -3,8 +3,8 @@
 use std::collections::HashSet;
 
 use deck::generate::{
-    Shape, any, counted_body_long, forms_at_limits, generate, names_at_limits, padded,
-    reflexive_below_the_cap, unfolding,
+    Shape, any, chained, counted_body_long, each, forms_at_limits, generate, names_at_limits,
+    padded, reflexive_below_the_cap, unfolding,
 };
 use deck::random::Random;
 use deck::write::{axiom_row, concept_row};
@@ -18,6 +18,7 @@ fn decks(shape: Shape, count: u64) -> impl Iterator<Item = Deck> {
 fn count(shape: Shape) -> u64 {
     match shape {
         Shape::Small | Shape::MinZero | Shape::Inverse | Shape::Keys | Shape::Empty => 20_000,
+        Shape::Following => 20_000,
         Shape::PoolFull | Shape::BodyLong | Shape::Tables | Shape::Limits => 2_000,
         _ => 5_000,
     }
@@ -40,6 +41,7 @@ fn decks_beside_the_shapes_are_read_back() {
         let mut rng = Random::new(seed);
         let small = generate(&mut rng, Shape::Small);
         let decks = [
+            chained(&mut rng, &small),
             reflexive_below_the_cap(&mut rng),
             unfolding(&mut rng, 3),
             counted_body_long(&mut rng),
@@ -63,14 +65,16 @@ fn same_seed_same_deck() {
     for seed in 0..200 {
         let (shape, deck) = any(&mut Random::new(seed));
         assert_eq!(any(&mut Random::new(seed)), (shape, deck));
+        let drawn = each(&mut Random::new(seed));
+        assert_eq!(each(&mut Random::new(seed)), drawn);
     }
 }
 
 #[test]
 fn every_shape_has_every_option() {
     for shape in Shape::ALL {
-        let options: HashSet<u32> = decks(shape, 400).map(|deck| deck.options).collect();
-        assert_eq!(options.len(), 8, "{shape:?}");
+        let options: HashSet<u32> = decks(shape, 4_000).map(|deck| deck.options).collect();
+        assert_eq!(options.len(), 16, "{shape:?}");
     }
 }
 

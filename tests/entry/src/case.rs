@@ -3,13 +3,14 @@
 use deck::limits::DECK_BYTES;
 use deck::random::Random;
 use deck::{Deck, Refusal};
-use oracle::met::{ends, is_wide, late_passes, settled};
+use oracle::met::{ends, followed, is_wide, late_passes, settled};
 use oracle::{Limits, Listing, Pass, Run, assert_agreed, has_min_zero, run, run_with_stages};
 use samples::sample::{self, Stored};
 
 use crate::call::Sizes;
 use crate::decks;
 use crate::dwelling::{Dwelling, dwelling};
+use crate::following::{self, Following, following};
 use crate::outcome::Outcome;
 use crate::settling::{self, Settling, settling};
 use crate::stored;
@@ -23,6 +24,8 @@ pub enum Decks {
     Dwelling,
     /// Those with option 4 in which at-most fillers are put below their names.
     Limits,
+    /// Those with option 8 in which a role is followed through two mappings or more.
+    Following,
 }
 
 pub struct Case {
@@ -67,6 +70,7 @@ pub fn case(seed: u64, decks: Decks) -> Case {
         Decks::Any => of_any(rng, seed),
         Decks::Dwelling => of_dwelling(rng, seed),
         Decks::Limits => of_settling(rng, seed),
+        Decks::Following => of_following(rng, seed),
     }
 }
 
@@ -129,6 +133,20 @@ fn of_settling(mut rng: Random, seed: u64) -> Case {
     of_rooms(rng, seed, kind, Decks::Limits, &deck, &generous, rooms)
 }
 
+fn of_following(mut rng: Random, seed: u64) -> Case {
+    let Following {
+        kind,
+        deck,
+        generous,
+        rooms,
+        is_other,
+    } = following(&mut rng);
+    let mut case = of_rooms(rng, seed, kind, Decks::Following, &deck, &generous, rooms);
+    let is_accepted = case.expected.reply == 0;
+    note(&[(OTHER, is_accepted && is_other)], &mut case.met);
+    case
+}
+
 /// The case of a deck in tables of so many records.
 fn of_rooms(
     mut rng: Random,
@@ -161,6 +179,8 @@ pub fn stored_case(name: &str) -> Option<Case> {
     let (seed, kind) = name.split_once(' ')?;
     let decks = if kind.starts_with(settling::KIND) {
         Decks::Limits
+    } else if kind.starts_with(following::KIND) {
+        Decks::Following
     } else {
         Decks::Dwelling
     };
@@ -181,7 +201,9 @@ pub fn sampled(case: &Case) -> sample::Case {
     }
 }
 
-/// Of dwelling decks alone.
+/// Of decks with option 8 alone.
+pub const OTHER: &str = "another answer than with one step";
+/// Of dwelling decks alone, and of those with option 8.
 pub const WIDE: &str = "wide bodies";
 pub const LONG: &str = "a deck of more than 65,536 bytes";
 pub const MIN_ZERO: &str = "Min 0 lines";
@@ -226,6 +248,7 @@ fn note_accepted(
 ) {
     met.push("accepted".into());
     met.push(format!("options {}", deck.options));
+    met.extend(followed(deck, run));
     for kind in 1..=9 {
         if listing.deferrals.iter().any(|deferral| deferral.1 == kind) {
             met.push(format!("deferral {kind}"));

@@ -3,14 +3,15 @@
 use std::time::{Duration, Instant};
 
 use deck::generate::Shape;
+use deck::limits::OPTIONS;
 use lent::Clausify;
-use oracle::met::{DEFERRAL_KINDS, ENDS, LATE_PASSES, Met, SETTLED};
+use oracle::met::{DEFERRAL_KINDS, ENDS, LATE_PASSES, Met, SETTLED, all_followed};
 use samples::sample::lines;
 
 use crate::call::Call;
 use crate::case::{
     AFTER_THE_AXIOMS, BY_CONCEPTS, BY_MEMBERS, Case, Decks, IN_AN_AXIOM, LAST_VISIT, LONG,
-    MIN_ZERO, NO_TABLES, WIDE, case,
+    MIN_ZERO, NO_TABLES, OTHER, WIDE, case,
 };
 use crate::decks;
 use crate::diagnosed;
@@ -36,7 +37,7 @@ impl Until {
 pub fn must() -> Vec<String> {
     let refusals = (1..=12).map(|number| format!("refused {number}"));
     let kinds = DEFERRAL_KINDS.map(|kind| format!("deferral {kind}"));
-    let options = (0..8).map(|options| format!("options {options}"));
+    let options = (0..=OPTIONS).map(|options| format!("options {options}"));
     let shapes = Shape::ALL.map(decks::name);
     let others = [
         "accepted",
@@ -74,6 +75,16 @@ pub fn must_limits() -> Vec<String> {
     options.chain(told).collect()
 }
 
+/// What the decks of option 8 must meet.
+#[must_use]
+pub fn must_following() -> Vec<String> {
+    let options = (8..=OPTIONS).map(|options| format!("options {options}"));
+    let own = ["refused 12", WIDE, OTHER];
+    let passes = [0, 3, 4].map(|place| LATE_PASSES[place]);
+    let told = own.into_iter().chain(passes).map(str::to_owned);
+    options.chain(told).chain(all_followed()).collect()
+}
+
 /// What a part of the decks met.
 #[derive(Default)]
 struct Part {
@@ -103,6 +114,8 @@ struct Figures {
     dwelling: Part,
     /// Those of option 4.
     limits: Part,
+    /// Those of option 8.
+    following: Part,
     is_different: bool,
 }
 
@@ -113,8 +126,11 @@ impl Figures {
             Decks::Any => None,
             Decks::Dwelling => Some(&mut self.dwelling),
             Decks::Limits => Some(&mut self.limits),
+            Decks::Following => Some(&mut self.following),
         };
-        for what in case.met.iter().filter(|what| *what != WIDE) {
+        let of_parts = [WIDE, OTHER];
+        let of_all = |what: &&String| !of_parts.contains(&what.as_str());
+        for what in case.met.iter().filter(of_all) {
             self.all.met.note(what);
         }
         if let Some(part) = part {
@@ -133,9 +149,13 @@ impl Figures {
         }
         self.dwelling.met.print();
         if decks == Decks::Any {
-            println!("and {} are of option 4 alone:", self.limits.done);
+            println!("{} are of option 4 alone:", self.limits.done);
         }
         self.limits.met.print();
+        if decks == Decks::Any {
+            println!("and {} are of option 8:", self.following.done);
+        }
+        self.following.met.print();
     }
 
     /// What must be met, and how often it was.
@@ -145,14 +165,16 @@ impl Figures {
             self.dwelling.must(name, must_dwelling())
         };
         let limits = || self.limits.must("of option 4, ", must_limits());
+        let following = || self.following.must("of option 8, ", must_following());
         let ends = ENDS.map(str::to_owned).to_vec();
         match decks {
             Decks::Any => {
-                let all = self.all.must("", must());
-                all.chain(dwelling()).chain(limits()).collect()
+                let parts = dwelling().chain(limits()).chain(following());
+                self.all.must("", must()).chain(parts).collect()
             }
             Decks::Dwelling => self.all.must("", ends).chain(dwelling()).collect(),
             Decks::Limits => limits().collect(),
+            Decks::Following => following().collect(),
         }
     }
 }
@@ -201,6 +223,7 @@ fn tell(case: &Case, decks: Decks, difference: &str) {
         Decks::Any => "",
         Decks::Dwelling => "--dwell ",
         Decks::Limits => "--limits ",
+        Decks::Following => "--follow ",
     };
     println!("failed: seed {seed} ({kind}): {difference}");
     println!("once more: tests/entry/run {option}{seed} 1");

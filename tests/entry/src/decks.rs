@@ -1,5 +1,5 @@
 //! The decks: every shape, mostly small ones, many of them damaged, and at fixed seeds those that take long, those that dwell
-//! on the later passes, and those with option 4 alone.
+//! on the later passes, those with option 4 alone, and those with option 8.
 
 use deck::Deck;
 use deck::damage::{damage, over_limit};
@@ -15,12 +15,14 @@ use crate::case::Decks;
 const ROUND: u64 = 4_000;
 const LONG: u64 = 10;
 
-/// Which part of all decks a seed's is of: one in five is of [`crate::dwelling`], one in ten of [`crate::settling`].
+/// Which part of all decks a seed's is of: one in five is of [`crate::dwelling`], one in ten of [`crate::settling`], and one in
+/// ten of [`crate::following`].
 pub fn part(seed: u64) -> Decks {
     match seed % 10 {
         _ if seed % ROUND < LONG => Decks::Any,
         1 | 6 => Decks::Dwelling,
         3 => Decks::Limits,
+        8 => Decks::Following,
         _ => Decks::Any,
     }
 }
@@ -72,6 +74,8 @@ const SMALL: [(Shape, u32); 6] = [
     (Shape::Empty, 20),
 ];
 
+const CHAINS: [(Shape, u32); 1] = [(Shape::Following, 1)];
+
 const LARGER: [(Shape, u32); 10] = [
     (Shape::Wide, 25),
     (Shape::Disjunctive, 25),
@@ -85,8 +89,12 @@ const LARGER: [(Shape, u32); 10] = [
     (Shape::Tables, 2),
 ];
 
+/// The shapes without chains of inverse declarations are drawn as without those.
 fn by_chance(rng: &mut Random) -> Drawn {
+    let chains = rng.beside(32).below(40);
     let (kind, bytes) = match rng.weighted(&[540, 125, 40, 270, 15, 10]) {
+        0 if chains == 0 => shaped(rng, &CHAINS),
+        3 if chains == 0 => damaged(rng, &CHAINS),
         0 => shaped(rng, &SMALL),
         1 => shaped(rng, &LARGER),
         2 => {

@@ -1,5 +1,5 @@
 //! Decks that dwell on the later passes: wide bodies, memo hits, reflexive roles up to the cap and past it, counted loops.
-//! Each gets through its axioms, and its tables are often just enough for these passes, or one record short.
+//! Each is without option 8 and gets through its axioms, and its tables are often just enough for these passes, or one record short.
 
 use deck::Deck;
 use deck::generate::{Shape, counted_body_long, generate, reflexive_below_the_cap, unfolding};
@@ -21,7 +21,8 @@ pub struct Dwelling {
 /// The dwelling deck of a seed.
 pub fn dwelling(rng: &mut Random, seed: u64) -> Dwelling {
     loop {
-        let (kind, deck) = drawn(rng, seed);
+        let (kind, mut deck) = drawn(rng, seed);
+        deck.options &= 7;
         let generous = run_with_stages(&deck, &Limits::LARGEST);
         if let Some(passed) = generous.stages.passes.get(&Pass::Axioms) {
             let rooms = rooms(rng, passed, &generous.most);

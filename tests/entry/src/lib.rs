@@ -4,6 +4,8 @@ mod call;
 #[cfg(feature = "live")]
 mod case;
 #[cfg(feature = "live")]
+mod chosen;
+#[cfg(feature = "live")]
 mod compare;
 #[cfg(feature = "live")]
 mod decks;
@@ -11,6 +13,8 @@ mod decks;
 mod diagnosed;
 #[cfg(feature = "live")]
 mod dwelling;
+#[cfg(feature = "live")]
+mod following;
 #[cfg(feature = "live")]
 pub mod mock;
 mod outcome;
@@ -22,9 +26,11 @@ pub mod stored;
 
 pub use call::{Call, Sizes};
 #[cfg(feature = "live")]
-pub use case::{Case, Decks, case, sampled, stored_case};
+pub use case::{Case, Decks, OTHER, case, sampled, stored_case};
 #[cfg(feature = "live")]
-pub use compare::{Until, compare, must, must_dwelling, must_limits};
+pub use chosen::chosen;
+#[cfg(feature = "live")]
+pub use compare::{Until, compare, must, must_dwelling, must_following, must_limits};
 pub use outcome::Outcome;
 #[cfg(feature = "live")]
 pub use sizes::WRONG;

@@ -7,7 +7,7 @@ use entry::{Decks, Until, compare};
 use lent::gorvask_clausify_with_stats;
 
 const USAGE: &str =
-    "entry [--dwell | --limits] SEED COUNT, or entry [--dwell | --limits] SEED --seconds N";
+    "entry [--dwell | --limits | --follow] SEED COUNT, or the same with SEED --seconds N";
 
 fn main() -> Result<ExitCode, Box<dyn Error>> {
     let arguments: Vec<String> = std::env::args().skip(1).collect();
@@ -15,6 +15,7 @@ fn main() -> Result<ExitCode, Box<dyn Error>> {
     let (decks, rest) = match words.as_slice() {
         ["--dwell", rest @ ..] => (Decks::Dwelling, rest),
         ["--limits", rest @ ..] => (Decks::Limits, rest),
+        ["--follow", rest @ ..] => (Decks::Following, rest),
         all => (Decks::Any, all),
     };
     let (seed, until) = match *rest {

@@ -2,8 +2,10 @@
 
 use std::cell::Cell;
 
+use deck::limits::OPTIONS;
 use lent::{Clausify, bytes};
-use oracle::{Answer, Limits, answer_min_zero};
+use oracle::following::{Inverses, respelled_as};
+use oracle::{Answer, Limits, answer_min_zero, follows_roles};
 
 use crate::call::Sizes;
 use crate::outcome::Outcome;
@@ -46,8 +48,12 @@ pub enum Fault {
     OneVisitLess,
     /// A table ends one record early.
     OneRecordLess(usize),
-    /// Option 1, 2 or 4 is not looked at.
-    OptionIgnored(u8),
+    /// Option 1, 2, 4 or 8 is not looked at.
+    OptionIgnored(u32),
+    /// With option 8 a role takes two steps at most.
+    TwoSteps,
+    /// With option 8 a role's steps do not turn.
+    NotTurned,
 }
 
 thread_local! {
@@ -186,12 +192,9 @@ fn original(deck: &[u8], rooms: [usize; 3], fault: Fault) -> Outcome {
     let mut deck = deck.to_vec();
     match fault {
         Fault::OneVisitLess => limits.visits -= 1,
-        Fault::OptionIgnored(bit) => {
-            // The header's last digit, if it has one there.
-            if let Some(digit @ b'0'..=b'7') = deck.get_mut(54) {
-                *digit &= !bit;
-            }
-        }
+        Fault::OptionIgnored(bit) => ignore(&mut deck, bit),
+        Fault::TwoSteps => follow(&mut deck, in_one_step),
+        Fault::NotTurned => follow(&mut deck, not_turned),
         _ => {}
     }
     match answer_min_zero(&deck, &limits) {
@@ -199,6 +202,40 @@ fn original(deck: &[u8], rooms: [usize; 3], fault: Fault) -> Outcome {
         Answer::Refused(refusal) => Outcome::from(refusal),
         Answer::CannotHold => unreachable!("Min 0 lines are held"),
     }
+}
+
+/// Takes the option out of the header, if it has options there.
+fn ignore(deck: &mut [u8], bit: u32) {
+    let Some(field) = deck.get_mut(44..55) else {
+        return;
+    };
+    let text = std::str::from_utf8(field).unwrap_or_default();
+    if let Ok(options @ 0..=OPTIONS) = text.trim_start().parse::<u32>() {
+        let others = format!("{:>11}", options & !bit);
+        field.copy_from_slice(others.as_bytes());
+    }
+}
+
+/// Has a deck with option 8 its roles spelled as told, and not followed further than by the original's step.
+fn follow(text: &mut Vec<u8>, ends: fn(&Inverses, u32) -> Vec<u32>) {
+    if let Ok(deck) = deck::read(text)
+        && follows_roles(&deck)
+    {
+        let ends = ends(&Inverses::declared(&deck), deck.roles);
+        *text = deck::write(&respelled_as(&deck, &ends));
+    }
+}
+
+fn in_one_step(map: &Inverses, roles: u32) -> Vec<u32> {
+    let step = |id| map.value(id).unwrap_or(2 * id);
+    (0..roles).flat_map(|id| [step(id), step(id) ^ 1]).collect()
+}
+
+fn not_turned(map: &Inverses, roles: u32) -> Vec<u32> {
+    let ends = map.ends(roles).into_iter();
+    ends.zip(0..)
+        .map(|(end, code)| (end & !1) + code % 2)
+        .collect()
 }
 
 /// Makes the answer a wrong one.

@@ -1,4 +1,4 @@
-//! Decks with option 4 whose at-most fillers are put below their names. Often a table ends meanwhile, and at fixed seeds the
+//! Decks with option 4, and without 8, whose at-most fillers are put below their names. Often a table ends meanwhile, and at fixed seeds the
 //! visits or the pool.
 
 use deck::Deck;
@@ -24,7 +24,7 @@ pub const KIND: &str = "limits, ";
 pub fn settling(rng: &mut Random, seed: u64) -> Settling {
     loop {
         let (kind, mut deck) = drawn(rng, seed);
-        deck.options |= 4;
+        deck.options = deck.options & 3 | 4;
         let generous = run(&deck, &Limits::LARGEST);
         if generous.settled.limits > 0 {
             let rooms = match kind.as_str() {
@@ -68,7 +68,7 @@ fn drawn(rng: &mut Random, seed: u64) -> (String, Deck) {
 fn of_visits(rng: &mut Random) -> Deck {
     loop {
         let mut deck = generate(rng, Shape::AtMost);
-        deck.options |= 4;
+        deck.options = deck.options & 3 | 4;
         let lines = padded(rng, &deck, 0);
         let own = run(&lines, &Limits::LARGEST).most.visits;
         let visits = rng.index(own + 1);
@@ -88,7 +88,7 @@ fn of_visits(rng: &mut Random) -> Deck {
 }
 
 /// Mostly enough, often just enough or one record short.
-fn rooms(rng: &mut Random, most: &Limits) -> [usize; 3] {
+pub fn rooms(rng: &mut Random, most: &Limits) -> [usize; 3] {
     let [needed, largest] = [most, &Limits::LARGEST].map(Limits::rooms);
     let mut rooms = needed.map(|needed| needed + *rng.pick(&[0, 0, 1, 2, 20]));
     let place = rng.index(3);

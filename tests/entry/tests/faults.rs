@@ -4,7 +4,9 @@
 use std::collections::HashSet;
 
 use entry::mock::{Fault, erring};
-use entry::{Call, Decks, Until, WRONG, case, compare, must, must_dwelling, must_limits};
+use entry::{
+    Call, Decks, Until, WRONG, case, compare, must, must_dwelling, must_following, must_limits,
+};
 
 /// The first seed with a difference, and the difference.
 fn difference(fault: Fault, seeds: impl IntoIterator<Item = u64>) -> Option<(u64, String)> {
@@ -138,14 +140,18 @@ fn ends() {
 
 #[test]
 fn options() {
-    for bit in [1, 2, 4] {
+    for bit in [1, 2, 4, 8] {
         assert_seen(Fault::OptionIgnored(bit), SEEDS, "");
+    }
+    for fault in [Fault::TwoSteps, Fault::NotTurned] {
+        assert_seen(fault, SEEDS, "");
     }
 }
 
 #[test]
 fn a_short_comparison_misses_something() {
-    for decks in [Decks::Any, Decks::Dwelling, Decks::Limits] {
+    let parts = [Decks::Dwelling, Decks::Limits, Decks::Following];
+    for decks in parts.into_iter().chain([Decks::Any]) {
         let missed = compare(erring(Fault::None), decks, 20, &Until::Count(3));
         let differs = compare(erring(Fault::OtherNumber), decks, 20, &Until::Count(100));
         assert!(!missed && !differs);
@@ -166,7 +172,8 @@ fn same_seed_same_case() {
 
 #[test]
 fn no_name_stands_for_two_things() {
-    for must in [must(), must_dwelling(), must_limits()] {
+    let parts = [must_dwelling(), must_limits(), must_following()];
+    for must in parts.into_iter().chain([must()]) {
         let names: HashSet<&String> = must.iter().collect();
         assert_eq!(names.len(), must.len());
     }
@@ -180,8 +187,9 @@ fn a_round_meets_everything() {
         (Decks::Any, 8_000),
         (Decks::Dwelling, 20_000),
         (Decks::Limits, 4_000),
+        (Decks::Following, 4_000),
     ];
     let good =
         rounds.map(|(decks, count)| compare(erring(Fault::None), decks, 1, &Until::Count(count)));
-    assert_eq!(good, [true; 3]);
+    assert_eq!(good, [true; 4]);
 }

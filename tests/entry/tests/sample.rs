@@ -5,19 +5,21 @@ use std::fs;
 use std::path::Path;
 
 use entry::mock::{Fault, erring};
-use entry::{Decks, must_dwelling, must_limits, sampled, stored, stored_case};
+use entry::{
+    Decks, OTHER, must_dwelling, must_following, must_limits, sampled, stored, stored_case,
+};
 use oracle::met::ENDS;
 use samples::sample::{Case, Stored, read};
 
-fn sample() -> Vec<Case> {
-    let file = Path::new(env!("CARGO_MANIFEST_DIR")).join("sample");
+fn sample(name: &str) -> Vec<Case> {
+    let file = Path::new(env!("CARGO_MANIFEST_DIR")).join(name);
     read(&fs::read_to_string(file).unwrap()).unwrap()
 }
 
 /// Seed and kind lead back to the deck, its tables and its answer.
 #[test]
 fn the_sample_has_the_originals_answers() {
-    let cases = sample();
+    let cases = sample("sample");
     let [mut dwelling, mut limits] = [HashSet::new(), HashSet::new()];
     for stored in &cases {
         let case = stored_case(&stored.name).unwrap();
@@ -37,6 +39,27 @@ fn the_sample_has_the_originals_answers() {
     assert!(cases.len() > 600 && missing.is_empty(), "{missing:?}");
 }
 
+/// So with the decks of option 8.
+#[test]
+fn the_followed_sample_has_the_copys_answers() {
+    let cases = sample("followed");
+    let mut met = HashSet::new();
+    let (mut others, mut accepted) = (0, 0);
+    for stored in &cases {
+        let case = stored_case(&stored.name).unwrap();
+        assert!(*stored == sampled(&case), "{}", stored.name);
+        assert_eq!(case.part, Decks::Following);
+        others += usize::from(case.met.iter().any(|what| what == OTHER));
+        accepted += usize::from(case.expected.reply == 0);
+        met.extend(case.met);
+    }
+    let must = must_following().into_iter();
+    let missing: Vec<String> = must.filter(|what| !met.contains(what)).collect();
+    assert!(missing.is_empty(), "{missing:?}");
+    assert!(cases.len() >= 150 && 2 * accepted > cases.len());
+    assert!(4 * others > 3 * accepted, "{others} of {accepted}");
+}
+
 /// Whether the stand-in fails a case.
 fn fails(fault: Fault, cases: &[Case]) -> bool {
     let library = erring(fault);
@@ -48,7 +71,13 @@ fn fails(fault: Fault, cases: &[Case]) -> bool {
 
 #[test]
 fn the_replay_sees_each_fault() {
-    let mut cases = sample();
+    let mut cases = sample("sample");
+    let followed = sample("followed");
+    assert!(!fails(Fault::None, &followed));
+    let ignored = [1, 2, 4, 8].map(Fault::OptionIgnored).into_iter();
+    for fault in ignored.chain([Fault::TwoSteps, Fault::NotTurned]) {
+        assert!(fails(fault, &followed), "{fault:?} is not seen");
+    }
     assert!(!fails(Fault::None, &cases));
     // The others take long.
     cases.retain(|case| matches!(case.answer, Stored::Text(_)));

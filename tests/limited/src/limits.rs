@@ -76,13 +76,15 @@ impl Limits {
     }
 }
 
-/// What the original reads from its environment, and option 4.
+/// What the original reads from its environment, and options 4 and 8.
 #[derive(Clone, Copy, Debug, Default)]
 pub struct Options {
     pub decompose: bool,
     pub card_disjunct_atoms: bool,
     /// A fresh class that names the filler of an at-most is made equal to it.
     pub equal_names: bool,
+    /// A role is followed until its id is no key of the map of inverses.
+    pub follow_roles: bool,
 }
 
 #[derive(Clone, Copy, Debug)]
@@ -159,6 +161,8 @@ pub struct Report {
     /// Axiom line and kind.
     pub deferrals: Vec<(u32, u32)>,
     pub settled: Settled,
+    /// The most steps that a role was followed.
+    pub steps: usize,
     pub stages: Stages,
 }
 
@@ -322,6 +326,14 @@ pub fn awaits() {
 pub fn settling(under_way: bool) {
     event(|run| {
         run.report.settled.under_way = under_way;
+        Ok(())
+    });
+}
+
+/// A role has been followed so many steps.
+pub fn followed(steps: usize) {
+    event(|run| {
+        run.report.steps = steps.max(run.report.steps);
         Ok(())
     });
 }

@@ -63,8 +63,8 @@ fn limits_beside(deck: &Path) -> io::Result<Limits> {
     Ok(limits)
 }
 
-const HEAD: &str = "-- Decks with the Rust's answers that decide what the [P] cases leave open; with option 4, which the Rust has not, those of
--- its instrumented copy. Written by tests/decided/make from the decks there; the proof over this table is in Cases.
+const HEAD: &str = "-- Decks with the Rust's answers that decide what the [P] cases leave open; with option 4 or 8, which the Rust has not,
+-- those of its instrumented copy. Written by tests/decided/make from the decks there; the proof over this table is in Cases.
 use mathlib.Core.List.{List, [], ◌∷◌}
 use Rattle.std.specs.Prelude.{ℕ}
 use Prim.Native.String.{String}

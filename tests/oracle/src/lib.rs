@@ -1,8 +1,10 @@
 //! What the original clausifier answers to a deck: from its unmodified build and from its instrumented copy, which must
-//! agree. The copy alone has option 4.
+//! agree. The copy alone has options 4 and 8.
 
 mod clauses;
 pub mod decided;
+pub mod followed_maps;
+pub mod following;
 mod forms;
 mod listing;
 pub mod met;
@@ -40,7 +42,7 @@ pub fn answer(bytes: &[u8], limits: &Limits) -> Answer {
     deck::read(bytes).map_or_else(Answer::Refused, |deck| answer_deck(&deck, limits))
 }
 
-/// The answer to a deck that the reading accepts; with option 4 the instrumented copy's alone.
+/// The answer to a deck that the reading accepts; with option 4 or 8 the instrumented copy's alone.
 ///
 /// # Panics
 /// If the unmodified build gives other clauses or statistics than the instrumented copy.
@@ -58,13 +60,13 @@ pub fn answer_deck(deck: &Deck, limits: &Limits) -> Answer {
     }
 }
 
-/// Has the unmodified build answer a deck that the instrumented copy has accepted, unless there is a Min 0 line or option 4.
-/// A deck that is refused may be too much for it.
+/// Has the unmodified build answer a deck that the instrumented copy has accepted, unless there is a Min 0 line or option 4 or
+/// 8. A deck that is refused may be too much for it.
 ///
 /// # Panics
 /// If it gives other clauses or statistics.
 pub fn assert_agreed(deck: &Deck, listing: &Listing) {
-    if has_min_zero(deck) || has_equal_names(deck) {
+    if has_min_zero(deck) || has_equal_names(deck) || follows_roles(deck) {
         return;
     }
     let (clauses, stats) = run_unmodified(deck);
@@ -101,6 +103,12 @@ pub fn has_equal_names(deck: &Deck) -> bool {
     deck.options & 4 != 0
 }
 
+/// Whether a deck has option 8, which the instrumented copy alone has.
+#[must_use]
+pub fn follows_roles(deck: &Deck) -> bool {
+    deck.options & 8 != 0
+}
+
 /// A run of the instrumented copy.
 #[derive(Clone, Debug, PartialEq, Eq)]
 pub struct Run {
@@ -111,6 +119,8 @@ pub struct Run {
     pub lengths: BTreeMap<Pass, usize>,
     /// What came of option 4.
     pub settled: Settled,
+    /// The most steps that a role was followed.
+    pub steps: usize,
     pub stages: Stages,
 }
 
@@ -160,6 +170,7 @@ fn run_instrumented(deck: &Deck, limits: &Limits, keep_stages: bool) -> Run {
         most: report.most,
         lengths: report.lengths,
         settled: report.settled,
+        steps: report.steps,
         stages: Stages::from(&report.stages),
     }
 }
@@ -176,6 +187,7 @@ fn instrumented_deck(
         decompose: decomposes(deck),
         card_disjunct_atoms: has_card_disjunct_atoms(deck),
         equal_names: has_equal_names(deck),
+        follow_roles: follows_roles(deck),
     };
     let settings = Settings {
         limits: *limits,

@@ -2,9 +2,11 @@
 
 use std::collections::{BTreeMap, HashSet};
 
+use deck::Deck;
 use rustdl::clause::{MAX_BODY_VARS, distinct_vars};
 
-use crate::{Clause, Limits, Listing, Pass, Run, Settled};
+use crate::following::{KINDS, kinds_in_two_steps};
+use crate::{Clause, Limits, Listing, Pass, Run, Settled, follows_roles};
 
 /// Deferral kinds that occur. Kinds 6 and 8 would need a negation of what is no class, individual or Self, and a normal form
 /// has none; kind 7 would need a concept without a name, and `atomic_name_of` always gives one.
@@ -163,6 +165,29 @@ pub fn settled(generous: &Run, run: &Run, rooms: [usize; 3]) -> Vec<&'static str
     }
     let told = SETTLED.into_iter().zip(met);
     told.filter_map(|(what, met)| met.then_some(what)).collect()
+}
+
+/// What [`followed`] tells: of the kinds of lines, then of the longest way.
+pub fn all_followed() -> impl Iterator<Item = String> {
+    let kinds = KINDS.map(of_kind).into_iter();
+    kinds.chain([THREE_STEPS.to_owned()])
+}
+
+const THREE_STEPS: &str = "a role followed in three steps";
+
+fn of_kind(kind: u32) -> String {
+    format!("two steps in a line of kind {kind}")
+}
+
+/// In which kinds of lines of an accepted deck with option 8 a role takes two steps or more, and whether one took three.
+#[must_use]
+pub fn followed(deck: &Deck, run: &Run) -> Vec<String> {
+    if !follows_roles(deck) {
+        return Vec::new();
+    }
+    let kinds = kinds_in_two_steps(deck).into_iter().map(of_kind);
+    let three = (run.steps > 2).then(|| THREE_STEPS.to_owned());
+    kinds.chain(three).collect()
 }
 
 /// Counts by name.

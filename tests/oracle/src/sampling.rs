@@ -7,7 +7,7 @@ use std::io::{self, Read, Write};
 use std::path::Path;
 
 use deck::damage::{damage, over_limit};
-use deck::generate::{Shape, any, forms_at_limits, generate};
+use deck::generate::{any, each, forms_at_limits};
 use deck::random::Random;
 use samples::run;
 use samples::sample::{Case, Stored, write};
@@ -92,11 +92,8 @@ pub fn drawn(seed: u64) -> (String, Vec<u8>) {
             (format!("{shape:?}"), deck::write(&deck))
         }
         1 => {
-            let shape = *rng.pick(&Shape::ALL);
-            (
-                format!("{shape:?}"),
-                deck::write(&generate(&mut rng, shape)),
-            )
+            let (shape, deck) = each(&mut rng);
+            (format!("{shape:?}"), deck::write(&deck))
         }
         2 => {
             let (shape, deck) = any(&mut rng);
@@ -106,9 +103,11 @@ pub fn drawn(seed: u64) -> (String, Vec<u8>) {
             )
         }
         3 => {
-            let shape = *rng.pick(&Shape::ALL);
-            let deck = deck::write(&generate(&mut rng, shape));
-            (format!("{shape:?} damaged"), damage(&mut rng, &deck))
+            let (shape, deck) = each(&mut rng);
+            (
+                format!("{shape:?} damaged"),
+                damage(&mut rng, &deck::write(&deck)),
+            )
         }
         4 => ("Over".into(), over_limit(&mut rng)),
         _ => ("Forms".into(), deck::write(&forms_at_limits(&mut rng))),

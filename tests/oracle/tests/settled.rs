@@ -153,7 +153,7 @@ fn at_the_axioms_line() {
 
 fn without(deck: &Deck) -> Deck {
     Deck {
-        options: deck.options & 3,
+        options: deck.options & !4,
         ..deck.clone()
     }
 }

@@ -39,6 +39,7 @@ fn of_change(live: &Session, call: &Call) -> Option<Diagnosis> {
 
 #[cfg(test)]
 mod tests {
+    use deck::limits::OPTIONS;
     use deck::write::row;
 
     use super::{Call, Player, Step, difference};
@@ -76,7 +77,7 @@ mod tests {
             (Call::Add(lines(&[&[21, 0, 2]])), 5, 5),
             (Call::Add(vec![b' '; 65_536]), 2, 0),
             (Call::Strike(3), 15, 0),
-            (Call::Options(8), 4, 1),
+            (Call::Options(OPTIONS + 1), 4, 1),
         ]
     }
 
@@ -86,7 +87,7 @@ mod tests {
             Call::Start(deck()),
             Call::Add(lines(&[&[21, 1, 0]])),
             Call::Strike(4),
-            Call::Options(7),
+            Call::Options(OPTIONS),
         ]
     }
 

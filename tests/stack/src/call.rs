@@ -177,11 +177,10 @@ impl Tables {
     }
 }
 
-/// A deck's options, the last digit of its header.
+/// A deck's options, the last number of its header.
 fn options(deck: &[u8]) -> u32 {
-    let header = deck.split(|&byte| byte == b'\n').next();
-    let digit = header.and_then(|header| header.last().copied());
-    u32::from(digit.expect("a header") - b'0')
+    let digits = deck[44..55].iter().filter(|byte| byte.is_ascii_digit());
+    digits.fold(0, |number, digit| 10 * number + u32::from(digit - b'0'))
 }
 
 /// A state of 64 elements in which every role relates each to itself and the next, and every individual is element 0.

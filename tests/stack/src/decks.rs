@@ -1,5 +1,5 @@
 //! Decks at the limits that lead into each recursion: concepts that nest 64 deep in every shape, on every side of an axiom;
-//! wide bodies whose tree is a long path; lists of 128.
+//! wide bodies whose tree is a long path; lists of 128; one chain of all roles.
 
 use deck::{Axiom, Concept, Deck};
 
@@ -84,7 +84,20 @@ pub fn decks() -> Vec<Named> {
     let mut decks = paths();
     decks.extend(wide_bodies());
     decks.extend(lists());
+    decks.push(one_chain());
     decks
+}
+
+/// A role that is followed through as many declarations as there are roles for.
+fn one_chain() -> Named {
+    let mut lines = Lines::default();
+    let class = lines.add(Concept::Atomic(0));
+    let name = "1,023 inverses in one chain".into();
+    let mut named = lines.named(name, 15, Axiom::Range(0, class));
+    named.deck.roles = 1_024;
+    let chain = (0..1_023).map(|role| Axiom::Inverse(2 * (role + 1), 2 * role));
+    named.deck.axioms.extend(chain);
+    named
 }
 
 /// Each shape 64 deep, in each place, with no option, with those of the Rust, and with all.
@@ -93,7 +106,7 @@ fn paths() -> Vec<Named> {
     for (shape, around) in SHAPES {
         let (lines, whole) = Lines::nested(around);
         for (place, axiom) in places(whole, 1) {
-            for options in [0, 3, 7] {
+            for options in [0, 3, 15] {
                 let name = format!("{shape}, {place}, options {options}");
                 decks.push(lines.named(name, options, axiom.clone()));
             }

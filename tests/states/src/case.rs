@@ -2,6 +2,7 @@
 
 use deck::random::Random;
 use deck::{Axiom, Deck, Refusal};
+use oracle::met::followed;
 use oracle::{Limits, Listing, Run, assert_agreed, run};
 
 use crate::call::Sizes;
@@ -78,6 +79,7 @@ pub fn case(seed: u64) -> Case {
     if let Ok((deck, listing)) = &ran {
         assert_agreed(deck, listing);
         met.push(sizes.store_name(ids).into());
+        met.extend(generous.iter().flat_map(|run| followed(deck, run)));
     }
     let state = state(&mut rng, &ran, read.as_ref().ok(), drawn.wish);
     let (expected, known) = judged(ran, &state, read.as_ref().ok(), &mut met);

@@ -3,7 +3,7 @@
 use std::time::{Duration, Instant};
 
 use deck::random::Random;
-use oracle::met::Met;
+use oracle::met::{Met, all_followed};
 use samples::sample::lines;
 
 use crate::call::{Call, Library, Sizes};
@@ -64,6 +64,7 @@ pub fn must() -> Vec<String> {
         .chain(clauses)
         .chain(rules)
         .chain(sizes)
+        .chain(all_followed())
         .chain(told.map(|&what| what.to_owned()))
         .collect()
 }

@@ -19,10 +19,13 @@ pub struct Builder<'r> {
 }
 
 impl<'r> Builder<'r> {
-    /// A deck with no names and any of the eight options, one in three with 4, which the unmodified Rust does not have.
+    /// A deck with no names and any options, one in three with 4 and one in six with 8, which the unmodified Rust does not
+    /// have. The other lines are drawn as without 8.
     pub fn new(rng: &'r mut Random) -> Self {
+        let eight = rng.beside(8).chance(1, 6);
         let drawn = rng.below(12);
-        let options = drawn / 3 + 4 * u32::from(drawn.is_multiple_of(3));
+        let four = drawn.is_multiple_of(3);
+        let options = drawn / 3 + 4 * u32::from(four) + 8 * u32::from(eight);
         Self {
             rng,
             deck: Deck {
@@ -111,6 +114,17 @@ impl<'r> Builder<'r> {
     /// Puts the last `count` axioms first.
     pub fn last_axioms_first(&mut self, count: usize) {
         self.deck.axioms.rotate_right(count);
+    }
+
+    /// Puts the last `count` axioms anywhere among the others, in their order.
+    pub fn mingle_last_axioms(&mut self, count: usize) {
+        let others = self.deck.axioms.len() - count;
+        let last = self.deck.axioms.split_off(others);
+        let mut places: Vec<usize> = last.iter().map(|_| self.rng.index(others + 1)).collect();
+        places.sort_unstable();
+        for (before, (place, axiom)) in places.into_iter().zip(last).enumerate() {
+            self.deck.axioms.insert(place + before, axiom);
+        }
     }
 
     pub fn shuffle_axioms(&mut self) {

@@ -60,7 +60,7 @@ fn closure(builder: &mut Builder) {
 }
 
 /// An axiom whose clauses have role atoms in the body.
-fn unfolded(builder: &mut Builder) -> Axiom {
+pub fn unfolded(builder: &mut Builder) -> Axiom {
     let role = builder.role();
     match builder.rng.below(8) {
         0 => Axiom::Domain(role, head(builder)),

@@ -6,9 +6,9 @@ use crate::Axiom;
 
 pub fn wide(builder: &mut Builder) {
     if builder.rng.chance(5, 6) {
-        let four = builder.deck().options & 4;
+        let others = builder.deck().options & 12;
         let options = *builder.rng.pick(&[1, 3]);
-        builder.set_options(options + four);
+        builder.set_options(options + others);
     }
     let classes = builder.rng.between(4, 44);
     let individuals = builder.rng.below(2);

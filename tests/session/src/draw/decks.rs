@@ -2,7 +2,7 @@
 
 use deck::damage::{damage, over_limit};
 use deck::generate::{Shape, any, generate, names_at_limits};
-use deck::limits::{AXIOMS, DECK_BYTES};
+use deck::limits::{AXIOMS, DECK_BYTES, OPTIONS};
 use deck::random::Random;
 use deck::write::{axiom_row, line_bytes, lists_of_bytes, row};
 use deck::{Axiom, Deck};
@@ -10,7 +10,7 @@ use entry::{Decks, case};
 use oracle::{Limits, run};
 
 /// What a run starts from.
-pub const KINDS: [&str; 11] = [
+pub const KINDS: [&str; 12] = [
     "a small deck",
     "a deck of any shape",
     "a deck of the later passes",
@@ -22,10 +22,12 @@ pub const KINDS: [&str; 11] = [
     "a damaged deck",
     VISITS,
     POOL,
+    FOLLOWED,
 ];
 
 const VISITS: &str = "a deck of many visits";
 const POOL: &str = "a deck with a full pool";
+const FOLLOWED: &str = "a deck of option 8";
 
 pub struct Drawn {
     pub kind: String,
@@ -48,8 +50,28 @@ pub fn deck(rng: &mut Random, seed: u64) -> Drawn {
         1 => return full_pool(rng),
         _ => {}
     }
+    if rng.beside(32).chance(1, 20) {
+        return followed(rng);
+    }
     let weights = [60, 10, 5, 5, 5, 2, 4, 3, 4];
     of_kind(rng, weights)
+}
+
+/// A deck in which a role is followed through two mappings or more, with the option or, at times, without.
+fn followed(rng: &mut Random) -> Drawn {
+    let draw = |rng: &mut Random| {
+        let mut deck = of_entry(rng, Decks::Following);
+        deck.options ^= 8 * u32::from(rng.chance(1, 3));
+        deck
+    };
+    let (deck, pool) = split(rng, draw);
+    Drawn {
+        kind: FOLLOWED.into(),
+        deck,
+        pool,
+        calls: 40,
+        is_scripted: false,
+    }
 }
 
 /// A deck for a start over a session, or over none.
@@ -96,6 +118,9 @@ const SMALL: [(Shape, u32); 8] = [
 ];
 
 fn small(rng: &mut Random) -> Deck {
+    if rng.beside(32).chance(1, 12) {
+        return generate(rng, Shape::Following);
+    }
     let weights = SMALL.map(|(_, weight)| weight);
     let (shape, _) = SMALL[rng.weighted(&weights)];
     generate(rng, shape)
@@ -138,7 +163,10 @@ fn header(rng: &mut Random) -> Vec<u8> {
     let counts = [1, 2, 3].map(|_| rng.below(4));
     let mut out = Vec::new();
     let [classes, individuals, roles] = counts;
-    row(&mut out, &[0, classes, individuals, roles, rng.below(8)]);
+    row(
+        &mut out,
+        &[0, classes, individuals, roles, rng.below(OPTIONS + 1)],
+    );
     out
 }
 

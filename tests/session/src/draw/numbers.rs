@@ -58,7 +58,7 @@ pub fn options(rng: &mut Random) -> u32 {
                 OPTIONS + 2,
                 2 * OPTIONS + 1,
                 2 * OPTIONS + 2,
-                10,
+                20,
                 100,
             ];
             *rng.pick(&others)

@@ -19,6 +19,7 @@ pub fn all() -> Vec<Written> {
         Written::new("a deck without axioms", without_axioms()),
         Written::new("a header alone", header_alone()),
         Written::new("options that change the answer", options_change()),
+        Written::new("a role followed, and one step again", followed()),
         Written::new("a taking refused by 10", by_visits()),
         Written::new("a taking refused by 12", by_room()),
         Written::new("a list of 128 and of 129", long_lists()),
@@ -182,6 +183,25 @@ fn header_alone() -> Vec<Called> {
         take_with(0, DONE),
         start("0 4097 0 0 0", no(4, 1)),
         options(0, no(1, 0)),
+    ]
+}
+
+/// r1 is followed to the reflexive r2 with option 8, and unfolding gives one clause more.
+fn followed() -> Vec<Called> {
+    vec![
+        start("0 2 0 3 8; 3 0; 3 1; 9 4 0; 32 0 2; 32 4 0; 35 2", DONE),
+        add("21 2 1", DONE),
+        take_with(2, DONE),
+        take_with(1, no(12, 0)),
+        options(0, DONE),
+        take_with(1, DONE),
+        options(8, DONE),
+        strike(6, DONE),
+        take_with(1, DONE),
+        add("32 4 0", DONE),
+        take_with(2, DONE),
+        options(15, DONE),
+        take_with(1, no(12, 0)),
     ]
 }
 

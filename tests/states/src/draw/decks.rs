@@ -125,7 +125,11 @@ const SHAPES: [(Shape, u32); 14] = [
 
 fn of_shape(rng: &mut Random) -> (String, Deck) {
     let weights = SHAPES.map(|(_, weight)| weight);
-    let (shape, _) = SHAPES[rng.weighted(&weights)];
+    let shape = if rng.beside(32).chance(1, 10) {
+        Shape::Following
+    } else {
+        SHAPES[rng.weighted(&weights)].0
+    };
     let deck = match shape {
         Shape::Reflexive => reflexive_below_the_cap(rng),
         _ => generate(rng, shape),

@@ -15,8 +15,10 @@ pub struct Make<'r> {
 
 impl<'r> Make<'r> {
     pub fn new(rng: &'r mut Random, [classes, individuals, roles]: [u32; 3]) -> Self {
+        let eight = rng.beside(8).chance(1, 6);
         let drawn = rng.below(12);
-        let options = drawn / 3 + 4 * u32::from(drawn.is_multiple_of(3));
+        let four = drawn.is_multiple_of(3);
+        let options = drawn / 3 + 4 * u32::from(four) + 8 * u32::from(eight);
         Self {
             rng,
             deck: Deck {
