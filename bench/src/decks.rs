@@ -6,9 +6,10 @@ use deck::random::Random;
 use oracle::{Limits, Listing};
 
 use crate::extreme::{
-    full_of_clauses, full_of_concepts, full_of_members, reflexive, visits_in_antecedents,
-    visits_in_heads, visits_in_normal_forms, wide, wide_trees,
+    full_of_clauses, full_of_concepts, full_of_members, inverse_chain, reflexive,
+    visits_in_antecedents, visits_in_heads, visits_in_normal_forms, wide, wide_trees,
 };
+use crate::ours;
 use crate::realistic::realistic;
 
 /// Decks of one kind.
@@ -46,11 +47,12 @@ pub const SEEDS: [u64; 12] = [134, 178, 61, 35, 146, 148, 103, 102, 83, 48, 120,
 /// Axioms of the decks that show how time grows.
 pub const SERIES: [u32; 8] = [16, 32, 64, 128, 256, 512, 900, 1_024];
 
-/// Every kind of deck.
+/// Every kind of deck. That with option 8 has no Rust beside it.
 pub fn kinds() -> Vec<Kind> {
     let kind = |name, decks| Kind { name, decks };
     let alone = |name, deck| kind(name, vec![deck]);
-    vec![
+    let followed = alone("1,023 inverses, option 8", inverse_chain(11));
+    let mut kinds = vec![
         kind(
             REALISTIC,
             SEEDS.map(|seed| realistic(seed, AXIOMS)).to_vec(),
@@ -67,7 +69,10 @@ pub fn kinds() -> Vec<Kind> {
         alone("2,048 concepts", full_of_concepts()),
         alone("16,384 list members", full_of_members()),
         alone("65,536 clauses", full_of_clauses()),
-    ]
+        alone("1,023 inverses in one chain", inverse_chain(3)),
+    ];
+    kinds.extend(ours::MEASURED.then_some(followed));
+    kinds
 }
 
 /// Realistic decks of each size of the series.
@@ -80,7 +85,7 @@ pub fn series() -> Vec<(u32, Vec<Vec<u8>>)> {
         .to_vec()
 }
 
-/// 40 of the tests' small decks, those that are accepted, without option 4, which the original does not have.
+/// 40 of the tests' small decks, those that are accepted, without options 4 and 8, which the original does not have.
 fn small() -> Vec<Vec<u8>> {
     let mut rng = Random::new(1);
     let mut decks = Vec::new();
@@ -96,7 +101,7 @@ fn small() -> Vec<Vec<u8>> {
 
 #[cfg(test)]
 mod tests {
-    use super::{AXIOMS, SEEDS, realistic};
+    use super::{AXIOMS, Known, SEEDS, inverse_chain, realistic};
 
     #[test]
     fn realistic_decks_rise_from_38_to_55_kilobytes() {
@@ -106,5 +111,29 @@ mod tests {
         for pair in sizes.windows(2) {
             assert!(pair[0] < pair[1] && pair[1] - pair[0] < 2_000);
         }
+    }
+
+    /// With option 8 every role of the chain becomes its last one: the first takes all steps there are.
+    #[test]
+    fn one_chain_has_1_023_steps() {
+        let [one_step, followed] = [3, 11].map(|options| {
+            let known = Known::of(&inverse_chain(options));
+            let roles = known.listing.clauses.into_iter().flat_map(|clause| {
+                let atoms = clause.body.into_iter().chain(clause.head);
+                atoms.filter(|atom| atom[0] == 2).map(|atom| atom[1] / 2)
+            });
+            let mut roles: Vec<u32> = roles.collect();
+            roles.sort_unstable();
+            roles.dedup();
+            assert_eq!(known.deck.axioms.len(), 1_024);
+            roles
+        });
+        assert!(one_step.len() > 10);
+        assert_eq!(followed, [1_023]);
+        let run = oracle::run(
+            &deck::read(&inverse_chain(11)).unwrap(),
+            &super::Limits::LARGEST,
+        );
+        assert_eq!(run.steps, 1_023);
     }
 }

@@ -24,6 +24,10 @@ impl Draft {
         }
     }
 
+    pub fn set_options(&mut self, options: u32) {
+        self.deck.options = options;
+    }
+
     pub fn bytes(&self) -> Vec<u8> {
         deck::write(&self.deck)
     }

@@ -83,6 +83,31 @@ pub fn visits_in_heads() -> Vec<u8> {
     draft.bytes()
 }
 
+/// 1,024 roles in one chain of inverse declarations, each of which makes an entry; and one inclusion over roles of all its parts,
+/// the last axiom that a deck may have.
+pub fn inverse_chain(options: u32) -> Vec<u8> {
+    let mut draft = Draft::new(16, 0, 1_024);
+    draft.set_options(options);
+    let somes: Vec<u32> = (0..7)
+        .map(|place| {
+            let filler = draft.class(place);
+            draft.some(2 * 170 * place, filler)
+        })
+        .collect();
+    let alls: Vec<u32> = (0..7)
+        .map(|place| {
+            let filler = draft.class(8 + place);
+            draft.all(2 * (170 * place + 1) + 1, filler)
+        })
+        .collect();
+    let (sub, sup) = (draft.and(&somes), draft.and(&alls));
+    for role in 0..1_023 {
+        draft.axiom(Axiom::Inverse(2 * (role + 1), 2 * role));
+    }
+    draft.below(sub, sup);
+    draft.bytes()
+}
+
 /// 64 wide bodies for each axiom: seven branches that all share, and one of 64 different ones below a role of the axiom's
 /// own, or below a shared role.
 pub fn wide(axioms: u32, own_roles: bool) -> Vec<u8> {

@@ -143,7 +143,9 @@ fn measure_kinds(settings: &Settings, counter: Option<Counter>) -> Outcome<Vec<R
         eprintln!("{}", kind.name);
         let mut row = Row::of(kind.name, settings.build, &kind.decks, settings.rounds);
         if let Some(counter) = counter {
-            row.count(counter, Way::shown(ours::MEASURED), &[&kind.decks[0]])?;
+            let ways = Way::shown(ours::MEASURED).into_iter();
+            let ways: Vec<Way> = ways.filter(|&way| row.decks[0].has(way)).collect();
+            row.count(counter, ways, &[&kind.decks[0]])?;
         }
         rows.push(row);
     }

@@ -198,7 +198,8 @@ impl Report {
         if self.ours {
             write!(
                 page,
-                "Gorvask's clauses and statistics are first compared with the Rust's. "
+                "Gorvask's clauses and statistics are first compared with the Rust's; of a deck with option 8, which the Rust has \
+                 not, with those of its instrumented copy, and nothing stands beside its times. "
             )?;
         }
         let [plain, lto] = self.runs;
@@ -263,7 +264,7 @@ impl Report {
             "in the runs",
         ];
         table_head(page, &head)?;
-        for kind in &self.kinds {
+        for kind in self.kinds.iter().filter(|kind| kind.has(Way::Rust)) {
             let mut cells = vec![kind.name().to_owned()];
             for by in [Way::Rust, Way::RustAlone] {
                 let row = kind.shown(by);
@@ -435,10 +436,17 @@ impl Report {
             .filter(|_| self.ours)
             .chain([Way::Rust, Way::RustAlone, Way::RustReading]);
         cells.extend(ways.map(|way| {
+            if !kind.has(way) {
+                return "–".to_owned();
+            }
             let row = kind.shown(way);
             let in_runs = runs(row.time_in_runs(way));
             format!("{} ({in_runs})", figure(row.time(way).median))
         }));
+        if !kind.has(Way::Rust) {
+            cells.extend(["–"; 3].map(str::to_owned));
+            return cells;
+        }
         cells.push(percent(row.ratio(Way::RustReading, Way::Rust).median));
         let builds = [Way::Rust, Way::RustAlone].map(|way| kind.shown(way).build.name());
         cells.extend(builds.map(str::to_owned));

@@ -202,13 +202,18 @@ impl Builds {
         &self.0[0].name
     }
 
+    /// Whether this way was timed.
+    pub fn has(&self, way: Way) -> bool {
+        self.0[0].decks.iter().all(|deck| deck.has(way))
+    }
+
     /// The build whose figures of a way are shown: of Rust alone the one in which that takes less time, of all else the one in
-    /// which Rust does.
+    /// which Rust does, or where Rust was not timed Gorvask.
     pub fn shown(&self, way: Way) -> &Row {
-        let by = if way == Way::RustAlone {
-            way
-        } else {
-            Way::Rust
+        let by = match way {
+            _ if !self.has(Way::Rust) => Way::Gorvask,
+            Way::RustAlone => way,
+            _ => Way::Rust,
         };
         self.quickest(by)
     }
@@ -247,7 +252,7 @@ impl Measured {
         let mut deck = Prepared::new(bytes);
         deck.compare();
         let facts = Facts::of(bytes, &known, deck.lent());
-        let ways = Way::timed().into_iter().map(|way| (way, rounds));
+        let ways = deck.ways().into_iter().map(|way| (way, rounds));
         let times = Times::of(ways, |way, calls, cost| deck.time(way, calls, cost));
         Self {
             facts,

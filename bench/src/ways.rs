@@ -8,6 +8,7 @@ use rustdl::clause::{ClauseStats, DlClause, clausify_with_stats};
 use rustdl::ontology::InternalOntology;
 
 use crate::clock;
+use crate::decks::Known;
 use crate::ours::{self, Ours, Words};
 use crate::sessions::Call;
 
@@ -168,19 +169,36 @@ impl<'d> Prepared<'d> {
         self.ours.lent()
     }
 
+    /// What is timed of the deck: of one with option 4 or 8, which the Rust has not, Gorvask alone.
+    pub fn ways(&self) -> Vec<Way> {
+        let mut ways = Way::timed();
+        ways.retain(|way| self.options < 4 || !Way::RUST.contains(way));
+        ways
+    }
+
+    /// The Rust's clauses and statistics, with option 4 or 8 those of its instrumented copy.
+    fn of_rust(&self) -> (Vec<Clause>, [u32; 8]) {
+        if self.options >= 4 {
+            let listing = Known::of(self.bytes).listing;
+            return (listing.clauses, listing.stats);
+        }
+        set_environment(self.options);
+        let (clauses, stats) = clausify_with_stats(&self.ontology);
+        let clauses = clauses.iter().map(unmodified::clause);
+        (clauses.collect(), unmodified::stats(&stats))
+    }
+
     /// Compares Gorvask's clauses and statistics with the Rust's.
     ///
     /// # Panics
     /// If they differ.
     pub fn compare(&mut self) {
-        set_environment(self.options);
-        let (clauses, stats) = clausify_with_stats(&self.ontology);
-        let clauses: Vec<Clause> = clauses.iter().map(unmodified::clause).collect();
+        let (clauses, stats) = self.of_rust();
         let words: Vec<Words<'_>> = clauses
             .iter()
             .map(|clause| (&clause.body[..], &clause.head[..]))
             .collect();
-        let same = self.ours.has(self.bytes, &words, unmodified::stats(&stats));
+        let same = self.ours.has(self.bytes, &words, stats);
         assert!(same, "Gorvask's clauses differ from the Rust's");
     }
 

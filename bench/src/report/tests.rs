@@ -260,3 +260,32 @@ fn much_other_work_is_told() {
         "other work took 5.3 % of the processors' time in a run, and 2 % is the most"
     ));
 }
+
+/// A deck with option 8 has Gorvask's times alone, and no ratio.
+#[test]
+fn without_the_rust_its_cells_are_empty() {
+    let text = format!(
+        "run\tplain\t1\t0.0\tperf\nrow\tfollowed\ndeck\t1000\t0\t2\t3\t4\t5\t6\t7\ntime\tGorvask\t2\n\
+         time\tGorvask, first call\t4\ntime\tclearing tables\t0.125\ntime\tclearing scratch\t0.25\n{}",
+        run("plain", 0.0, [2.0, 1.5], Some(1.0))
+            .text()
+            .split_once("\n")
+            .expect("lines")
+            .1
+    );
+    let run = Run::of(&text).expect("a run");
+    let page = Report::of("a day", "a machine", "tools", vec![run]).page();
+    let times = cells(&page, "Times");
+    for (name, cell) in [
+        ("deck", "followed"),
+        ("Gorvask, ms", "2.00 (2.00 to 2.00)"),
+        ("Rust, ms", "–"),
+        ("their share of Rust", "–"),
+        ("Rust alone's build", "–"),
+    ] {
+        has(&times, name, cell);
+    }
+    has(&cells(&page, "Gorvask by Rust"), "deck", REALISTIC);
+    let clearing = cells(&page, "Memory and clearing");
+    has(&clearing, "Gorvask without clearing, ms", "1.62");
+}
