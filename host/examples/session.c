@@ -60,7 +60,7 @@ int main(void)
     strike(5);
     print("add", gorvask_session_add(
                      (const uint8_t *)line, strlen(line), session, sizeof session, scratch, sizeof scratch));
-    print("options", gorvask_session_options(8, session, sizeof session, scratch, sizeof scratch));
+    print("options", gorvask_session_options(16, session, sizeof session, scratch, sizeof scratch));
     take();
     /* The live deck is the session's text, behind the word with its length. */
     fwrite(session + 4, 1, gorvask_word(session, 0), stdout);

@@ -130,7 +130,7 @@ uint64_t gorvask_session_strike(
     uint8_t *session, size_t session_len,
     uint8_t *scratch, size_t scratch_len);
 
-/* Changes the options of the live deck. 4 at line 1 above 7. */
+/* Changes the options of the live deck. 4 at line 1 above 15. */
 uint64_t gorvask_session_options(
     uint32_t options,
     uint8_t *session, size_t session_len,
@@ -220,7 +220,7 @@ enum gorvask_refusal {
     GORVASK_WRONG_SIZE = 1,     /* a lent table has the wrong size, or a session holds no good deck: see above (line 0) */
     GORVASK_BAD_COLUMNS = 2,    /* the deck exceeds 65,536 bytes (line 0), or the line breaks the column layout */
     GORVASK_BAD_LINE = 3,       /* unknown kind, too few or too many fields, out of section order; or an empty deck */
-    GORVASK_PAST_LIMIT = 4,     /* over 4,096 classes, 4,096 individuals, 1,024 roles, options 7, lists of 128,
+    GORVASK_PAST_LIMIT = 4,     /* over 4,096 classes, 4,096 individuals, 1,024 roles, options 15, lists of 128,
                                    1,024 concepts or 1,024 axioms */
     GORVASK_UNDECLARED = 5,     /* a class, individual, role or concept that the deck does not declare */
     GORVASK_BAD_NESTING = 6,    /* a concept that names itself or a later one, or nests deeper than 64 */

@@ -149,7 +149,7 @@ fn a_refused_change_is_told_and_leaves_the_session() {
         let found = diagnose_strike(session.text(), at);
         assert_told(session.strike(at), found, (15, 0));
     }
-    for options in [8, 12, u32::MAX] {
+    for options in [16, 20, u32::MAX] {
         let found = diagnose_options(session.text(), options);
         assert_told(session.options(options), found, (4, 1));
     }

@@ -168,9 +168,9 @@ fn each_call_leaves_the_live_deck_and_zeros() {
         (Ask::Options(0), live(0, &[SUB, APART, SUB])),
         (Ask::Strike(5), live(0, &[APART, SUB])),
         (Ask::Strike(6), live(0, &[APART])),
-        (Ask::Options(7), live(7, &[APART])),
-        (Ask::Strike(5), live(7, &[])),
-        (Ask::Add(&line(SUB)), live(7, &[SUB])),
+        (Ask::Options(15), live(15, &[APART])),
+        (Ask::Strike(5), live(15, &[])),
+        (Ask::Add(&line(SUB)), live(15, &[SUB])),
         (Ask::Start(&live(2, &[])), live(2, &[])),
     ] {
         assert_eq!(lent.call(ask), (0, 0), "{ask:?}");
@@ -223,7 +223,7 @@ fn a_refused_change_leaves_every_byte() {
     for at in [0, 1, 2, 4, 6, u32::MAX] {
         lent.assert_refused(Ask::Strike(at), 15, 0);
     }
-    for options in [8, u32::MAX] {
+    for options in [16, u32::MAX] {
         lent.assert_refused(Ask::Options(options), 4, 1);
     }
 }
@@ -273,7 +273,7 @@ fn damaged() -> Vec<Vec<u8>> {
         with(4 + worked().len(), b' '),
         with(SESSION_BYTES - 1, 1),
         stored(&worked()[..57]),
-        stored(&live(8, &[SUB])),
+        stored(&live(16, &[SUB])),
         stored(&live(3, &[&[21, 0, 3]])),
         past,
     ]
@@ -291,7 +291,7 @@ fn a_session_that_holds_no_deck_is_refusal_1() {
             Ask::Strike(5),
             Ask::Strike(0),
             Ask::Options(3),
-            Ask::Options(9),
+            Ask::Options(17),
         ] {
             lent.assert_refused(ask, 1, 0);
         }

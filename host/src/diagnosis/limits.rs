@@ -12,7 +12,7 @@ const LIST: usize = 128;
 /// Concept lines, and axiom lines.
 const LINES: usize = 1_024;
 /// The header's classes, individuals, roles and options.
-const COUNTS: [u32; 4] = [4_096, 4_096, 1_024, 7];
+const COUNTS: [u32; 4] = [4_096, 4_096, 1_024, 15];
 
 /// A deck of so many bytes, which is refusal 2.
 pub(super) fn too_long(bytes: usize) -> Fault {

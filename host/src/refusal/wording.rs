@@ -20,7 +20,7 @@ pub const OF_NUMBERS: [[&str; 2]; 15] = [
         "correct the kind, count the numbers, move the line",
     ],
     [
-        "a limit is passed: 4,096 classes, 4,096 individuals, 1,024 roles, options 7, 128 entries in a list, 1,024 \
+        "a limit is passed: 4,096 classes, 4,096 individuals, 1,024 roles, options 15, 128 entries in a list, 1,024 \
          concepts, 1,024 axioms",
         "split the list or the deck",
     ],

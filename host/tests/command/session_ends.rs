@@ -51,7 +51,7 @@ const REFUSED: &[(&str, u32, u32, &str)] = &[
         0,
         "there is no axiom on line 6: the last line is 5, and the one axiom stands on line 5",
     ),
-    ("options 8", 4, 1, "column 55: options 8; 7 is the most"),
+    ("options 16", 4, 1, "column 54: options 16; 15 is the most"),
     (
         "add examples/junction.deck",
         3,

@@ -18,7 +18,7 @@ fn the_header() {
             [0, 0, 0, 1_025, 0],
             "column 41: roles 1025; 1024 is the most",
         ),
-        ([0, 0, 0, 0, 8], "column 55: options 8; 7 is the most"),
+        ([0, 0, 0, 0, 16], "column 54: options 16; 15 is the most"),
     ];
     for (header, words) in cases {
         assert_rows(&[&header], 4, &format!("line 1, {words}"));

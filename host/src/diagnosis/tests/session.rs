@@ -19,7 +19,7 @@ fn what_is_done_has_no_diagnosis() {
     let live = deck(&WORKED);
     assert_eq!(diagnose_add(&live, &deck(&[[21, 0, 1]])), None);
     assert_eq!(diagnose_strike(&live, 5), None);
-    assert_eq!(diagnose_options(&live, 7), None);
+    assert_eq!(diagnose_options(&live, 15), None);
 }
 
 #[test]
@@ -109,8 +109,8 @@ fn where_no_axiom_is_struck() {
 #[test]
 fn options_past_the_limit() {
     let live = deck(&WORKED);
-    for (options, column) in [(8, 55), (4_294_967_295, 46)] {
-        let words = format!("line 1, column {column}: options {options}; 7 is the most");
+    for (options, column) in [(16, 54), (4_294_967_295, 46)] {
+        let words = format!("line 1, column {column}: options {options}; 15 is the most");
         assert_eq!(told(diagnose_options(&live, options)), (4, words));
     }
 }
