@@ -9,7 +9,7 @@ pub mod numbers;
 pub mod table;
 pub mod write;
 
-ghost use Rattle.std.specs.Prelude.{◌≡◌, ℕ, ◌+◌, ◌*◌, ◌<◌, ◌≤◌, length};
+ghost use Rattle.std.specs.Prelude.{◌≡◌, ℕ, ◌+◌, ◌*◌, ◌<◌, ◌≤◌, length, OnErr};
 ghost use Rattle.words.specs.Words.{words};
 ghost use Rattle.ir.specs.Scratch.{axioms_at, hands_at};
 ghost use Rattle.rules.specs.State.{Env, Out};
@@ -27,16 +27,19 @@ use ir::answer::Alternatives;
 use ir::counters::Counters;
 use ir::refusal::Refusal;
 
-// How many alternatives an antecedent has, and the longest one's length.
+// How many alternatives an antecedent has, and the longest one's length. A refusal leaves the counters as they were.
 pub fn encode_antecedent(
     scratch: &[u8],
     k: &mut Counters,
     c: u32,
 ) -> Result<Option<Alternatives>, Refusal>
     requires { Ready scratch.now k.old × (c < k.old.concepts) × Good k.old }
-    ensures { ((env : Env) (f v : ℕ) (s : Out) → c < f → Counted k.old s → (encoded k.new result) ≡ summary k.old (encode_by env (pool_of (words scratch.now) k.old.concepts) f c v s)) × GoodEncoded (encoded k.new result) }
+    ensures { ((env : Env) (f v : ℕ) (s : Out) → c < f → Counted k.old s → (encoded k.new result) ≡ summary k.old (encode_by env (pool_of (words scratch.now) k.old.concepts) f c v s)) × GoodEncoded (encoded k.new result) × OnErr result (k.new ≡ k.old) }
 {
-    count::encode_antecedent(scratch, k, c)
+    let mut counted = *k;
+    let found = count::encode_antecedent(scratch, &mut counted, c)?;
+    *k = counted;
+    Ok(found)
 }
 
 // Fills the rows of the concepts from `from` on.

@@ -1,5 +1,5 @@
 // The Rust's `&mut Clausifier` but for its tables.
-ghost use Rattle.std.specs.Prelude.{◌≡◌, ◌+◌, ◌<◌, ◌^◌, IfErr};
+ghost use Rattle.std.specs.Prelude.{◌≡◌, ◌+◌, ◌<◌, ◌^◌, IfErr, OnErr};
 ghost use Rattle.ir.specs.Visit.{visit_of};
 ghost use Rattle.ir.specs.Counts.{visited, fresh_var, fresh_class, deferred_once, pushed, interned, at_line, vars_restarted};
 
@@ -32,6 +32,7 @@ impl Counters {
     pub fn visit(&mut self) -> Result<(), Refusal>
         ensures self_after { visit_of self.new result ≡ visited self.old }
         ensures spent { IfErr result (λ e. e ≡ Refusal.VisitsSpent) }
+        ensures kept { OnErr result (self.new ≡ self.old) }
     {
         if self.visits < self.limit {
             self.visits += 1;

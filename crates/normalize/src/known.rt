@@ -1,7 +1,7 @@
 // Normal forms that are known: for each concept, and for its negation, one word: 0, or the id of its normal form and, times
 // 2,048, the visits that made it. Made again, in a pool that has only grown, it takes as many visits and makes nothing.
 // Clauses that repeat stay clauses: each function asks for the length that it reads.
-ghost use Rattle.std.specs.Prelude.{◌≡◌, ◌+◌, ◌*◌, ◌≤◌, ◌<◌, length, get_or};
+ghost use Rattle.std.specs.Prelude.{◌≡◌, ◌+◌, ◌*◌, ◌≤◌, ◌<◌, length, get_or, OnErr};
 ghost use Rattle.words.specs.Words.{words};
 ghost use Rattle.ir.specs.Scratch.{hands_at};
 ghost use Rattle.normalize.specs.Known.{form_at, read_form, revisited, kept_form};
@@ -48,7 +48,8 @@ pub fn form_of(scratch: &[u8], c: u32, negated: bool) -> Option<Form>
 
 // A normal form that is known, after its visits.
 pub fn revisit(k: &mut Counters, form: Form) -> Result<u32, Refusal>
-    ensures { (answer k.new result) ≡ revisited k.old form }
+    ensures answered { (answer k.new result) ≡ revisited k.old form }
+    ensures kept { OnErr result (k.new ≡ k.old) }
 {
     let visits = k.visits as usize + form.visits as usize;
     if visits > k.limit as usize {

@@ -23,7 +23,7 @@ normal-returns-in-Some t c =
     let w = words c.args.scratch.now in
     let known : Known w c.args.k.now.concepts = rw c.if-not-memo.false at c.requires.1 in
     let S = settled c.args.negated c.args.c c.in-Some.form w c.args.k.now.concepts known (omega (arith, P.held, P.ready.held.few)) (sym c.in-Some.is ∙ c.form_of.ensures) in
-    let e = c.revisit.ensures in
+    let e = c.revisit.ensures.answered in
     record {
       by_index = λ f l. rw e (revisited_told P.bounds w c.args.k.now P.ready.held P.wf c.args.negated c.args.c c.in-Some.form P.held S f l);
       held_after = rw e (revisited_held P.bounds w c.args.k.now P.ready.held P.wf c.args.negated c.args.c c.in-Some.form P.held S);
