@@ -2,7 +2,7 @@
 // number that it is in a deck: the rules' `concept_of` and `axiom_of` are by number too.
 ghost use Rattle.std.specs.Prelude.{◌≡◌, ◌&&◌};
 ghost use Rattle.rules.specs.Deck.{section_of, fixed_of, is_list_kind, in_order, fields_ok};
-ghost use Rattle.deck.specs.Records.{section_number, first_part};
+ghost use Rattle.deck.specs.Records.{section_number, section_code, first_part};
 ghost use Rattle.deck.specs.Kinds.{Says};
 
 use crate::state::Section;
@@ -269,12 +269,12 @@ pub fn first_part(kind: usize) -> usize
 }
 
 // The header comes first and once.
-fn in_order(old: Option<Section>, new: Section) -> bool
-    ensures { result ≡ in_order (section_number old) (section_number (Some new)) }
+fn in_order(old: usize, new: Section) -> bool
+    ensures { result ≡ in_order old (section_code new) }
 {
     match new {
-        Section::Header => old.is_none(),
-        _ => old.is_some_and(|old| old <= new),
+        Section::Header => old == 0,
+        _ => 1 <= old && old <= new as usize,
     }
 }
 
@@ -289,8 +289,9 @@ fn fields_fine(kind: usize, n: usize) -> bool
     }
 }
 
-pub fn shape(old: Option<Section>, kind: usize, n: usize) -> bool
-    ensures { result ≡ (in_order (section_number old) (section_of kind) && fields_ok kind n) }
+// Check 3 of a line of n numbers, behind one of section `old`, which may be any number; 0 where there is none.
+pub fn shape(old: usize, kind: usize, n: usize) -> bool
+    ensures { result ≡ (in_order old (section_of kind) && fields_ok kind n) }
 {
     match section_of(kind) {
         Some(new) => in_order(old, new) && fields_fine(kind, n),

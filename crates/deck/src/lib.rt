@@ -29,7 +29,7 @@ pub fn line_verdict(row: &Row, st: State) -> Result<(), Refusal>
     ensures fields { verdict_number result ≡ 0 → fields_ok (get_or (numbers row.now) 0 0) row.now.line.fields ≡ true }
 {
     let kind = row.entry(0);
-    if !kinds::shape(st.section, kind, row.line.fields) {
+    if !kinds::shape(state::number(st.section), kind, row.line.fields) {
         return Err(Refusal::BadLine);
     }
     if !limits::limits(row, kind, st) {
