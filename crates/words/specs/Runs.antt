@@ -19,6 +19,16 @@ module _ {ℓ} {A : Type ℓ} where
   sets_append [] vs l i = let e : i + 0 ≡ i = omega arith in rw e refl
   sets_append (u ∷ us) vs l i = let e : i + suc (length us) ≡ suc i + length us = omega arith in rw e (sets_append us vs (set l i u) (suc i))
 
+  -- stores one after the other
+  pub two_stores : (w w₁ w₂ : List A) (i : ℕ) (a b : A) → w₁ ≡ set w i a → w₂ ≡ set w₁ (i + 1) b → w₂ ≡ sets w i (a ∷ b ∷ [])
+  two_stores w w₁ w₂ i a b e f = let x : i + 1 ≡ suc i = omega arith in f ∙ rw (e, x) refl
+
+  pub three_stores : (w w₁ w₂ w₃ : List A) (i : ℕ) (a b c : A) → w₁ ≡ set w i a → w₂ ≡ set w₁ (i + 1) b → w₃ ≡ set w₂ (i + 2) c → w₃ ≡ sets w i (a ∷ b ∷ c ∷ [])
+  three_stores w w₁ w₂ w₃ i a b c e f g =
+      let x : i + 1 ≡ suc i = omega arith in
+      let y : i + 2 ≡ suc (suc i) = omega arith in
+      g ∙ rw (f, e, x, y) refl
+
   -- the first store, made last
   pub sets_cons : (vs l : List A) (i j : ℕ) (a : A) → i < j → set (sets l j vs) i a ≡ sets (set l i a) j vs
   sets_cons [] l i j a h = refl
