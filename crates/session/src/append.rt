@@ -51,7 +51,7 @@ fn put_behind(text: &[u8], session: &mut [u8])
 {
     let n = form::length(session);
     let at = 4 + n;
-    session[at..at + text.len()].copy_from_slice(text);
+    words::copy(&mut session[at..at + text.len()], text);
     form::put_length(session, n + text.len());
 }
 

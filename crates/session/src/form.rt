@@ -81,5 +81,5 @@ pub fn store(deck: &[u8], session: &mut [u8])
 {
     words::clear(session);
     put_length(session, deck.len());
-    session[4..4 + deck.len()].copy_from_slice(deck);
+    words::copy(&mut session[4..4 + deck.len()], deck);
 }

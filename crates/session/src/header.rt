@@ -41,7 +41,7 @@ fn put_header(header: &[u8], session: &mut [u8])
     requires { (session.old ≡ stored (deck_in session.old)) × (length header.now ≤ length (deck_in session.old)) }
     ensures { session.new ≡ stored (header.now ++ drop (length header.now) (deck_in session.old)) }
 {
-    session[4..4 + header.len()].copy_from_slice(header);
+    words::copy(&mut session[4..4 + header.len()], header);
 }
 
 pub fn put(options: u32, session: &mut [u8], scratch: &mut [u8]) -> Result<(), Refused>

@@ -56,13 +56,24 @@ pub fn clear_words(s: &mut [u8], at: usize, n: usize)
     s[4 * at..4 * (at + n)].fill(0);
 }
 
+// The bytes of `run`. A loop: std's copy_from_slice is a call of memmove where the length is not known before, and an archive for C would
+// need that from outside.
+pub fn copy(s: &mut [u8], run: &[u8])
+    requires { length s.old ≡ length run.now }
+    ensures { s.new ≡ run.now }
+{
+    for i in 0..run.len() {
+        s[i] = run[i];
+    }
+}
+
 // The words of another table's part, from word `at` on.
 pub fn copy_words(s: &mut [u8], at: usize, run: &[u8])
     requires { (4 * at + length run.now ≤ length s.old) × (length run.now % 4 ≡ 0) }
     ensures { words s.new ≡ sets (words s.old) at (words run.now) }
 {
     let to = 4 * at;
-    s[to..to + run.len()].copy_from_slice(run);
+    copy(&mut s[to..to + run.len()], run);
 }
 
 // n words from `from` on become those from `to` on, as they were; the two runs may overlap.

@@ -12,6 +12,6 @@ returns c =
     let a = c.args in
     let b = c.requires in
     let run = a.run.now in
-    rw c.copy_from_slice.ensures.after (
+    rw c.copy.ensures (
     ap words (back_part (4 * a.at) (4 * a.at + length run) a.s.now run (omega arith) b.0 (omega arith)) ∙ words_sets a.s.now run a.at b.1 b.0
     )

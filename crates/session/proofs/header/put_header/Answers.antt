@@ -8,13 +8,13 @@ use Rattle.session.proofs.header.put_header.Goals as goal
 room : (s h : List ℕ) → s ≡ stored (deck_in s) → length h ≤ length (deck_in s) → 4 + length h ≤ length s
 room s h e l = let r = stored_room (deck_in s) in omega (arith, ap length e)
 
-pub slice_bounds-copy_from_slice-end : goal.slice_bounds-copy_from_slice-end
-slice_bounds-copy_from_slice-end c = room c.args.session.now c.args.header.now c.requires.0 c.requires.1
+pub slice_bounds-copy-end : goal.slice_bounds-copy-end
+slice_bounds-copy-end c = room c.args.session.now c.args.header.now c.requires.0 c.requires.1
 
 pub returns : goal.returns
 returns c =
     let s = c.args.session.now in
     let h = c.args.header.now in
     let r = room s h c.requires.0 c.requires.1 in
-    rw c.copy_from_slice.ensures.after
+    rw c.copy.ensures
     (back_part 4 (4 + length h) s h (omega arith) r (omega arith) ∙ ap (λ (t : List ℕ). sets t 4 h) c.requires.0 ∙ stored_part h (deck_in s) c.requires.1)
