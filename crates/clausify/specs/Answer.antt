@@ -1,10 +1,13 @@
--- The parts of the entries: what they ask and promise of the tables.
+-- The parts of the entries: what they ask and promise of the tables, and a reply's count.
 use Rattle.std.specs.Prelude.{◌≡◌, Bool, true, false, List, [], ◌∷◌, ℕ, length, replicate}
 use Rattle.ir.specs.declared.counters.Counters.{Counters}
 use Rattle.rules.specs.State.{Rooms}
 use Rattle.rules.specs.Run.{Lengths, Accepted, Outcome, refused, clause_table, atom_table, deferral_table}
 use Rattle.statistics.specs.declared.ClauseStats.{ClauseStats}
 use Rattle.clausify.specs.Reply.{Reply}
+use Rattle.clausify.specs.Reply as Replies
+use Rattle.clausify.specs.Clausified.{Clausified}
+use Rattle.clausify.specs.Clausified as Counts
 use Rattle.run.specs.Ran.{Left}
 use Rattle.clausify.specs.Entry.{reply_of}
 
@@ -27,6 +30,11 @@ pub record Answered (o : Outcome) (t : Lengths) (r : Reply) (c a d : List ℕ) :
   pub clauses : c ≡ clause_table t o
   pub atoms : a ≡ atom_table t o
   pub deferrals : d ≡ deferral_table t o
+
+-- a reply's number of clauses
+abbrev pub count_of_reply : Reply → Clausified
+count_of_reply (Replies.Accepted s fresh_ids visits) = Counts.Accepted s.total
+count_of_reply (Replies.Refused n line) = Counts.Refused n line
 
 -- a run beside one table more: 1 where that does not fit
 abbrev pub run_if : Bool → Outcome → Outcome

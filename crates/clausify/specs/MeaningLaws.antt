@@ -13,8 +13,8 @@ use Rattle.meaning.proofs.Theorem.{demand_three_first, demand_three_second}
 use Rattle.meaning.proofs.SettledNames.{settled_names, names_of_axiom}
 use Rattle.clausify.specs.Reply.{Reply}
 use Rattle.clausify.specs.Clausified.{Clausified}
-use Rattle.clausify.specs.Entry.{count_of, Names, Meaning, Meant, MeantCount}
-use Rattle.clausify.specs.Answer.{Answered}
+use Rattle.clausify.specs.Entry.{reply_of, count_of, Names, Meaning, Meant, MeantCount}
+use Rattle.clausify.specs.Answer.{Answered, count_of_reply}
 use Rattle.clausify.specs.RunTabled.{run_read_lem}
 
 -- ---- the names of at-most fillers
@@ -41,6 +41,11 @@ run_meaning deck t x c a q e f =
       second = subst (λ (l : List (Option Clause)). SecondHalf d x.fresh_ids x.stats.deferred l) same (demand_three_second deck t d x R.1 q);
       names = run_names deck d (left_clauses x.stats.total c a);
     }
+
+-- ---- an outcome's count
+pub count_of_lem : (o : Outcome) → count_of_reply (reply_of o) ≡ count_of o
+count_of_lem (accepted x) = refl
+count_of_lem (refused n line) = refl
 
 -- ---- demand 3, by the reply and by the count
 module _ (deck : List ℕ) (t : Lengths) (c a d : List ℕ) (r : Reply) where

@@ -12,6 +12,7 @@ ghost use Rattle.std.specs.Prelude.{◌≡◌};
 ghost use Rattle.rules.specs.Run.{Run, clause_table, atom_table, deferral_table, scratch_table};
 ghost use Rattle.clausify.specs.Reply.{told_reply};
 ghost use Rattle.clausify.specs.Clausified.{told_count};
+ghost use Rattle.clausify.specs.Answer.{count_of_reply};
 ghost use Rattle.clausify.specs.Entry.{lent, reply_of, count_of, Meant, MeantCount};
 
 use ir::answer::Refused;
@@ -58,6 +59,9 @@ pub fn clausify(
     ensures reply { let t = lent clauses.old atoms.old deferrals.old scratch.old in
         let o = Run deck.now t in
         told_count result ≡ count_of o }
+    ensures counted { let t = lent clauses.old atoms.old deferrals.old scratch.old in
+        let o = Run deck.now t in
+        told_count result ≡ count_of_reply (reply_of o) }
     ensures clauses { let t = lent clauses.old atoms.old deferrals.old scratch.old in
         let o = Run deck.now t in
         clauses.new ≡ clause_table t o }
