@@ -5,7 +5,7 @@ use Rattle.std.proofs.Common.{sym, ap, ◌∙◌, arith, add-one, length-drop, l
 use Rattle.std.proofs.lemmas.List.{take-set-le, drop-set-add}
 use Rattle.ir.specs.Pick.{pick}
 use Rattle.rules.specs.Base.{contains}
-use Rattle.rules.specs.Branches.{place_in, place_of}
+use Rattle.rules.specs.Branches.{place_in, place_of, met_with}
 use Rattle.rules.specs.DeckLaws.{same_eqb}
 use Rattle.branches.specs.Renumbered.{run, Met}
 
@@ -39,6 +39,24 @@ place_out (u ∷ met) v e = rw (same_eqb u v) (go (eqb v u) e (place_out met v))
     go : (b : Bool) → (b || contains met v) ≡ false → (contains met v ≡ false → place_of met v ≡ length met) → place_in b (place_of met v) ≡ suc (length met)
     go true h f = absurd (let z : ◌≡◌ {A = ℕ} 0 1 = ap (λ (t : Bool). pick t 0 1) h in omega arith)
     go false h f = let k = f h in omega arith
+
+-- the same place in a longer list
+place_more : (met l : List ℕ) (v : ℕ) → contains met v ≡ true → place_of (met ++ l) v ≡ place_of met v
+unfolding place_of
+place_more [] l v e = absurd (let z : ◌≡◌ {A = ℕ} 0 1 = ap (λ (t : Bool). pick t 1 0) e in omega arith)
+place_more (u ∷ met) l v e = rw (same_eqb u v) (go (eqb v u) e (place_more met l v))
+  where
+    go : (b : Bool) → (b || contains met v) ≡ true → (contains met v ≡ true → place_of (met ++ l) v ≡ place_of met v) → place_in b (place_of (met ++ l) v) ≡ place_in b (place_of met v)
+    go true h f = refl
+    go false h f = ap suc (f h)
+
+-- after v is met, who was there is at the same place
+pub place_kept : (met : List ℕ) (u v : ℕ) → contains met u ≡ true → place_of (met_with met v) u ≡ place_of met u
+place_kept met u v e = go (contains met v)
+  where
+    go : (b : Bool) → place_of (pick b met (met ++ (v ∷ []))) u ≡ place_of met u
+    go true = refl
+    go false = place_more met (v ∷ []) u e
 
 -- ---- one variable more
 -- a word at or behind the end of a run, and at it
