@@ -1,6 +1,11 @@
--- Runs of words compared: bytes that are compared are words that are compared. Assumes nothing.
+-- Runs of words compared, word by word, or as bytes. Assumes nothing.
 use Rattle.std.specs.Prelude.{◌≡◌, refl, Bool, true, false, ◌&&◌, List, ℕ, ◌+◌, ◌*◌, ◌<◌, ◌≤◌, eqb, ltb, length, get_or, take, drop, bytes_eq}
-use Rattle.std.proofs.Common.{sym, ap, ap₂, ◌∙◌, arith, ltb-true, ltb-false, get_or-take, get_or-drop, length-drop, length-take-le, Decides}
+use Rattle.std.proofs.Common.{sym, subst, ap, ap₂, ◌∙◌, arith, ltb-true, ltb-false, get_or-take, get_or-drop, length-drop, length-take-le, Decides}
+use Rattle.std.specs.Bool.{MatchBool}
+use Rattle.std.specs.List.{range_with_len, AllWithin, HoldsAt}
+use Rattle.std.proofs.lemmas.Bool.{false≢true}
+use Rattle.std.proofs.lemmas.Grind.{same_number_lists}
+use Rattle.std.proofs.lemmas.List.FromFn.{length-range_with_len, get_or-range_with_len}
 use Rattle.std.proofs.Math.ListN.{length-take, get_or-eq_default}
 use Rattle.std.proofs.lemmas.Bool.Decides.{same_from_decides}
 use Rattle.std.proofs.lemmas.Slice.Eq.{bytes_eq-Decides, compares_Decides}
@@ -20,6 +25,48 @@ words_decide = compares_Decides same_words (record {
     pick_and : (a b : Bool) → pick a b false ≡ (a && b)
     pick_and true b = refl
     pick_and false b = refl
+
+-- n words of v from place i on, and of w from place j on
+module _ (v w : List ℕ) (i j : ℕ) where
+  abbrev pub Agree : ℕ → Type 0
+  Agree k = get_or v (i + k) 0 ≡ get_or w (j + k) 0
+
+  abbrev pub Differ : ℕ → Type 0
+  Differ k = Agree k → ⊥
+
+  pub same_by_places : (n : ℕ) → i + n ≤ length v → j + n ≤ length w → (b : Bool)
+      → MatchBool b (AllWithin Agree (range_with_len 0 n) 0 (length (range_with_len 0 n))) ((k : ℕ) × (k < length (range_with_len 0 n)) × HoldsAt Differ (range_with_len 0 n) k)
+      → b ≡ same_words (take n (drop i v)) (take n (drop j w))
+  same_by_places n fit_v fit_w b m = same_from_decides b (same_words xs ys) (decided b m) (words_decide xs ys)
+    where
+      xs : List ℕ
+      xs = take n (drop i v)
+
+      ys : List ℕ
+      ys = take n (drop j w)
+
+      long_x : length xs ≡ n
+      long_x = length-take-le n (drop i v) (omega (arith, length-drop i v))
+
+      long_y : length ys ≡ n
+      long_y = length-take-le n (drop j w) (omega (arith, length-drop j w))
+
+      at_x : (k : ℕ) → k < n → get_or xs k 0 ≡ get_or v (i + k) 0
+      at_x k h = get_or-take n (drop i v) k 0 h ∙ get_or-drop i v k 0
+
+      at_y : (k : ℕ) → k < n → get_or ys k 0 ≡ get_or w (j + k) 0
+      at_y k h = get_or-take n (drop j w) k 0 h ∙ get_or-drop j w k 0
+
+      nth : (k : ℕ) → k < n → get_or (range_with_len 0 n) k 0 ≡ k
+      nth k l = let z : 0 + k ≡ k = omega arith in get_or-range_with_len 0 n k 0 l ∙ z
+
+      decided : (b : Bool) → MatchBool b (AllWithin Agree (range_with_len 0 n) 0 (length (range_with_len 0 n))) ((k : ℕ) × (k < length (range_with_len 0 n)) × HoldsAt Differ (range_with_len 0 n) k) → Decides b (xs ≡ ys)
+      decided true f =
+          ((λ t. same_number_lists xs ys (long_x ∙ sym long_y) (λ k l. let q : k < n = omega (arith, long_x, l) in at_x k q ∙ subst Agree (nth k q) (f k 0 (omega arith) (rw (length-range_with_len 0 n) q)) ∙ sym (at_y k q))), (λ e. refl))
+      decided false p =
+          let q : p.0 < n = rw (length-range_with_len 0 n) at p.1 in
+          let differ : Differ p.0 = subst Differ (nth p.0 q) (p.2 0) in
+          ((λ t. absurd (false≢true t)), (λ e. absurd (differ (sym (at_x p.0 q) ∙ ap (λ (l : List ℕ). get_or l p.0 0) e ∙ at_y p.0 q))))
 
 bytes_part : (s : List ℕ) (p n : ℕ) → Bytes s → Bytes (take n (drop p s))
 bytes_part s p n B k = by (ltb k n) refl

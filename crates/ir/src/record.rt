@@ -173,10 +173,11 @@ pub fn get_atom(t: &[u8], i: usize) -> Option<Atom>
     decode(get_record(t, i))
 }
 
-// n words of s from word i on are those of t from word j on: the slices' bytes are compared.
+// n words of s from word i on are those of t from word j on. Word by word: most atoms that are compared differ in their first words, and
+// std compares slices by a call.
 pub fn same_words(s: &[u8], i: usize, t: &[u8], j: usize, n: usize) -> bool
     requires { (4 * (i + n) ≤ length s.now) × (4 * (j + n) ≤ length t.now) }
     ensures { result ≡ same_words (take n (drop i (words s.now))) (take n (drop j (words t.now))) }
 {
-    s[4 * i..4 * (i + n)] == t[4 * j..4 * (j + n)]
+    (0..n).all(|k| words::get_word(s, i + k) == words::get_word(t, j + k))
 }
