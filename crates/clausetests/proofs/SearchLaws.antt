@@ -1,6 +1,6 @@
 -- The search by the tables: one element more, the loop over the elements, the last variable. Assumes nothing.
 use mathlib.Core.Path.{◌≡◌, refl, sym, ap, subst, ◌∙◌}
-use mathlib.Core.Bool.{Bool, true, false, ◌&&◌}
+use mathlib.Core.Bool.{Bool, true, false, not, ◌&&◌}
 use mathlib.Core.List.{List, [], ◌∷◌}
 use mathlib.Core.Option.{Option, none, some}
 use Prim.Native.Nat.{ℕ, zero, suc, ◌+◌, ◌-◌, ◌<◌, ◌≤◌}
@@ -8,10 +8,12 @@ use native.Mathlib.Omega.{arith}
 use lib.ListN.{length, get_or, set, take, drop}
 use lib.Seq.{get_or-set_other}
 use Rattle.std.proofs.lemmas.List.{drop-set, get_or-set_same}
+use Rattle.std.proofs.lemmas.Bool.{false≢true}
 use lib.Dec.{eqb, ltb}
 use borrow.Author.Tests.{eq-eqb, ne_eqb, ltb-true, ltb-false}
 use Rattle.std.specs.Prelude as Code
 use Rattle.ir.specs.Pick.{pick}
+use Rattle.rules.specs.Base.{all}
 use Rattle.meaning.specs.Truth.{by_truth}
 use Rattle.states.specs.Conditions.{rises, or_else, behind, first_of}
 use Rattle.states.specs.Masks.{mask_of, mask_none}
@@ -64,14 +66,25 @@ module _ (n : ℕ) (two : ℕ → ℕ → ℕ → ℕ → Bool) (k j : ℕ) (F :
   unfolding rises
   scan_out x h i = let e : n - x ≡ 0 = omega arith in sym (i ∙ rw e refl)
 
+-- ---- a place that nothing fits
+none_where : (p : ℕ → Bool) (h : ℕ → Option (List ℕ)) (l : List ℕ) → all (λ x. not (p x)) l ≡ true → first_of (λ x. pick (p x) (h x) none) l ≡ none
+none_where p h [] e = refl
+none_where p h (x ∷ l) e = go (none_where p h l) (p x) e
+  where
+    go : (all (λ y. not (p y)) l ≡ true → first_of (λ y. pick (p y) (h y) none) l ≡ none) → (b : Bool) → not b && all (λ y. not (p y)) l ≡ true → or_else (pick b (h x) none) (first_of (λ y. pick (p y) (h y) none) l) ≡ none
+    go rest true e = absurd (false≢true e)
+    go rest false e = rest e
+
+pub none_fits : (n : ℕ) (two : ℕ → ℕ → ℕ → ℕ → Bool) (k j : ℕ) (F : ℕ → ℕ → Bool) (m : ℕ) → m ≡ mask_of n (F j) → m ≡ 0 → none ≡ search_by n two (suc k) j F
+unfolding search_by
+none_fits n two k j F m e z =
+    sym (none_where (F j) (λ x. behind x (search_by n two k (j + 1) (narrowed two j x F))) (rises 0 n) (sym (mask_none n (F j)) ∙ eq-eqb (mask_of n (F j)) 0 (sym e ∙ z)))
+
 -- ---- the last variable
 module _ (n : ℕ) (two : ℕ → ℕ → ℕ → ℕ → Bool) (j : ℕ) (F : ℕ → ℕ → Bool) where
   last : search_by n two 1 j F ≡ pick (eqb (mask_of n (F j)) 0) none (some (first_where (F j) (rises 0 n) ∷ []))
   unfolding search_by
   last = first_where_lem (F j) (λ x. x ∷ []) (rises 0 n) ∙ ap (λ b. pick {A = Option (List ℕ)} b none (some (first_where (F j) (rises 0 n) ∷ []))) (sym (mask_none n (F j)))
-
-  pub last_none : (m : ℕ) → m ≡ mask_of n (F j) → m ≡ 0 → none ≡ search_by n two 1 j F
-  last_none m e z = sym (last ∙ rw (eq-eqb (mask_of n (F j)) 0 (sym e ∙ z)) refl)
 
   pub last_some : (m x : ℕ) → m ≡ mask_of n (F j) → (m ≡ 0 → ⊥) → x ≡ first_where (F j) (rises 0 n) → some (x ∷ []) ≡ search_by n two 1 j F
   last_some m x e z q = sym (last ∙ rw (ne_eqb (mask_of n (F j)) 0 (λ w. z (e ∙ w)), ← q) refl)

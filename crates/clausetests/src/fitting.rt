@@ -31,17 +31,12 @@ pub enum Side {
     Head,
 }
 
-// The pairs of k places.
+// The pairs of k places. (A product: arms for each number of places would be gone through for each element of a search.)
 fn pairs(k: u32) -> usize
     requires { k ≤ 4 }
     ensures { (result ≡ pairs k) × (result ≤ 6) }
 {
-    match k {
-        0 | 1 => 0,
-        2 => 1,
-        3 => 3,
-        _ => 6,
-    }
+    (k * k - k) as usize / 2
 }
 
 // Where the sets of the places i and j begin.

@@ -1,5 +1,5 @@
-// The least elements that break a clause, by its tables. The last variable is one set; each one before it is a loop, of which the last has
-// a function of its own, without an array: it is what a test of many clauses does most.
+// The least elements that break a clause, by its tables. The last variable is one set; each one before it is a loop, of which the last two
+// have functions of their own, without an array: they are what a test of many clauses does most. A place that nothing fits has no loop.
 // Clauses that repeat stay clauses: each function asks for the length that it reads; a type with a number's bound would be made at each
 // read and opened at each use.
 ghost use Rattle.std.specs.Prelude.{◌≡◌, Bool, ℕ, ◌<◌, ◌≤◌, ◌+◌, ◌-◌, length};
@@ -32,10 +32,37 @@ fn search_two(scratch: &[u8], here: u64, last: u64, j: u32, size: u32) -> Option
     requires { (j < 3) × (size ≤ 64) × (scratch_bytes ≤ length scratch.now) }
     ensures { (two : ℕ → ℕ → ℕ → ℕ → Bool) (F : ℕ → ℕ → Bool) → Twos size (j + 2) two (words scratch.now) → here ≡ mask_of size (F j) → last ≡ mask_of size (F (j + 1)) → found_from j 2 result ≡ search_by size two 2 j F }
 {
+    if here == 0 {
+        return None;
+    }
     for x in 0..size {
         if sets::has(here, x as u64) {
             let rest = sets::both(last, fitting::row(scratch, j, j + 1, x));
+            if rest == 0 {
+                continue;
+            }
             if let Some(mut found) = search_one(rest, j + 1) {
+                found[j as usize] = x;
+                return Some(found);
+            }
+        }
+    }
+    None
+}
+
+// The last three, at places j, j + 1 and j + 2, of the sets `here`, `next` and `last`.
+fn search_three(scratch: &[u8], here: u64, next: u64, last: u64, j: u32, size: u32) -> Option<[u32; 4]>
+    requires { (j < 2) × (size ≤ 64) × (scratch_bytes ≤ length scratch.now) }
+    ensures { (two : ℕ → ℕ → ℕ → ℕ → Bool) (F : ℕ → ℕ → Bool) → Twos size (j + 3) two (words scratch.now) → here ≡ mask_of size (F j) → next ≡ mask_of size (F (j + 1)) → last ≡ mask_of size (F (j + 2)) → found_from j 3 result ≡ search_by size two 3 j F }
+{
+    if here == 0 {
+        return None;
+    }
+    for x in 0..size {
+        if sets::has(here, x as u64) {
+            let second = sets::both(next, fitting::row(scratch, j, j + 1, x));
+            let third = sets::both(last, fitting::row(scratch, j, j + 2, x));
+            if let Some(mut found) = search_two(scratch, second, third, j + 1, size) {
                 found[j as usize] = x;
                 return Some(found);
             }
@@ -62,11 +89,17 @@ fn search_from(scratch: &[u8], fits: [u64; 4], j: u32, end: u32, size: u32) -> O
     ensures { (two : ℕ → ℕ → ℕ → ℕ → Bool) (F : ℕ → ℕ → Bool) → Twos size end two (words scratch.now) → Fits size j end F fits → found_from j (end - j) result ≡ search_by size two (end - j) j F }
 {
     let here = fits[j as usize];
+    if here == 0 {
+        return None;
+    }
     if j + 1 == end {
         return search_one(here, j);
     }
     if j + 2 == end {
         return search_two(scratch, here, fits[(j + 1) as usize], j, size);
+    }
+    if j + 3 == end {
+        return search_three(scratch, here, fits[(j + 1) as usize], fits[(j + 2) as usize], j, size);
     }
     for x in 0..size {
         if sets::has(here, x as u64) {

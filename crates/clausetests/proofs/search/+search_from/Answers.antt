@@ -1,9 +1,15 @@
 use Rattle.std.proofs.Common.{◌≡◌, suc, ◌+◌, ◌-◌, ◌<◌, length, take, drop, true, sym, ap, ◌∙◌, arith, rules}
 use Rattle.std.proofs.Math.Option.{some}
 use Rattle.clausetests.specs.Search.{narrowed, search_by}
-use Rattle.clausetests.proofs.SearchLaws.{found_more, scan_start, scan_past, scan_on, scan_found, scan_out}
+use Rattle.clausetests.proofs.SearchLaws.{none_fits, found_more, scan_start, scan_past, scan_on, scan_found, scan_out}
 use Rattle.clausetests.proofs.search.+search_from.Goals as goal
 use Rattle.clausetests.proofs.search.+search_from.Goals.{then-has+in_default, else-has}
+
+pub returns-then-here-eq0 : goal.returns-then-here-eq0
+returns-then-here-eq0 t c =
+    let a = c.args in
+    let more : a.end - a.j ≡ suc (a.end - suc a.j) = omega arith in
+    λ two F T S. rw more (none_fits a.size two (a.end - suc a.j) a.j F _ (S a.j (omega arith) c.requires.0) c.if-here-eq0.true)
 
 pub loop-x-init : goal.loop-x-init
 loop-x-init t c = let a = c.args in λ two F T S. scan_start a.size two (a.end - suc a.j) a.j F

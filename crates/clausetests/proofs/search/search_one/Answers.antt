@@ -1,9 +1,9 @@
 use Rattle.std.proofs.Common.{[], ◌∷◌, ◌∙◌}
-use Rattle.clausetests.proofs.SearchLaws.{last_none, last_some, found_one}
+use Rattle.clausetests.proofs.SearchLaws.{none_fits, last_some, found_one}
 use Rattle.clausetests.proofs.search.search_one.Goals as goal
 
 pub returns-then-m-eq0 : goal.returns-then-m-eq0
-returns-then-m-eq0 c = λ n two F h e. last_none n two c.args.j F c.args.m e c.if-m-eq0.true
+returns-then-m-eq0 c = λ n two F h e. none_fits n two 0 c.args.j F c.args.m e c.if-m-eq0.true
 
 pub returns : goal.returns
 returns c = λ n two F h e.
