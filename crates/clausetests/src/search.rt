@@ -51,7 +51,14 @@ fn search_two(scratch: &[u8], here: u64, last: u64, j: u32, size: u32) -> Option
 }
 
 // The last three, at places j, j + 1 and j + 2, of the sets `here`, `next` and `last`.
-fn search_three(scratch: &[u8], here: u64, next: u64, last: u64, j: u32, size: u32) -> Option<[u32; 4]>
+fn search_three(
+    scratch: &[u8],
+    here: u64,
+    next: u64,
+    last: u64,
+    j: u32,
+    size: u32,
+) -> Option<[u32; 4]>
     requires { (j < 2) × (size ≤ 64) × (scratch_bytes ≤ length scratch.now) }
     ensures { (two : ℕ → ℕ → ℕ → ℕ → Bool) (F : ℕ → ℕ → Bool) → Twos size (j + 3) two (words scratch.now) → here ≡ mask_of size (F j) → next ≡ mask_of size (F (j + 1)) → last ≡ mask_of size (F (j + 2)) → found_from j 3 result ≡ search_by size two 3 j F }
 {
@@ -99,7 +106,14 @@ fn search_from(scratch: &[u8], fits: [u64; 4], j: u32, end: u32, size: u32) -> O
         return search_two(scratch, here, fits[(j + 1) as usize], j, size);
     }
     if j + 3 == end {
-        return search_three(scratch, here, fits[(j + 1) as usize], fits[(j + 2) as usize], j, size);
+        return search_three(
+            scratch,
+            here,
+            fits[(j + 1) as usize],
+            fits[(j + 2) as usize],
+            j,
+            size,
+        );
     }
     for x in 0..size {
         if sets::has(here, x as u64) {
